@@ -1,0 +1,4 @@
+pub mod Name
+pub mod Status
+pub mod Refusal
+pub mod Conditions

@@ -1,0 +1,5 @@
+pub mod Journal
+pub mod Calls
+pub mod Going
+pub mod Parts
+pub mod Stops
