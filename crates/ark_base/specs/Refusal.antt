@@ -1,4 +1,4 @@
--- The number and the words of each refusal.
+-- The number of each refusal, and its words as a reply prints them, the number first.
 use Rattle.std.specs.Prelude.{ℕ, List, ◌++◌, codes, decimal}
 use Rattle.ark_base.specs.declared.refusal.Refusal.{Refusal}
 use Rattle.ark_base.specs.declared.refusal.Refusal.TheVariants as r
@@ -30,27 +30,27 @@ number_of (r.Damaged entry) = 23
 number_of r.TooLong = 24
 
 abbrev pub words_of : Refusal → List ℕ
-words_of r.Syntax = codes "syntax"
-words_of r.UnknownWord = codes "unknown word"
-words_of r.NoApplication = codes "no application"
-words_of r.NameTaken = codes "name taken"
-words_of (r.NoGrant label) = codes "no grant " ++ label
-words_of r.WrongKind = codes "wrong kind"
-words_of r.Limit = codes "limit"
-words_of r.NoNic = codes "no nic"
-words_of r.OutOfRange = codes "out of range"
-words_of r.NoSpace = codes "no space"
-words_of r.Scattered = codes "scattered"
-words_of (r.Overlap app label) = codes "overlap " ++ (app ++ (codes " " ++ label))
-words_of r.RingFull = codes "ring full"
-words_of r.NoBuffer = codes "no buffer"
-words_of r.Lent = codes "lent"
-words_of r.Busy = codes "busy"
-words_of r.LogFailed = codes "log failed"
-words_of r.LogFull = codes "log full"
-words_of r.NoEntry = codes "no entry"
-words_of r.NoMemory = codes "no memory"
-words_of r.DeviceFault = codes "device fault"
-words_of r.TableFailed = codes "table failed"
-words_of (r.Damaged entry) = codes "damaged " ++ decimal entry
-words_of r.TooLong = codes "too long"
+words_of r.Syntax = codes "1 syntax"
+words_of r.UnknownWord = codes "2 unknown word"
+words_of r.NoApplication = codes "3 no application"
+words_of r.NameTaken = codes "4 name taken"
+words_of (r.NoGrant label) = codes "5 no grant " ++ label
+words_of r.WrongKind = codes "6 wrong kind"
+words_of r.Limit = codes "7 limit"
+words_of r.NoNic = codes "8 no nic"
+words_of r.OutOfRange = codes "9 out of range"
+words_of r.NoSpace = codes "10 no space"
+words_of r.Scattered = codes "11 scattered"
+words_of (r.Overlap app label) = codes "12 overlap " ++ (app ++ (codes " " ++ label))
+words_of r.RingFull = codes "13 ring full"
+words_of r.NoBuffer = codes "14 no buffer"
+words_of r.Lent = codes "15 lent"
+words_of r.Busy = codes "16 busy"
+words_of r.LogFailed = codes "17 log failed"
+words_of r.LogFull = codes "18 log full"
+words_of r.NoEntry = codes "19 no entry"
+words_of r.NoMemory = codes "20 no memory"
+words_of r.DeviceFault = codes "21 device fault"
+words_of r.TableFailed = codes "22 table failed"
+words_of (r.Damaged entry) = codes "23 damaged " ++ decimal entry
+words_of r.TooLong = codes "24 too long"

@@ -1,0 +1,73 @@
+-- The lines of a script, and what each of them means.
+use Rattle.std.specs.Prelude.{◌≡◌, ◌⊎◌, ℕ, ◌<◌, ◌≤◌, true, List, [], ◌∷◌, ◌++◌, length, codes, if◌then◌else◌, nat_eq, Option, Some, None, Result, Ok, Err}
+use Rattle.ark_base.specs.Name.{is_name}
+use Rattle.ark_base.specs.declared.refusal.Refusal.{Refusal}
+use Rattle.ark_base.specs.declared.refusal.Refusal.TheVariants.{Syntax, UnknownWord, TooLong}
+use Rattle.ark_script.specs.declared.step.Step.{Step}
+use Rattle.ark_script.specs.declared.step.Step.TheVariants as step
+
+-- What a line asks for: its word and its arguments, as plain data.
+pub data Line : Type 0 where
+  -- the application, and the frames of its memory where they are given
+  app : List ℕ → Option ℕ → Line
+
+-- a step of the program as plain data
+abbrev pub line_of : Step → Line
+line_of (step.App a frames) = app a frames
+
+-- a byte before the lines of the rest: it begins the first of them
+abbrev pub begin_first : ℕ → List (List ℕ) → List (List ℕ)
+begin_first b [] = (b ∷ []) ∷ []
+begin_first b (line ∷ lines) = (b ∷ line) ∷ lines
+
+-- a newline ends a line; bytes after the last newline are a last line
+abbrev pub lines_of : List ℕ → List (List ℕ)
+lines_of [] = []
+lines_of (b ∷ bs) = if nat_eq b 10 then [] ∷ lines_of bs else begin_first b (lines_of bs)
+
+-- lines one after another, each with its newline
+abbrev pub ended : List (List ℕ) → List ℕ
+ended [] = []
+ended (line ∷ lines) = line ++ 10 ∷ ended lines
+
+-- a longer line is not read
+abbrev pub max_line : ℕ
+max_line = 66000
+
+-- the bytes up to the first space, or all of them, are this word
+abbrev pub HasWord : List ℕ → List ℕ → Type 0
+HasWord word line = (line ≡ word) ⊎ ((rest : List ℕ) × (line ≡ word ++ 32 ∷ rest))
+
+-- the line begins with a word of the language
+abbrev pub IsKnown : List ℕ → Type 0
+IsKnown line = HasWord (codes "app") line
+
+-- The line is of this form: words with one space between them. A number of frames is not read yet.
+abbrev pub IsForm : Line → List ℕ → Type 0
+IsForm (app a None) line = (is_name a ≡ true) × (line ≡ codes "app" ++ 32 ∷ a)
+IsForm (app a (Some frames)) line = ⊥
+
+-- what a line means: what it asks for, or why it is refused at sight
+abbrev pub Meaning : Type 0
+Meaning = Result Line Refusal
+
+-- The line means this. A refusal at sight comes in the order 24, 2, 1.
+abbrev pub Says : List ℕ → Meaning → Type 0
+Says line (Ok asked) = (length line ≤ max_line) × IsForm asked line
+Says line (Err TooLong) = max_line < length line
+Says line (Err UnknownWord) = (length line ≤ max_line) × (IsKnown line → ⊥)
+Says line (Err Syntax) = (length line ≤ max_line) × IsKnown line × ((asked : Line) → IsForm asked line → ⊥)
+Says line (Err _) = ⊥
+
+-- each of the lines has its meaning
+abbrev pub EachSays : List (List ℕ) → List Meaning → Type 0
+EachSays [] [] = Unit {0}
+EachSays [] (m ∷ ms) = ⊥
+EachSays (line ∷ lines) [] = ⊥
+EachSays (line ∷ lines) (m ∷ ms) = Says line m × EachSays lines ms
+
+-- these are the meanings of the first lines
+abbrev pub FirstSay : List (List ℕ) → List Meaning → Type 0
+FirstSay lines [] = Unit {0}
+FirstSay [] (m ∷ ms) = ⊥
+FirstSay (line ∷ lines) (m ∷ ms) = Says line m × FirstSay lines ms
