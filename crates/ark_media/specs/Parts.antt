@@ -35,3 +35,23 @@ with_front e p = if ends_reply e then record { whole = (e ∷ []) ∷ p.whole; u
 abbrev pub parts : List Event → Parts
 parts [] = record { whole = []; unfinished = [] }
 parts (e ∷ es) = with_front e (parts es)
+
+-- no event of it ends a reply
+abbrev pub IsUnfinished : List Event → Type 0
+IsUnfinished [] = Unit {0}
+IsUnfinished (e ∷ es) = (ends_reply e ≡ false) × IsUnfinished es
+
+-- its last event, and no other, ends a reply
+abbrev pub IsWhole : List Event → Type 0
+IsWhole [] = ⊥
+IsWhole (e ∷ []) = ends_reply e ≡ true
+IsWhole (e ∷ f ∷ es) = (ends_reply e ≡ false) × IsWhole (f ∷ es)
+
+abbrev pub EachIsWhole : List (List Event) → Type 0
+EachIsWhole [] = Unit {0}
+EachIsWhole (part ∷ parts) = IsWhole part × EachIsWhole parts
+
+-- parts one after another
+abbrev pub joined : List (List Event) → List Event
+joined [] = []
+joined (part ∷ parts) = part ++ joined parts

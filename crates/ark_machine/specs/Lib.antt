@@ -1,0 +1,9 @@
+pub mod Machine
+pub mod Row
+pub mod Control
+pub mod Plane
+pub mod Step
+pub mod System
+pub mod Follow
+pub mod Replies
+pub mod Confined
