@@ -1,8 +1,9 @@
 -- The lines of a script, and what each of them means.
-use Rattle.std.specs.Prelude.{◌≡◌, ◌⊎◌, ℕ, ◌<◌, ◌≤◌, true, List, [], ◌∷◌, ◌++◌, length, codes, if◌then◌else◌, nat_eq, Option, Some, None, Result, Ok, Err}
+use Rattle.std.specs.Prelude.{◌≡◌, ◌⊎◌, ℕ, ◌+◌, ◌<◌, ◌≤◌, true, List, [], ◌∷◌, ◌++◌, length, codes, if◌then◌else◌, nat_eq, Option, Some, None, Result, Ok, Err}
 use Rattle.ark_base.specs.Name.{is_name}
 use Rattle.ark_base.specs.declared.refusal.Refusal.{Refusal}
 use Rattle.ark_base.specs.declared.refusal.Refusal.TheVariants.{Syntax, UnknownWord, TooLong}
+use Rattle.ark_script.specs.Text.{no_newline}
 use Rattle.ark_script.specs.declared.step.Step.{Step}
 use Rattle.ark_script.specs.declared.step.Step.TheVariants as step
 
@@ -29,6 +30,16 @@ lines_of (b ∷ bs) = if nat_eq b 10 then [] ∷ lines_of bs else begin_first b 
 abbrev pub ended : List (List ℕ) → List ℕ
 ended [] = []
 ended (line ∷ lines) = line ++ 10 ∷ ended lines
+
+-- no line has a newline in it
+abbrev pub EachClean : List (List ℕ) → Type 0
+EachClean [] = Unit {0}
+EachClean (line ∷ lines) = (no_newline line ≡ true) × EachClean lines
+
+-- how many newlines there are
+abbrev pub newlines : List ℕ → ℕ
+newlines [] = 0
+newlines (b ∷ bs) = if nat_eq b 10 then newlines bs + 1 else newlines bs
 
 -- a longer line is not read
 abbrev pub max_line : ℕ
