@@ -1,0 +1,148 @@
+ghost use Rattle.std.specs.Prelude.{◌≡◌, ◌≤◌, ◌∷◌, ◌++◌, ℕ, [], List, length, is_ok, OnErr, IfOk, IfErr, ◌<◌, ◌⊎◌};
+ghost use Rattle.ark_media.specs.Journal.{Event};
+ghost use Rattle.ark_media.specs.Calls.{Rose, GoesBy};
+ghost use Rattle.ark_script.specs.Text.{IsSaid};
+ghost use Rattle.ark_machine.specs.System.{System};
+ghost use Rattle.ark_host.specs.Stands.{Stands};
+ghost use Rattle.ark_cli.specs.Line.{kept};
+ghost use Rattle.ark_cli.specs.Session.{Acts, ServesLine, AnswersLine, Fed, Feeds, Finishes, Turns, Ran, is_done, IsScriptEnd};
+
+use crate::line::LineBuffer;
+use ark_base::{Refusal, Status};
+use ark_host::Host;
+use ark_media::{Disk, Outside, SinkFailed};
+use ark_script::{MAX_LINE, Said, TEXT_ROOM, print, read_line};
+
+// Reads one line, of which too long a one is told by its kept bytes, and makes its step.
+fn serve_line<D: Disk>(host: &mut Host, line: &[u8], disk: &mut D) -> Said
+    ensures serves { GoesBy D.goes disk.old disk.new (λ es. (s : System) (whole : List ℕ) → Stands host.old (D.told disk.old) s → line.now ≡ kept whole →
+        ServesLine s whole es host.new (D.told disk.new) result) }
+    ensures said { IsSaid result }
+{
+    if line.len() > MAX_LINE {
+        return Said::Refused(Refusal::TooLong);
+    }
+    match read_line(line) {
+        Ok(step) => host.step(disk, &step),
+        Err(refusal) => Said::Refused(refusal),
+    }
+}
+
+// Answers one line: serves it, and puts its reply.
+fn answer_line<W: Outside>(host: &mut Host, line: &[u8], world: &mut W) -> Result<(), SinkFailed>
+    ensures answers { Acts (W.told world.old) (W.told world.new) (W.beside world.old) (W.beside world.new) (λ part. (s : System) (whole : List ℕ) →
+        Stands host.old (W.told world.old) s → line.now ≡ kept whole → AnswersLine s whole part host.new (W.told world.new) (is_ok result)) }
+    ensures cause { OnErr result (Rose (W.beside world.old).sink_faults (W.beside world.new).sink_faults) }
+{
+    let said = serve_line(host, line, world);
+    let mut text = [0u8; TEXT_ROOM];
+    let len = print(&said, &mut text);
+    world.put(&text[..len])
+}
+
+// Takes one byte of the script, and answers the line that it ends.
+fn run_byte<W: Outside>(
+    host: &mut Host,
+    line: &mut LineBuffer,
+    b: u8,
+    world: &mut W,
+) -> Result<(), SinkFailed>
+    ensures feeds { Acts (W.told world.old) (W.told world.new) (W.beside world.old) (W.beside world.new) (λ more. (s : System) (fed : List ℕ) (added : List Event) →
+        Fed s fed added host.old (W.told world.old) line.old → Feeds s fed (b ∷ []) added more host.new (W.told world.new) line.new (is_ok result)) }
+    ensures cause { OnErr result (Rose (W.beside world.old).sink_faults (W.beside world.new).sink_faults) }
+{
+    if b != b'\n' {
+        line.push(b);
+        return Ok(());
+    }
+    let answered = answer_line(host, line.bytes(), world);
+    line.clear();
+    answered
+}
+
+// Takes bytes of the script.
+fn run_bytes<W: Outside>(
+    host: &mut Host,
+    line: &mut LineBuffer,
+    bytes: &[u8],
+    world: &mut W,
+) -> Result<(), SinkFailed>
+    ensures feeds { Acts (W.told world.old) (W.told world.new) (W.beside world.old) (W.beside world.new) (λ more. (s : System) (fed : List ℕ) (added : List Event) →
+        Fed s fed added host.old (W.told world.old) line.old → Feeds s fed bytes.now added more host.new (W.told world.new) line.new (is_ok result)) }
+    ensures cause { OnErr result (Rose (W.beside world.old).sink_faults (W.beside world.new).sink_faults) }
+{
+    for b in bytes {
+        run_byte(host, line, *b, world)?;
+    }
+    Ok(())
+}
+
+// The script is at its end: its last line may have no newline.
+fn finish<W: Outside>(host: &mut Host, line: &LineBuffer, world: &mut W) -> Result<(), SinkFailed>
+    ensures finishes { Acts (W.told world.old) (W.told world.new) (W.beside world.old) (W.beside world.new) (λ more. (s : System) (fed : List ℕ) (added : List Event) →
+        Fed s fed added host.old (W.told world.old) line.now → Finishes s fed added more (W.told world.new) (is_ok result)) }
+    ensures cause { OnErr result (Rose (W.beside world.old).sink_faults (W.beside world.new).sink_faults) }
+{
+    if line.bytes().is_empty() {
+        return Ok(());
+    }
+    answer_line(host, line.bytes(), world)
+}
+
+// No more than so many bytes of a script are run.
+const LIMIT: usize = 1_073_741_824;
+
+// Fetches bytes of the script and takes them. The answer is their number, or how the run ends.
+fn turn<W: Outside>(
+    host: &mut Host,
+    line: &mut LineBuffer,
+    chunk: &mut [u8],
+    world: &mut W,
+) -> Result<usize, Status>
+    requires { 0 < length chunk.old }
+    ensures turns { Turns (length chunk.old) (W.told world.old) (W.told world.new) (W.beside world.old) (W.beside world.new) host.old host.new line.old line.new result }
+    ensures bound { IfOk result (λ n. n ≤ length chunk.old) }
+    ensures cause { IfErr result (λ e. IsScriptEnd (W.beside world.old) (W.beside world.new) e) }
+{
+    match world.fetch(chunk) {
+        Err(_) => Err(Status::Source),
+        Ok(count) => match run_bytes(host, line, &chunk[..count], world) {
+            Ok(()) => Ok(count),
+            Err(_) => Err(Status::Sink),
+        },
+    }
+}
+
+// The script is at its end.
+fn end_script<W: Outside>(host: &mut Host, line: &LineBuffer, world: &mut W) -> Status
+    ensures finishes { Acts (W.told world.old) (W.told world.new) (W.beside world.old) (W.beside world.new) (λ more. (s : System) (fed : List ℕ) (added : List Event) →
+        Fed s fed added host.old (W.told world.old) line.now → Finishes s fed added more (W.told world.new) (is_done result)) }
+    ensures cause { (result ≡ Status.Done) ⊎ ((result ≡ Status.Sink) × Rose (W.beside world.old).sink_faults (W.beside world.new).sink_faults) }
+{
+    match finish(host, line, world) {
+        Ok(()) => Status::Done,
+        Err(_) => Status::Sink,
+    }
+}
+
+/// Runs the script to its end, or until the limit is passed, a fetch or a put fails.
+pub fn run_script<W: Outside>(host: &mut Host, line: &mut LineBuffer, world: &mut W) -> Status
+    ensures ran { Ran (W.told world.old) (W.told world.new) (W.beside world.old) (W.beside world.new) host.old line.old result }
+    ensures cause { IsScriptEnd (W.beside world.old) (W.beside world.new) result }
+{
+    let mut chunk = [0u8; 4096];
+    let mut count: usize = 0;
+    while count < LIMIT {
+        let room = (LIMIT - count).min(4096);
+        match turn(host, line, &mut chunk[..room], world) {
+            Err(status) => return status,
+            Ok(0) => return end_script(host, line, world),
+            Ok(more) => count += more,
+        }
+    }
+    match world.fetch(&mut chunk[..1]) {
+        Err(_) => Status::Source,
+        Ok(0) => end_script(host, line, world),
+        Ok(_) => Status::Long,
+    }
+}
