@@ -1,5 +1,5 @@
 -- The text of a reply.
-use Rattle.std.specs.Prelude.{◌≡◌, ℕ, Bool, true, false, List, [], ◌∷◌, ◌++◌, codes, decimal}
+use Rattle.std.specs.Prelude.{◌≡◌, ℕ, Bool, true, false, not, ◌&&◌, nat_eq, List, [], ◌∷◌, ◌++◌, codes, decimal}
 use Rattle.ark_base.specs.Name.{is_name}
 use Rattle.ark_base.specs.Refusal.{words_of}
 use Rattle.ark_base.specs.declared.refusal.Refusal.{Refusal}
@@ -32,3 +32,8 @@ IsNamed _ = Unit {0}
 abbrev pub IsSaid : Said → Type 0
 IsSaid (said.Refused refusal) = IsNamed refusal
 IsSaid _ = Unit {0}
+
+-- no byte is a newline
+abbrev pub no_newline : List ℕ → Bool
+no_newline [] = true
+no_newline (b ∷ bs) = not (nat_eq b 10) && no_newline bs
