@@ -4,7 +4,7 @@ use Rattle.ark_base.specs.Conditions.{Conditions, none, first}
 use Rattle.ark_base.specs.Refusal.{number_of}
 
 -- every condition holds
-all : Conditions
+abbrev all : Conditions
 all = record {
   too_long = true;
   unknown_word = true;
@@ -33,7 +33,7 @@ all = record {
 }
 
 -- one condition after another, each taken back in turn
-removals : List (Conditions → Conditions)
+abbrev removals : List (Conditions → Conditions)
 removals = (λ c. record c { too_long = false })
     ∷ (λ c. record c { unknown_word = false })
     ∷ (λ c. record c { syntax_fault = false })
@@ -61,17 +61,16 @@ removals = (λ c. record c { too_long = false })
     ∷ []
 
 -- the conditions before the first removal, and after each
-after_each : List (Conditions → Conditions) → Conditions → List Conditions
+abbrev after_each : List (Conditions → Conditions) → Conditions → List Conditions
 after_each [] c = c ∷ []
 after_each (remove ∷ removes) c = c ∷ after_each removes (remove c)
 
 -- the number of the refusal of a line that meets these conditions
-number_at : Conditions → Option ℕ
+abbrev number_at : Conditions → Option ℕ
 number_at c = option_map number_of (first c)
 
 pub order : map number_at (after_each removals all)
     ≡ Some 24 ∷ Some 2 ∷ Some 1 ∷ Some 3 ∷ Some 4 ∷ Some 5 ∷ Some 6 ∷ Some 7 ∷ Some 8 ∷ Some 9 ∷ Some 22 ∷ Some 17
     ∷ Some 16 ∷ Some 15 ∷ Some 13 ∷ Some 18 ∷ Some 19 ∷ Some 14 ∷ Some 10 ∷ Some 11 ∷ Some 12 ∷ Some 20 ∷ Some 21
     ∷ Some 23 ∷ None ∷ []
-unfolding all removals after_each number_at
 order = refl
