@@ -1,0 +1,4 @@
+//! The words of a command.
+#![tactic(auto)]
+
+mod words;
