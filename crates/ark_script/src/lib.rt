@@ -1,8 +1,12 @@
 //! Lines of a script and the replies to them: what a line asks for, and how a reply is spelled.
 #![tactic(auto)]
 
+mod printing;
+mod reading;
 mod said;
 mod step;
 
+pub use printing::{TEXT_ROOM, print};
+pub use reading::{MAX_LINE, read_line};
 pub use said::Said;
 pub use step::Step;
