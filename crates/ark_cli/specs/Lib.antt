@@ -1,5 +1,3 @@
 pub mod Words
 pub mod Line
 pub mod Session
-pub mod Opening
-pub mod Ending

@@ -134,13 +134,17 @@ pub record Ran (told0 told1 : Told) (beside0 beside1 : Beside) (host0 : Host) (l
   pub long : status ≡ Long → length script ≡ limit + 1
   pub short : (status ≡ Long → ⊥) → length script ≤ limit
 
+-- why the fetching and feeding of a script fails
+abbrev pub IsFault : Beside → Beside → Status → Type 0
+IsFault before now Source = Rose before.source_faults now.source_faults
+IsFault before now Sink = Rose before.sink_faults now.sink_faults
+IsFault before now _ = ⊥
+
 -- the only ways in which the run of a script ends, and why
 abbrev pub IsScriptEnd : Beside → Beside → Status → Type 0
 IsScriptEnd before now Done = Unit {0}
 IsScriptEnd before now Long = Unit {0}
-IsScriptEnd before now Source = Rose before.source_faults now.source_faults
-IsScriptEnd before now Sink = Rose before.sink_faults now.sink_faults
-IsScriptEnd before now _ = ⊥
+IsScriptEnd before now status = IsFault before now status
 
 abbrev pub is_done : Status → Bool
 is_done Done = true

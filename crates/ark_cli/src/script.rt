@@ -5,7 +5,7 @@ ghost use Rattle.ark_script.specs.Text.{IsSaid};
 ghost use Rattle.ark_machine.specs.System.{System};
 ghost use Rattle.ark_host.specs.Stands.{Stands};
 ghost use Rattle.ark_cli.specs.Line.{kept};
-ghost use Rattle.ark_cli.specs.Session.{Acts, ServesLine, AnswersLine, Fed, Feeds, Finishes, Turns, Ran, is_done, IsScriptEnd};
+ghost use Rattle.ark_cli.specs.Session.{Acts, ServesLine, AnswersLine, Fed, Feeds, Finishes, Turns, Ran, is_done, IsFault, IsScriptEnd};
 
 use crate::line::LineBuffer;
 use ark_base::{Refusal, Status};
@@ -102,7 +102,7 @@ fn turn<W: Outside>(
     requires { 0 < length chunk.old }
     ensures turns { Turns (length chunk.old) (W.told world.old) (W.told world.new) (W.beside world.old) (W.beside world.new) host.old host.new line.old line.new result }
     ensures bound { IfOk result (λ n. n ≤ length chunk.old) }
-    ensures cause { IfErr result (λ e. IsScriptEnd (W.beside world.old) (W.beside world.new) e) }
+    ensures cause { IfErr result (λ e. IsFault (W.beside world.old) (W.beside world.new) e) }
 {
     match world.fetch(chunk) {
         Err(_) => Err(Status::Source),

@@ -131,3 +131,19 @@ app_step (step_of.App a frames) = (a, frames, refl)
 -- what the disk told stays, but for output: the host stands for the same system
 pub stands_rests : (host : Host) (t0 t1 : Told) (es : List Event) (s : System) → Rests es t0 t1 → device_events es ≡ [] → Stands host t0 s → Stands host t1 s
 stands_rests host t0 t1 es s rests silent st = record { size = st.size ∙ sym rests.blocks; apps = st.apps; slots = st.slots; made = st.made }
+
+-- what a line means that is refused at sight is no want of memory
+sight_wants : (line : List ℕ) (e : Refusal) → Says line (Err e) → wants_memory (said.Refused e) ≡ false
+sight_wants line r.NoMemory h = absurd h
+sight_wants line _ h = refl
+
+-- a line that is refused at sight
+pub refused_at_sight : (host : Host) (told : Told) (s : System) (line : List ℕ) (e : Refusal) → Says line (Err e) → Stands host told s → Answered host told s (Err e) [] (said.Refused e) []
+refused_at_sight host told s line e says st = record {
+  said = refl;
+  bytes = λ h told. refl;
+  calls = refl;
+  none = λ want. refl;
+  memory = rw (sight_wants line e says) tt;
+  stands = st;
+}
