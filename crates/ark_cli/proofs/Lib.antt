@@ -5,3 +5,6 @@ pub mod Serving
 pub mod Answering
 pub mod Feeding
 pub mod Turning
+pub mod Opened
+pub mod Running
+pub mod Closing

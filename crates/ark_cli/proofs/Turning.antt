@@ -94,7 +94,7 @@ fault_is before now (Damaged block) h = absurd h
 fault_is before now Long h = absurd h
 
 -- nothing is left of the script after calls that take none of it
-still_at_end : (a b : Option Script) → IsAtEnd a → Takes a b [] → IsAtEnd b
+pub still_at_end : (a b : Option Script) → IsAtEnd a → Takes a b [] → IsAtEnd b
 still_at_end a b end t = record { none = λ x is. let was = t.told x is in sym was.3 ∙ end.none was.0 was.1 }
 
 module _ (t0 tm t1 : Told) (b0 bm b1 : Beside) (host0 host : Host) (line0 line : List ℕ) (count : ℕ) (g : Going t0 tm b0 bm host0 host line0 line count) where

@@ -1,3 +1,5 @@
 pub mod Words
 pub mod Line
 pub mod Session
+pub mod Opening
+pub mod Ending

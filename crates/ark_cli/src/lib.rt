@@ -1,6 +1,10 @@
 //! The command line of the control plane: all that the program does, over an outside.
 #![tactic(auto)]
 
+mod command;
 mod line;
+mod opening;
 mod script;
 mod words;
+
+pub use command::arrakis;

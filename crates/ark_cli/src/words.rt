@@ -7,6 +7,7 @@ const FEWEST: u32 = 130;
 const MOST: u32 = 1_048_576;
 
 /// `run --new N DEVICE`: the blocks of the device that is to be made, and its name.
+#[derive(Clone, Copy, Debug)]
 pub struct NewRun<'a> {
     pub blocks: u32,
     pub device: &'a str,

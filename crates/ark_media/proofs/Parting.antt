@@ -47,3 +47,14 @@ devices_unfinished es h = subst (λ (x : List Event). IsUnfinished x) h (none es
     none (Read n ok ∷ xs) = (refl, none xs)
     none (Write n content took ok ∷ xs) = (refl, none xs)
     none (Sync ok ∷ xs) = (refl, none xs)
+
+front_more : (e : Event) (w : List (List Event)) (u : List Event) (last : Event) (t : Bool) → ends_reply e ≡ t →
+    with_front e (record { whole = w; unfinished = u ++ last ∷ [] }) ≡ record { whole = (with_front e (record { whole = w; unfinished = u })).whole; unfinished = (with_front e (record { whole = w; unfinished = u })).unfinished ++ last ∷ [] }
+front_more e w u last true is = rw is refl
+front_more e [] u last false is = rw is refl
+front_more e (p ∷ w) u last false is = rw is refl
+
+-- an event that ends no reply goes to what is unfinished
+pub parts-more : (es : List Event) (last : Event) → ends_reply last ≡ false → parts (es ++ last ∷ []) ≡ record { whole = (parts es).whole; unfinished = (parts es).unfinished ++ last ∷ [] }
+parts-more [] last h = rw h refl
+parts-more (e ∷ es) last h = ap (with_front e) (parts-more es last h) ∙ front_more e (parts es).whole (parts es).unfinished last (ends_reply e) refl

@@ -1,0 +1,99 @@
+ghost use Rattle.std.specs.Prelude.{◌≡◌, ◌≤◌, ◌↔◌, ◌⊎◌, ℕ, List, [], map, string_bytes};
+ghost use Rattle.ark_media.specs.Journal.{Event};
+ghost use Rattle.ark_media.specs.Calls.{Told, Goes, Rose};
+ghost use Rattle.ark_machine.specs.System.{fresh_system};
+ghost use Rattle.ark_host.specs.Stands.{Stands};
+ghost use Rattle.ark_cli.specs.Words.{IsRun};
+ghost use Rattle.ark_cli.specs.Ending.{RunsNew, Commands, Closes, Does, IsCause, IsUndamaged};
+
+use crate::line::LineBuffer;
+use crate::opening::open_new;
+use crate::script::run_script;
+use crate::words::read_words;
+use ark_base::Status;
+use ark_host::Host;
+use ark_media::Outside;
+use std::alloc::Global;
+
+// Opens the device and runs the script on it.
+fn run_with<W: Outside>(
+    blocks: u32,
+    device: &str,
+    host: &mut Host,
+    line: &mut LineBuffer,
+    world: &mut W,
+) -> Status
+    requires low { 130 ≤ blocks }
+    requires high { blocks ≤ 1048576 }
+    requires host { (told : Told) → Stands host.old told (fresh_system told.blocks) }
+    requires line { line.old ≡ [] }
+    ensures runs { RunsNew blocks (W.told world.old) (W.told world.new) (W.beside world.old) (W.beside world.new) result }
+    ensures cause { IsCause (W.told world.old) (W.told world.new) (W.beside world.old) (W.beside world.new) result }
+{
+    match open_new(blocks, device, world) {
+        Err(status) => status,
+        Ok(()) => run_script(host, line, world),
+    }
+}
+
+// Runs the script on a new device.
+fn run_new<W: Outside>(alloc: Global, blocks: u32, device: &str, world: &mut W) -> Status
+    requires low { 130 ≤ blocks }
+    requires high { blocks ≤ 1048576 }
+    ensures runs { RunsNew blocks (W.told world.old) (W.told world.new) (W.beside world.old) (W.beside world.new) result }
+    ensures cause { IsCause (W.told world.old) (W.told world.new) (W.beside world.old) (W.beside world.new) result }
+{
+    let Ok(mut line) = LineBuffer::new(alloc) else {
+        return Status::Memory;
+    };
+    let mut host = Host::new(alloc);
+    run_with(blocks, device, &mut host, &mut line, world)
+}
+
+// What the words ask for, up to the closing line.
+fn command<W: Outside>(alloc: Global, words: &[String], world: &mut W) -> Status
+    ensures runs { Commands (map string_bytes words.now) (W.told world.old) (W.told world.new) (W.beside world.old) (W.beside world.new) result }
+    ensures cause { IsCause (W.told world.old) (W.told world.new) (W.beside world.old) (W.beside world.new) result }
+{
+    match read_words(words) {
+        None => Status::Usage,
+        Some(run) => run_new(alloc, run.blocks, run.device, world),
+    }
+}
+
+// Puts the closing line of a status that has one. Where this fails, the status stays.
+fn close<W: Outside>(status: Status, world: &mut W)
+    requires { IsUndamaged status }
+    ensures closes { (closing : List Event) × Closes status closing × Goes closing [] (W.told world.old) (W.told world.new) (W.beside world.old) (W.beside world.new) }
+{
+    let line: &[u8] = match status {
+        Status::Done => return,
+        Status::Sink => return,
+        Status::Usage => b"fault usage\n",
+        Status::Source => b"fault source\n",
+        Status::Device => b"fault device\n",
+        Status::Memory => b"fault memory\n",
+        Status::Long => b"fault long\n",
+        Status::Damaged(_) => unreachable!(),
+    };
+    let _ = world.put(line);
+}
+
+/// Does all that the program does, for the words after its name: `run --new N DEVICE` makes a device of N blocks, formats
+/// it, and runs the script that is fetched, with one reply line for each line. It takes at most 2^30 + 1 bytes of the
+/// script. The answer is the status of the process.
+pub fn arrakis<W: Outside>(alloc: Global, words: &[String], world: &mut W) -> Status
+    // How it ends, and what the outside tells then: output, device events and script.
+    ensures does { Does (map string_bytes words.now) (W.told world.old) (W.told world.new) (W.beside world.old) (W.beside world.new) result }
+
+    // When each status comes; want of memory may come before a device is made.
+    ensures usage { (result ≡ Status.Usage) ↔ ((blocks : ℕ) (device : List ℕ) → IsRun (map string_bytes words.now) blocks device → ⊥) }
+    ensures source { result ≡ Status.Source → Rose (W.beside world.old).source_faults (W.beside world.new).source_faults }
+    ensures sink { result ≡ Status.Sink → Rose (W.beside world.old).sink_faults (W.beside world.new).sink_faults }
+    ensures device { result ≡ Status.Device → Rose (W.beside world.old).attach_faults (W.beside world.new).attach_faults ⊎ Rose (W.told world.old).faults (W.told world.new).faults }
+    ensures undamaged { (block : ℕ) → result ≡ Status.Damaged block → ⊥ }
+{
+    let status = command(alloc, words, world);
+    close(status, world);
+    status
+}
