@@ -4,6 +4,7 @@ ghost use Rattle.ark_cli.specs.Words.{IsRun};
 
 // A device has at least and at most so many blocks.
 const FEWEST: u32 = 130;
+
 const MOST: u32 = 1_048_576;
 
 /// `run --new N DEVICE`: the blocks of the device that is to be made, and its name.

@@ -13,5 +13,5 @@ returns-clause-run c =
     let high : c.in_ok-blocks.blocks ≤ 1048576 = search rules in
     let named : c.as_str-2.result.now ≡ [] → ⊥ = search rules in
     let words = four c.args.words.now c.run-item.result c.new-item.result c.count-item.result c.device-item.result
-        c.in-len4.len_at_least c.in-len4.len_below c.run-item.is c.new-item.is c.count-item.is c.device-item.is in
+    c.in-len4.len_at_least c.in-len4.len_below c.run-item.is c.new-item.is c.count-item.is c.device-item.is in
     is_run _ _ _ _ _ _ _ words run new count c.as_str-2.ensures.value low high named
