@@ -45,8 +45,11 @@ mod tests {
             return false;
         }
         match read_line(line) {
-            Ok(Step::App(name, None)) => name.bytes() == app,
-            _ => false,
+            Ok(step) => {
+                let Step::App(name, frames) = step;
+                frames.is_none() && name.bytes() == app
+            }
+            Err(_) => false,
         }
     }
 
