@@ -1,5 +1,5 @@
 -- The texts of replies: one line each, none a closing line, and the wish for memory read off the text.
-use Rattle.std.proofs.Common.{◌≡◌, ℕ, Bool, true, false, not, ◌&&◌, nat_eq, ◌/◌, ◌%◌, ◌==◌, suc, zero, List, [], ◌∷◌, ◌++◌, arith, refl, codes, decimal}
+use Rattle.std.proofs.Common.{◌≡◌, ℕ, true, false, not, nat_eq, ◌/◌, ◌%◌, ◌==◌, suc, zero, List, [], ◌∷◌, ◌++◌, arith, refl, codes, decimal}
 use Rattle.std.proofs.lemmas.Bool.{and_parts, cond_both}
 use Rattle.std.proofs.lemmas.Bool.Decides.{nat_tests}
 use Rattle.std.specs.Fmt.{digits, digits_onto, digit_glyph}
