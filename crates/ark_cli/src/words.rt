@@ -84,13 +84,27 @@ mod tests {
     #[test]
     fn reads_runs(rt: HostRuntime) -> Result<(), AllocError> {
         assert_eq!(rt; asked(rt.alloc(), &["run", "--new", "130", "disk"])?, 130);
-        assert_eq!(rt; asked(rt.alloc(), &["run", "--new", "1048576", "disk"])?, 1_048_576);
+        assert_eq!(rt;
+            asked(rt.alloc(), &["run", "--new", "1048576", "disk"])?,
+            1_048_576
+        );
         Ok(())
     }
 
     #[test]
     fn refuses_other_counts(rt: HostRuntime) -> Result<(), AllocError> {
-        for count in ["", "129", "1048577", "0130", "+130", "-130", " 130", "130 ", "4294967426", "0x82"] {
+        for count in [
+            "",
+            "129",
+            "1048577",
+            "0130",
+            "+130",
+            "-130",
+            " 130",
+            "130 ",
+            "4294967426",
+            "0x82",
+        ] {
             assert_eq!(rt; asked(rt.alloc(), &["run", "--new", count, "disk"])?, 0);
         }
         Ok(())
@@ -103,7 +117,10 @@ mod tests {
         assert_eq!(rt; asked(rt.alloc(), &["Run", "--new", "130", "disk"])?, 0);
         assert_eq!(rt; asked(rt.alloc(), &["run", "-new", "130", "disk"])?, 0);
         assert_eq!(rt; asked(rt.alloc(), &["run", "--new", "130", ""])?, 0);
-        assert_eq!(rt; asked(rt.alloc(), &["run", "--new", "130", "disk", "disk"])?, 0);
+        assert_eq!(rt;
+            asked(rt.alloc(), &["run", "--new", "130", "disk", "disk"])?,
+            0
+        );
         Ok(())
     }
 }
