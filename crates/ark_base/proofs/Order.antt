@@ -1,6 +1,6 @@
 -- The one order of refusals, evaluated: of all that hold, the first is named; without it the next, and so on.
 use Rattle.std.specs.Prelude.{◌≡◌, ℕ, true, false, List, [], ◌∷◌, map, Option, Some, None, option_map, refl}
-use Rattle.ark_base.specs.Conditions.{Conditions, none, first}
+use Rattle.ark_base.specs.Conditions.{Conditions, first}
 use Rattle.ark_base.specs.Refusal.{number_of}
 
 -- every condition holds

@@ -11,7 +11,7 @@ use Rattle.ark_script.specs.Text.{text, reply_words, no_newline, wants_memory, I
 use Rattle.ark_script.specs.declared.said.Said.{Said}
 use Rattle.ark_script.specs.declared.said.Said.TheVariants as said
 use Rattle.ark_script.proofs.Lining.{clean_head, clean_tail}
-use Rattle.ark_script.proofs.Clean.{words_clean, no_fault, no_mirror, wants_text}
+use Rattle.ark_script.proofs.Clean.{words_clean, text_ends, wants_text}
 use Rattle.ark_script.specs.Lines.{Meaning}
 use Rattle.ark_machine.specs.System.{System, Turn, turn}
 use Rattle.ark_machine.specs.Follow.{Performs, ends_of}
@@ -34,8 +34,10 @@ newline_none (b ∷ []) h = clean_head b [] h
 newline_none (b ∷ c ∷ bytes) h = newline_none (c ∷ bytes) (clean_tail b (c ∷ bytes) h)
 
 -- the text of a reply ends its part
-pub text_ends : (s : Said) (bytes : List ℕ) → ends_reply (Out (text s bytes)) ≡ true
-text_ends s bytes = rw (newline_last (reply_words s bytes), no_fault s bytes, no_mirror s bytes) refl
+pub reply_ends : (s : Said) (bytes : List ℕ) → ends_reply (Out (text s bytes)) ≡ true
+reply_ends s bytes =
+    let begins = text_ends s bytes in
+    rw (newline_last (reply_words s bytes), begins.0, begins.1) refl
 
 -- bytes without a newline do not
 pub clean_goes_on : (bytes : List ℕ) → no_newline bytes ≡ true → ends_reply (Out bytes) ≡ false
@@ -90,7 +92,7 @@ module _ (s : System) (whole : List ℕ) (es : List Event) (t0 t1 : Told) (host 
   answer_whole rests = record {
     meaning = served.meaning;
     says = served.says;
-    whole = whole_with es (Out (text reply [])) (devices_unfinished es devices) (text_ends reply []);
+    whole = whole_with es (Out (text reply [])) (devices_unfinished es devices) (reply_ends reply []);
     answers = λ h told. let before = told_before (Out (text reply []) ∷ []) t0.history t1.history rests.adds h told in record {
       output = output_of-put es (text reply []) silent
           ∙ ap (λ (x : Said). text x []) served.answered.said

@@ -1,5 +1,3 @@
-pub mod Counts
-pub mod Runs
 pub mod Kept
 pub mod Serving
 pub mod Answering

@@ -23,7 +23,7 @@ use Rattle.ark_cli.specs.Line.{limit, within_limit}
 use Rattle.ark_cli.specs.Session.{Replied, Stopped, Ended, Ran, IsFault, IsScriptEnd}
 use Rattle.ark_cli.specs.Opening.{SinceMake, IsOpening, BeginsFormat, IsReady, IsUnformatted, IsUnshown, OpensNot, IsUnmade}
 use Rattle.ark_cli.specs.Ending.{HasRun, Ends, IsOpen, RunsNew, IsCause}
-use Rattle.ark_cli.proofs.Answering.{text_ends}
+use Rattle.ark_cli.proofs.Answering.{reply_ends}
 use Rattle.ark_cli.proofs.Opened.{since_then}
 
 -- a part with the device's line behind the calls that formatted it
@@ -35,7 +35,7 @@ module _ (size : ℕ) (events : List Event) (calls : Makes (format_calls size) t
   devices = makes_devices (format_calls size) true events calls
 
   opening_whole : IsWhole opening
-  opening_whole = whole_with events (Out (text (Ready size 0) [])) (devices_unfinished events devices) (text_ends (Ready size 0) [])
+  opening_whole = whole_with events (Out (text (Ready size 0) [])) (devices_unfinished events devices) (reply_ends (Ready size 0) [])
 
   is_opening : IsOpening size opening
   is_opening = record {

@@ -4,6 +4,7 @@ ghost use Rattle.ark_cli.specs.Words.{IsRun};
 
 // A device has at least and at most so many blocks.
 const FEWEST: u32 = 130;
+
 const MOST: u32 = 1_048_576;
 
 /// `run --new N DEVICE`: the blocks of the device that is to be made, and its name.
@@ -61,4 +62,65 @@ fn begins_with_digit(bytes: &[u8]) -> bool
     ensures { IsTrue result ↔ IsInRange 49 57 (slice_index bytes.now 0) }
 {
     matches!(bytes.first(), Some(b'1'..=b'9'))
+}
+
+#[cfg(test)]
+mod tests {
+    use super::*;
+    use std::alloc::{AllocError, Global};
+
+    // The blocks of the device `disk` that the words ask for, or 0 where they ask for no run on it.
+    fn asked(alloc: Global, words: &[&str]) -> Result<u32, AllocError> {
+        let mut owned = Vec::new(alloc);
+        for word in words {
+            owned.push(String::from_str(alloc, word)?)?;
+        }
+        Ok(match read_words(&owned) {
+            Some(run) if run.device == "disk" => run.blocks,
+            _ => 0,
+        })
+    }
+
+    #[test]
+    fn reads_runs(rt: HostRuntime) -> Result<(), AllocError> {
+        assert_eq!(rt; asked(rt.alloc(), &["run", "--new", "130", "disk"])?, 130);
+        assert_eq!(rt;
+            asked(rt.alloc(), &["run", "--new", "1048576", "disk"])?,
+            1_048_576
+        );
+        Ok(())
+    }
+
+    #[test]
+    fn refuses_other_counts(rt: HostRuntime) -> Result<(), AllocError> {
+        for count in [
+            "",
+            "129",
+            "1048577",
+            "0130",
+            "+130",
+            "-130",
+            " 130",
+            "130 ",
+            "4294967426",
+            "0x82",
+        ] {
+            assert_eq!(rt; asked(rt.alloc(), &["run", "--new", count, "disk"])?, 0);
+        }
+        Ok(())
+    }
+
+    #[test]
+    fn refuses_other_words(rt: HostRuntime) -> Result<(), AllocError> {
+        assert_eq!(rt; asked(rt.alloc(), &[])?, 0);
+        assert_eq!(rt; asked(rt.alloc(), &["run", "130", "disk"])?, 0);
+        assert_eq!(rt; asked(rt.alloc(), &["Run", "--new", "130", "disk"])?, 0);
+        assert_eq!(rt; asked(rt.alloc(), &["run", "-new", "130", "disk"])?, 0);
+        assert_eq!(rt; asked(rt.alloc(), &["run", "--new", "130", ""])?, 0);
+        assert_eq!(rt;
+            asked(rt.alloc(), &["run", "--new", "130", "disk", "disk"])?,
+            0
+        );
+        Ok(())
+    }
 }

@@ -1,5 +1,5 @@
 -- The texts of replies: one line each, none a closing line, and the wish for memory read off the text.
-use Rattle.std.proofs.Common.{◌≡◌, ℕ, Bool, true, false, not, ◌&&◌, nat_eq, ◌/◌, ◌%◌, ◌==◌, suc, zero, List, [], ◌∷◌, ◌++◌, arith, refl, codes, decimal}
+use Rattle.std.proofs.Common.{◌≡◌, ℕ, true, false, not, nat_eq, ◌/◌, ◌%◌, ◌==◌, suc, zero, List, [], ◌∷◌, ◌++◌, arith, refl, codes, decimal}
 use Rattle.std.proofs.lemmas.Bool.{and_parts, cond_both}
 use Rattle.std.proofs.lemmas.Bool.Decides.{nat_tests}
 use Rattle.std.specs.Fmt.{digits, digits_onto, digit_glyph}
@@ -67,16 +67,11 @@ words_clean (said.Ready blocks slots) bytes h = clean-append (decimal blocks) (c
 words_clean said.Ok bytes h = refl
 words_clean (said.Refused refusal) bytes h = refusal_clean refusal h
 
--- no reply begins as a closing line does
-pub no_fault : (s : Said) (bytes : List ℕ) → starts_with nat_eq (text s bytes) (codes "fault") ≡ false
-no_fault (said.Ready blocks slots) bytes = refl
-no_fault said.Ok bytes = refl
-no_fault (said.Refused refusal) bytes = refl
-
-pub no_mirror : (s : Said) (bytes : List ℕ) → starts_with nat_eq (text s bytes) (codes "mirror") ≡ false
-no_mirror (said.Ready blocks slots) bytes = refl
-no_mirror said.Ok bytes = refl
-no_mirror (said.Refused refusal) bytes = refl
+-- no reply begins as a closing line does, nor as a mirror's line
+pub text_ends : (s : Said) (bytes : List ℕ) → (starts_with nat_eq (text s bytes) (codes "fault") ≡ false) × (starts_with nat_eq (text s bytes) (codes "mirror") ≡ false)
+text_ends (said.Ready blocks slots) bytes = (refl, refl)
+text_ends said.Ok bytes = (refl, refl)
+text_ends (said.Refused refusal) bytes = (refl, refl)
 
 -- the text tells whether memory was wanting
 pub wants_text : (s : Said) → bytes_eq (text s []) (text (said.Refused r.NoMemory) []) ≡ wants_memory s

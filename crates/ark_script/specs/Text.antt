@@ -28,7 +28,7 @@ IsNamed (r.NoGrant label) = is_name label ≡ true
 IsNamed (r.Overlap app label) = (is_name app ≡ true) × (is_name label ≡ true)
 IsNamed _ = Unit {0}
 
--- what a value of the type says beyond its fields: names are names, and numbers fit
+-- what every reply of the program is: the labels in it are names
 abbrev pub IsSaid : Said → Type 0
 IsSaid (said.Refused refusal) = IsNamed refusal
 IsSaid _ = Unit {0}

@@ -116,3 +116,58 @@ fn put(out: &mut [u8], at: usize, bytes: &[u8]) -> usize
     out[at..end].copy_from_slice(bytes);
     end
 }
+
+#[cfg(test)]
+mod tests {
+    use super::*;
+    use ark_base::Name;
+
+    // Whether this is the line of the reply.
+    fn prints(said: Said, line: &[u8]) -> bool {
+        let mut out = [0; TEXT_ROOM];
+        let len = print(&said, &mut out);
+        &out[..len] == line
+    }
+
+    #[test]
+    fn prints_what_is_accepted(rt: HostRuntime) {
+        assert!(rt; prints(Said::Ready(1_048_576, 128), b"ready 1048576 128\n"));
+        assert!(rt; prints(Said::Ready(130, 0), b"ready 130 0\n"));
+        assert!(rt; prints(Said::Ok, b"ok\n"));
+    }
+
+    #[test]
+    fn prints_refusals(rt: HostRuntime) {
+        for (refusal, line) in [
+            (Refusal::Syntax, b"refused 1 syntax\n".as_slice()),
+            (Refusal::OutOfRange, b"refused 9 out of range\n".as_slice()),
+            (Refusal::TooLong, b"refused 24 too long\n".as_slice()),
+            (
+                Refusal::Damaged(u64::MAX),
+                b"refused 23 damaged 18446744073709551615\n".as_slice(),
+            ),
+        ] {
+            assert!(rt; prints(Said::Refused(refusal), line));
+        }
+    }
+
+    #[test]
+    fn prints_names(rt: HostRuntime) {
+        let (Some(app), Some(label)) = (Name::read(b"echo"), Name::read(b"rx_0")) else {
+            assert!(rt; false);
+            return;
+        };
+        assert!(rt;
+            prints(
+                Said::Refused(Refusal::NoGrant(label)),
+                b"refused 5 no grant rx_0\n"
+            )
+        );
+        assert!(rt;
+            prints(
+                Said::Refused(Refusal::Overlap(app, label)),
+                b"refused 12 overlap echo rx_0\n"
+            )
+        );
+    }
+}

@@ -34,3 +34,72 @@ fn read_app(words: &[u8]) -> Result<Step, Refusal>
         None => Err(Refusal::Syntax),
     }
 }
+
+#[cfg(test)]
+mod tests {
+    use super::*;
+
+    // Whether the line makes an application of this name.
+    fn makes(line: &[u8], app: &[u8]) -> bool {
+        if line.len() > MAX_LINE {
+            return false;
+        }
+        match read_line(line) {
+            Ok(step) => {
+                let Step::App(name, frames) = step;
+                frames.is_none() && name.bytes() == app
+            }
+            Err(_) => false,
+        }
+    }
+
+    // The number of the refusal, or 0 where the line is read.
+    fn refused(line: &[u8]) -> u8 {
+        if line.len() > MAX_LINE {
+            return 0;
+        }
+        match read_line(line) {
+            Ok(_) => 0,
+            Err(refusal) => refusal.number(),
+        }
+    }
+
+    #[test]
+    fn reads_names(rt: HostRuntime) {
+        assert!(rt; makes(b"app a", b"a"));
+        assert!(rt; makes(b"app abcdefgh_012345", b"abcdefgh_012345"));
+    }
+
+    #[test]
+    fn refuses_wrong_forms(rt: HostRuntime) {
+        for line in [
+            b"app".as_slice(),
+            b"app ".as_slice(),
+            b"app A".as_slice(),
+            b"app  a".as_slice(),
+            b"app a 4".as_slice(),
+            b"app a\tb".as_slice(),
+            b"app a\r".as_slice(),
+            b"app \xC3\xA4".as_slice(),
+            b"app abcdefgh_0123456".as_slice(),
+        ] {
+            assert_eq!(rt; refused(line), 1);
+        }
+    }
+
+    #[test]
+    fn refuses_other_words(rt: HostRuntime) {
+        for line in [
+            b"".as_slice(),
+            b"apps a".as_slice(),
+            b"frob".as_slice(),
+            b" app a".as_slice(),
+            b"App a".as_slice(),
+            b"app\ta".as_slice(),
+            b"app\r".as_slice(),
+            b"\xFF".as_slice(),
+        ] {
+            assert_eq!(rt; refused(line), 2);
+        }
+    }
+}
