@@ -1,3 +1,4 @@
 pub mod Parting
 pub mod Composing
 pub mod Planning
+pub mod Stopping
