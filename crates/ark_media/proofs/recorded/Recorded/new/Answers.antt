@@ -1,0 +1,18 @@
+use Rattle.std.proofs.Common.{◌≡◌, ◌≤◌, ◌<◌, ◌+◌, ◌*◌, ◌/◌, ◌%◌, ◌^◌, ◌++◌, ◌∷◌, [], List, ℕ, true, false, refl, length, take, drop, ap, sym, subst, ◌∙◌, arith, rules, replicate, vec_capacity}
+use Rattle.ark_media.specs.Journal.{Event, Read, Write, Sync, Out, onto, current, block, output_of, zero_block}
+use Rattle.ark_media.specs.Memory.{Taped, tape_with, Reel}
+use Rattle.ark_media.specs.Blocks.{blocks_of, flat, AllWhole}
+use Rattle.ark_media.proofs.Recording.{no_image, first_reel}
+use Rattle.ark_media.proofs.recorded.Recorded.new.Goals as goal
+
+pub invariant_of-result : goal.invariant_of-result
+invariant_of-result c =
+    let base : c.in_ok-with_capacity.field-0.items ≡ [] = c.in_ok-with_capacity.ensures.items in
+    let image : c.in_ok-with_capacity-2.field-0.items ≡ [] = c.in_ok-with_capacity-2.ensures.items in (
+      no_image c.in_ok-with_capacity-2.field-0.items c.in_ok-with_capacity.field-0.items c.in_ok-new.field-0.events image base (ap (λ (t : Taped). t.events) c.in_ok-new.ensures),
+      omega (arith, ap length base),
+      (c.in_ok-with_capacity.ensures.capacity, c.in_ok-with_capacity-2.ensures.capacity),
+    )
+
+pub returns : goal.returns
+returns c = first_reel c.in_ok-with_capacity.field-0.items c.in_ok-new.field-0 c.args.limit c.args.events c.args.text c.in_ok-with_capacity.ensures.items c.in_ok-new.ensures
