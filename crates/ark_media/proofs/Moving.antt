@@ -147,3 +147,7 @@ module _ (found room : ℕ) (old new : Reel) (calls calls2 made made2 text : ℕ
 
 pub small_blocks : (bytes : List ℕ) → length bytes ≤ 512 * 2097152 → length (blocks_of bytes) ≤ 2097152
 small_blocks bytes small = omega (arith, length-blocks_in (length bytes / 512) bytes, small)
+
+-- output takes of the room for it
+pub spent : (bytes : List ℕ) (part text : ℕ) → part ≤ length bytes → part ≤ text → length (output_of (Out (take part bytes) ∷ [])) + (text - part) ≡ text
+spent bytes part text inside room = omega (arith, ap length (append-nil (take part bytes)), length-take part bytes, inside, room)

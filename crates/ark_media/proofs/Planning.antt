@@ -8,8 +8,8 @@ use Rattle.ark_media.specs.Plan.{planned_for, IsTurn}
 -- a plan ends no calls
 pub is_turn : (plan : List Fail) (call made calls : ℕ) → made < calls → IsTurn (planned_for plan call) made calls
 is_turn [] call made calls due = due
-is_turn (fail ∷ fails) call made calls due = at (fail.call == call)
+is_turn (fail ∷ fails) call made calls due = at (fail.call == call) (is_turn fails call made calls due)
   where
-    at : (same : Bool) → IsTurn (if same then turn.Fails fail.took fail.part else planned_for fails call) made calls
-    at true = due
-    at false = is_turn fails call made calls due
+    at : (same : Bool) → IsTurn (planned_for fails call) made calls → IsTurn (if same then turn.Fails fail.took fail.part else planned_for fails call) made calls
+    at true other = due
+    at false other = other

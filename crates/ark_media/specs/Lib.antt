@@ -9,3 +9,4 @@ pub mod Plan
 pub mod Shown
 pub mod Tape
 pub mod Size
+pub mod World

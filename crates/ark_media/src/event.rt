@@ -4,7 +4,10 @@ use ark_base::Block;
 #[derive(Clone, Copy, Debug)]
 pub enum Event<'a> {
     /// A read of block `n`.
-    Read { n: u32, ok: bool },
+    Read {
+        n: u32,
+        ok: bool,
+    },
     /// A write of block `n`, which took effect or not. One that succeeded took effect.
     Write {
         n: u32,
@@ -13,7 +16,11 @@ pub enum Event<'a> {
         ok: bool,
     },
     /// A sync: all writes before it stand, if it succeeded.
-    Sync { ok: bool },
+    Sync {
+        ok: bool,
+    },
     /// Bytes that were put out.
-    Out { bytes: &'a [u8] },
+    Out {
+        bytes: &'a [u8],
+    },
 }

@@ -143,17 +143,30 @@ impl MemoryWorld {
 }
 
 impl Disk for MemoryWorld {
-    ghost told = { λ w. told_of w.device w.disk_faults };
+    ghost use Rattle.std.specs.Prelude.{◌∷◌, is_ok, OnOk, OnErr};
+    ghost use Rattle.ark_media.specs.Calls.{Went, Reads, Writes, Syncs, IsHonest};
+    ghost use Rattle.ark_media.specs.World.{TurnsOn, told_by, beside_by, goes_by, turn_at, works, counted, after_read, after_write, after_sync};
 
-    ghost goes = { λ v es w. Moves es (told_of v.device v.disk_faults) (told_of w.device w.disk_faults)
-        (record { script = Some v.source; attach_faults = v.attach_faults; source_faults = v.source_faults; sink_faults = v.sink_faults })
-        (record { script = Some w.source; attach_faults = w.attach_faults; source_faults = w.source_faults; sink_faults = w.sink_faults }) };
+    ghost told = { told_by };
+
+    ghost goes = { goes_by };
 
     fn blocks(&self) -> u32 {
         self.device.blocks()
     }
 
-    fn read(&mut self, n: u32, out: &mut [u8]) -> Result<(), DiskFailed> {
+    fn read(&mut self, n: u32, out: &mut [u8]) -> Result<(), DiskFailed>
+        requires inside { n < (told_by self.old).blocks }
+        requires room { length out.old ≡ 512 }
+        ensures went { Went goes_by (Reads n ∷ []) (is_ok result) self.old self.new }
+        ensures honest { OnOk result (IsHonest (told_by self.new).history n out.new) }
+        ensures unread { OnErr result (out.new ≡ out.old) }
+        ensures turns { TurnsOn self.old self.new }
+        ensures planned { is_ok result ≡ works (turn_at self.old) }
+        ensures device { self.new.device ≡ after_read (turn_at self.old) n self.old.device }
+        ensures counts { self.new.disk_faults ≡ counted (is_ok result) self.old.disk_faults }
+        ensures text { self.new.text ≡ self.old.text }
+    {
         match self.schedule.next() {
             Turn::Works => {
                 self.device.read(n, true, out);
@@ -172,7 +185,16 @@ impl Disk for MemoryWorld {
         }
     }
 
-    fn write(&mut self, n: u32, block: &[u8]) -> Result<(), DiskFailed> {
+    fn write(&mut self, n: u32, block: &[u8]) -> Result<(), DiskFailed>
+        requires inside { n < (told_by self.old).blocks }
+        requires room { length block.now ≡ 512 }
+        ensures went { Went goes_by (Writes n block.now ∷ []) (is_ok result) self.old self.new }
+        ensures turns { TurnsOn self.old self.new }
+        ensures planned { is_ok result ≡ works (turn_at self.old) }
+        ensures device { self.new.device ≡ after_write (turn_at self.old) n block.now self.old.device }
+        ensures counts { self.new.disk_faults ≡ counted (is_ok result) self.old.disk_faults }
+        ensures text { self.new.text ≡ self.old.text }
+    {
         match self.schedule.next() {
             Turn::Works => {
                 self.device.write(n, block, true, true);
@@ -191,7 +213,14 @@ impl Disk for MemoryWorld {
         }
     }
 
-    fn sync(&mut self) -> Result<(), DiskFailed> {
+    fn sync(&mut self) -> Result<(), DiskFailed>
+        ensures went { Went goes_by (Syncs ∷ []) (is_ok result) self.old self.new }
+        ensures turns { TurnsOn self.old self.new }
+        ensures planned { is_ok result ≡ works (turn_at self.old) }
+        ensures device { self.new.device ≡ after_sync (turn_at self.old) self.old.device }
+        ensures counts { self.new.disk_faults ≡ counted (is_ok result) self.old.disk_faults }
+        ensures text { self.new.text ≡ self.old.text }
+    {
         match self.schedule.next() {
             Turn::Works => {
                 self.device.sync(true);
@@ -210,13 +239,9 @@ impl Disk for MemoryWorld {
         }
     }
 
-    ghost goes_none = { λ w. moves_none (told_of w.device w.disk_faults)
-        (record { script = Some w.source; attach_faults = w.attach_faults; source_faults = w.source_faults; sink_faults = w.sink_faults }) };
+    ghost goes_none = { λ w. moves_none (told_by w) (beside_by w) };
 
-    ghost goes_more = { λ a b c es fs p q. moves_then es fs (told_of a.device a.disk_faults) (told_of b.device b.disk_faults) (told_of c.device c.disk_faults)
-        (record { script = Some a.source; attach_faults = a.attach_faults; source_faults = a.source_faults; sink_faults = a.sink_faults })
-        (record { script = Some b.source; attach_faults = b.attach_faults; source_faults = b.source_faults; sink_faults = b.sink_faults })
-        (record { script = Some c.source; attach_faults = c.attach_faults; source_faults = c.source_faults; sink_faults = c.sink_faults }) p q };
+    ghost goes_more = { λ a b c es fs p q. moves_then es fs (told_by a) (told_by b) (told_by c) (beside_by a) (beside_by b) (beside_by c) p q };
 
     ghost goes_told = { λ a b es p. p.tells };
 
@@ -224,10 +249,28 @@ impl Disk for MemoryWorld {
 }
 
 impl Outside for MemoryWorld {
-    ghost beside = { λ w. record { script = Some w.source; attach_faults = w.attach_faults; source_faults = w.source_faults; sink_faults = w.sink_faults } };
+    ghost use Rattle.std.specs.Prelude.{◌∷◌, ◌&&◌, leb, is_ok, IfOk, IfSome, OnOk, OnErr, replicate};
+    ghost use Rattle.ark_media.specs.Journal.{fresh, zero_block};
+    ghost use Rattle.ark_media.specs.Blocks.{blocks_of};
+    ghost use Rattle.ark_media.specs.Calls.{Adds, Rests, StillTold, HasCause, Fetches, Puts, KeepsAtAttach, KeepsAtFetch, KeepsAtPut};
+    ghost use Rattle.ark_media.specs.World.{TurnsOn, told_by, beside_by, turn_at, works, counted, after_begin, after_fetch, after_put, let_out};
 
-    fn attach(&mut self, name: &str) -> Result<(), AttachFailed> {
-        let _ = name;
+    ghost beside = { beside_by };
+
+    fn attach(&mut self, _name: &str) -> Result<(), AttachFailed>
+        ensures begun { OnOk result (IfSome (told_by self.new).history (λ h. h.journal ≡ [])) }
+        ensures small { OnOk result ((told_by self.new).blocks ≤ 2097152) }
+        ensures not_begun { OnErr result (Adds (told_by self.old).history (told_by self.new).history []) }
+        ensures same_size { OnErr result ((told_by self.new).blocks ≡ (told_by self.old).blocks) }
+        ensures cause { HasCause (beside_by self.old).attach_faults (beside_by self.new).attach_faults result }
+        ensures disk { (told_by self.new).faults ≡ (told_by self.old).faults }
+        ensures keeps { KeepsAtAttach (beside_by self.old) (beside_by self.new) }
+        ensures turns { TurnsOn self.old self.new }
+        ensures planned { is_ok result ≡ (works (turn_at self.old) && leb (length self.old.found.items) (512 * 2097152)) }
+        ensures device { self.new.device ≡ after_begin (turn_at self.old) (leb (length self.old.found.items) (512 * 2097152)) (blocks_of self.old.found.items) self.old.device }
+        ensures counts { self.new.attach_faults ≡ counted (is_ok result) self.old.attach_faults }
+        ensures text { self.new.text ≡ self.old.text }
+    {
         match self.schedule.next() {
             Turn::Works => {}
             Turn::Fails { .. } => {
@@ -248,8 +291,22 @@ impl Outside for MemoryWorld {
         Ok(())
     }
 
-    fn make(&mut self, name: &str, blocks: u32) -> Result<(), AttachFailed> {
-        let _ = name;
+    fn make(&mut self, _name: &str, blocks: u32) -> Result<(), AttachFailed>
+        requires low { 130 ≤ blocks }
+        requires high { blocks ≤ 1048576 }
+        ensures begun { OnOk result (IfSome (told_by self.new).history (λ h. h ≡ fresh blocks)) }
+        ensures size { OnOk result ((told_by self.new).blocks ≡ blocks) }
+        ensures not_begun { OnErr result (Adds (told_by self.old).history (told_by self.new).history []) }
+        ensures same_size { OnErr result ((told_by self.new).blocks ≡ (told_by self.old).blocks) }
+        ensures cause { HasCause (beside_by self.old).attach_faults (beside_by self.new).attach_faults result }
+        ensures disk { (told_by self.new).faults ≡ (told_by self.old).faults }
+        ensures keeps { KeepsAtAttach (beside_by self.old) (beside_by self.new) }
+        ensures turns { TurnsOn self.old self.new }
+        ensures planned { is_ok result ≡ (works (turn_at self.old) && leb blocks self.old.room) }
+        ensures device { self.new.device ≡ after_begin (turn_at self.old) (leb blocks self.old.room) (replicate blocks zero_block) self.old.device }
+        ensures counts { self.new.attach_faults ≡ counted (is_ok result) self.old.attach_faults }
+        ensures text { self.new.text ≡ self.old.text }
+    {
         match self.schedule.next() {
             Turn::Works => {}
             Turn::Fails { .. } => {
@@ -270,7 +327,20 @@ impl Outside for MemoryWorld {
         Ok(())
     }
 
-    fn fetch(&mut self, out: &mut [u8]) -> Result<usize, SourceFailed> {
+    fn fetch(&mut self, out: &mut [u8]) -> Result<usize, SourceFailed>
+        requires { 0 < length out.old }
+        ensures bytes { IfOk result (λ count. Fetches (beside_by self.old).script (beside_by self.new).script count out.new) }
+        ensures none { OnErr result (StillTold (beside_by self.old).script (beside_by self.new).script) }
+        ensures cause { HasCause (beside_by self.old).source_faults (beside_by self.new).source_faults result }
+        ensures rests { Rests [] (told_by self.old) (told_by self.new) }
+        ensures keeps { KeepsAtFetch (beside_by self.old) (beside_by self.new) }
+        ensures turns { TurnsOn self.old self.new }
+        ensures planned { is_ok result ≡ works (turn_at self.old) }
+        ensures count { IfOk result (λ count. count ≡ min (length out.old) (length self.old.source.left)) }
+        ensures device { self.new.device ≡ after_fetch (turn_at self.old) self.old.device }
+        ensures counts { self.new.source_faults ≡ counted (is_ok result) self.old.source_faults }
+        ensures text { self.new.text ≡ self.old.text }
+    {
         match self.schedule.next() {
             Turn::Works => Ok(self.source.fetch(out)),
             Turn::Fails { .. } => {
@@ -285,7 +355,16 @@ impl Outside for MemoryWorld {
         }
     }
 
-    fn put(&mut self, bytes: &[u8]) -> Result<(), SinkFailed> {
+    fn put(&mut self, bytes: &[u8]) -> Result<(), SinkFailed>
+        ensures puts { Puts (told_by self.old) (told_by self.new) bytes.now (is_ok result) }
+        ensures cause { HasCause (beside_by self.old).sink_faults (beside_by self.new).sink_faults result }
+        ensures keeps { KeepsAtPut (beside_by self.old) (beside_by self.new) }
+        ensures turns { TurnsOn self.old self.new }
+        ensures planned { is_ok result ≡ (works (turn_at self.old) && leb (length bytes.now) self.old.text) }
+        ensures device { self.new.device ≡ after_put (turn_at self.old) bytes.now (let_out (turn_at self.old) (length bytes.now) self.old.text) self.old.device }
+        ensures counts { self.new.sink_faults ≡ counted (is_ok result) self.old.sink_faults }
+        ensures text { self.new.text ≡ self.old.text - let_out (turn_at self.old) (length bytes.now) self.old.text }
+    {
         let fits = (self.text as usize).min(bytes.len());
         match self.schedule.next() {
             Turn::Works => {
@@ -322,40 +401,59 @@ mod tests {
     use crate::outside::{AttachFailed, Disk, DiskFailed, Outside, SinkFailed};
 
     #[test]
-    fn works_and_tells(rt: HostRuntime) {
-        let device = [7u8; 1030];
-        let mut world = MemoryWorld::new(rt.alloc(), &device, 130, b"hello", &[], 7, 9).expect(&rt, "memory");
-        let mut script = [0u8; 8];
+    fn attaches_whole_blocks_and_shows_events(rt: HostRuntime) {
+        let made = MemoryWorld::new(rt.alloc(), &[7; 1030], 130, b"hello", &[], 6, 9);
+        let mut world = made.expect(&rt, "memory");
+        let mut script = [0; 8];
         assert_eq!(rt; world.fetch(&mut script), Ok(5));
-        assert_eq!(rt; script[..5], b"hello"[..]);
-        assert_eq!(rt; world.fetch(&mut script), Ok(0));
         assert_eq!(rt; world.attach("a"), Ok(()));
         assert_eq!(rt; world.blocks(), 2);
-        let block = [9u8; 512];
-        assert_eq!(rt; world.write(1, &block), Ok(()));
-        let mut out = [0u8; 512];
+        assert_eq!(rt; world.write(1, &[9; 512]), Ok(()));
+        let mut out = [0; 512];
         assert_eq!(rt; world.read(1, &mut out), Ok(()));
-        assert_eq!(rt; out, block);
+        assert_eq!(rt; out[511], 9);
         assert_eq!(rt; world.sync(), Ok(()));
         assert_eq!(rt; world.put(b"done"), Ok(()));
         assert_eq!(rt; world.out(), b"done".as_slice());
         assert_eq!(rt; world.image().len(), 1024);
         assert_eq!(rt; world.image()[511..513], [7, 9][..]);
         assert_eq!(rt; world.events(), 4);
-        assert!(rt; matches!(world.event(0), Some(Event::Write { n: 1, took: true, ok: true, .. })));
+        assert!(rt;
+            matches!(
+                world.event(0),
+                Some(Event::Write {
+                    n: 1,
+                    took: true,
+                    ok: true,
+                    ..
+                })
+            )
+        );
         assert!(rt; matches!(world.event(3), Some(Event::Out { .. })));
-        assert!(rt; matches!(world.event(4), None));
-        assert_eq!(rt; world.make("a", 130), Err(AttachFailed));
+        assert!(rt; world.event(4).is_none());
     }
 
     #[test]
     fn fails_as_planned(rt: HostRuntime) {
         let plan = [
-            Fail { call: 1, took: true, part: 0 },
-            Fail { call: 2, took: false, part: 0 },
-            Fail { call: 3, took: false, part: 2 },
+            Fail {
+                call: 1,
+                took: true,
+                part: 0,
+            },
+            Fail {
+                call: 2,
+                took: false,
+                part: 0,
+            },
+            Fail {
+                call: 3,
+                took: false,
+                part: 2,
+            },
         ];
-        let mut world = MemoryWorld::new(rt.alloc(), &[], 130, b"", &plan, 9, 4).expect(&rt, "memory");
+        let made = MemoryWorld::new(rt.alloc(), &[], 130, b"", &plan, 6, 4);
+        let mut world = made.expect(&rt, "memory");
         assert_eq!(rt; world.make("a", 130), Ok(()));
         assert_eq!(rt; world.write(0, &[1; 512]), Err(DiskFailed));
         assert_eq!(rt; world.write(1, &[1; 512]), Err(DiskFailed));
@@ -364,7 +462,8 @@ mod tests {
         assert_eq!(rt; world.out(), b"ab".as_slice());
         assert_eq!(rt; world.put(b"cde"), Err(SinkFailed));
         assert_eq!(rt; world.out(), b"abcd".as_slice());
-        assert_eq!(rt; world.events(), 4);
         assert_eq!(rt; world.make("a", 131), Err(AttachFailed));
+        assert_eq!(rt; world.sync(), Err(DiskFailed));
+        assert_eq!(rt; world.events(), 4);
     }
 }

@@ -149,7 +149,8 @@ impl Tape {
         copy.copy_from_slice(block);
         let place = self.blocks.len();
         self.blocks.push_reserved(Block(copy));
-        self.entries.push_reserved(Kept::Write { n, place, took, ok });
+        self.entries
+            .push_reserved(Kept::Write { n, place, took, ok });
     }
 
     pub fn put(&mut self, bytes: &[u8])
