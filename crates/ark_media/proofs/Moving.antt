@@ -151,3 +151,20 @@ small_blocks bytes small = omega (arith, length-blocks_in (length bytes / 512) b
 -- output takes of the room for it
 pub spent : (bytes : List ℕ) (part text : ℕ) → part ≤ length bytes → part ≤ text → length (output_of (Out (take part bytes) ∷ [])) + (text - part) ≡ text
 spent bytes part text inside room = omega (arith, ap length (append-nil (take part bytes)), length-take part bytes, inside, room)
+
+-- before the first call
+pub ready_first : (bytes found : List ℕ) (room limit calls calls2 made text : ℕ) (reel : Reel) → found ≡ take (length bytes - length bytes % 512) bytes
+    → reel ≡ record { lost = false; base = []; events = []; limits = record { device = limit; events = calls; text = text } } → calls2 ≡ calls → made ≡ 0
+    → 512 * room ≤ limit → length bytes - length bytes % 512 ≤ limit → IsReady (length found) room reel calls2 made text
+ready_first bytes found room limit calls calls2 made text reel whole is same none fits holds =
+    let size : length found ≡ length bytes - length bytes % 512 = ap length whole ∙ length-take (length bytes - length bytes % 512) bytes ∙ omega arith in
+    rw is (record {
+      whole = omega (arith, size);
+      found_fits = omega (arith, size, holds);
+      room_fits = fits;
+      calls_fit = same;
+      events_fit = omega arith;
+      made_fits = omega (arith, none);
+      text_fits = omega arith;
+      tells = λ more. refl;
+    })

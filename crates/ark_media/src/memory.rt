@@ -11,7 +11,7 @@ use crate::recorded::Recorded;
 use crate::schedule::{Fail, Schedule, Turn};
 use crate::source::Source;
 use ark_base::Memory;
-use std::alloc::{AllocError, Global};
+use std::alloc::Global;
 
 /// The outside in memory: a device that can be attached or made, a script, and all that was put out.
 ///
@@ -70,41 +70,14 @@ impl MemoryWorld {
         ensures made { IfOk result (λ w. w.schedule.made ≡ 0) }
         ensures text { IfOk result (λ w. w.text ≡ text) }
     {
-        match MemoryWorld::build(alloc, device, room, script, plan, calls, text) {
-            Ok(world) => Ok(world),
-            Err(_) => Err(Memory),
-        }
-    }
-
-    fn build(
-        alloc: Global,
-        device: &[u8],
-        room: u32,
-        script: &[u8],
-        plan: &[Fail],
-        calls: u32,
-        text: u32,
-    ) -> Result<MemoryWorld, AllocError>
-        ensures told { IfOk result (λ w. told_of w.device w.disk_faults ≡ record { history = Some (record { base = []; journal = [] }); blocks = 0; faults = 0 }) }
-        ensures script { IfOk result (λ w. w.source ≡ record { taken = []; left = script.now }) }
-        ensures attach_faults { IfOk result (λ w. w.attach_faults ≡ 0) }
-        ensures source_faults { IfOk result (λ w. w.source_faults ≡ 0) }
-        ensures sink_faults { IfOk result (λ w. w.sink_faults ≡ 0) }
-        ensures found { IfOk result (λ w. w.found.items ≡ take (length device.now - length device.now % 512) device.now) }
-        ensures room { IfOk result (λ w. w.room ≡ room) }
-        ensures plan { IfOk result (λ w. w.schedule.fails.items ≡ plan.now) }
-        ensures calls { IfOk result (λ w. w.schedule.calls ≡ calls) }
-        ensures made { IfOk result (λ w. w.schedule.made ≡ 0) }
-        ensures text { IfOk result (λ w. w.text ≡ text) }
-    {
         let found = &device[..device.len() - device.len() % 512];
         let limit = found.len().max(512 * room as usize);
         Ok(MemoryWorld {
-            found: Vec::from_slice(alloc, found)?,
+            found: Vec::from_slice(alloc, found).map_err(|_| Memory)?,
             room,
-            device: Recorded::new(alloc, limit, calls, text)?,
-            source: Source::new(alloc, script)?,
-            schedule: Schedule::new(alloc, plan, calls)?,
+            device: Recorded::new(alloc, limit, calls, text).map_err(|_| Memory)?,
+            source: Source::new(alloc, script).map_err(|_| Memory)?,
+            schedule: Schedule::new(alloc, plan, calls).map_err(|_| Memory)?,
             text,
             disk_faults: 0,
             attach_faults: 0,
@@ -457,6 +430,7 @@ mod tests {
         assert_eq!(rt; world.make("a", 130), Ok(()));
         assert_eq!(rt; world.write(0, &[1; 512]), Err(DiskFailed));
         assert_eq!(rt; world.write(1, &[1; 512]), Err(DiskFailed));
+        assert_eq!(rt; world.image().len(), 66560);
         assert_eq!(rt; world.image()[511..513], [1, 0][..]);
         assert_eq!(rt; world.put(b"abcd"), Err(SinkFailed));
         assert_eq!(rt; world.out(), b"ab".as_slice());
