@@ -1,11 +1,11 @@
 -- One call of a world in memory.
-use Rattle.std.proofs.Common.{◌≡◌, ◌⊎◌, inl, inr, ⊎_elim, ℕ, zero, suc, ◌+◌, ◌-◌, ◌*◌, ◌/◌, ◌%◌, ◌<◌, ◌≤◌, min, Bool, true, false, List, [], ◌∷◌, ◌++◌, length, take, drop, refl, sym, ◌∙◌, ap, subst, arith, length-append, append-nil}
+use Rattle.std.proofs.Common.{◌≡◌, ◌⊎◌, inl, inr, ℕ, ◌+◌, ◌-◌, ◌*◌, ◌/◌, ◌%◌, ◌<◌, ◌≤◌, min, Bool, true, false, List, [], ◌∷◌, ◌++◌, length, take, drop, refl, sym, ◌∙◌, ap, subst, arith, length-append, append-nil}
 use Rattle.std.proofs.lemmas.List.{take-append-drop, length-take}
-use Rattle.std.specs.Prelude.{Option, Some, None}
-use Rattle.ark_media.specs.Journal.{Event, Read, Write, Sync, Out, History, onto, block, current, output_of, HasFailed, has_succeeded}
-use Rattle.ark_media.specs.Calls.{Call, Reads, Writes, Syncs, Comes, Makes, Told, Tells, Adds, Rose, Rests, Puts, Beside, Keeps, Moves, IsHonest}
+use Rattle.std.specs.Prelude.{Option, Some}
+use Rattle.ark_media.specs.Journal.{Event, Out, History, onto, block, current, output_of, HasFailed, has_succeeded}
+use Rattle.ark_media.specs.Calls.{Call, Reads, Writes, Syncs, Comes, Makes, Adds, Rose, Puts, Beside, Moves, IsHonest}
 use Rattle.ark_media.specs.Blocks.{blocks_of}
-use Rattle.ark_media.specs.Memory.{Reel, Limits, IsReady, with_event, lost_of, begun, history_of, told_history, told_of}
+use Rattle.ark_media.specs.Memory.{Reel, IsReady, with_event, lost_of, begun, history_of, told_history, told_of}
 use Rattle.ark_media.specs.Going.{onto-append, keeps_none}
 use Rattle.ark_media.proofs.Flat.{length-blocks_in}
 use Rattle.ark_media.proofs.Taping.{output-append}

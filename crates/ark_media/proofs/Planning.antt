@@ -1,7 +1,6 @@
 -- What a plan says of a call.
-use Rattle.std.proofs.Common.{◌≡◌, ℕ, ◌<◌, ◌≤◌, ◌==◌, if◌then◌else◌, Bool, true, false, List, [], ◌∷◌, refl, arith}
+use Rattle.std.proofs.Common.{ℕ, ◌<◌, ◌==◌, if◌then◌else◌, Bool, true, false, List, [], ◌∷◌}
 use Rattle.ark_media.specs.declared.schedule.Fail.{Fail}
-use Rattle.ark_media.specs.declared.schedule.Turn.{Turn}
 use Rattle.ark_media.specs.declared.schedule.Turn.TheVariants as turn
 use Rattle.ark_media.specs.Plan.{planned_for, IsTurn}
 

@@ -1,12 +1,11 @@
 -- One more event of a device in memory.
-use Rattle.std.proofs.Common.{◌≡◌, ◌⊎◌, inl, inr, ⊎_elim, ℕ, zero, suc, ◌+◌, ◌-◌, ◌*◌, ◌%◌, ◌<◌, ◌≤◌, Bool, true, false, List, [], ◌∷◌, ◌++◌, length, take, drop, get_or, set, replicate, refl, sym, ◌∙◌, ap, subst, arith}
+use Rattle.std.proofs.Common.{◌≡◌, ℕ, zero, suc, ◌+◌, ◌-◌, ◌*◌, ◌%◌, ◌<◌, ◌≤◌, Bool, true, false, List, [], ◌∷◌, ◌++◌, length, take, drop, set, replicate, refl, sym, ◌∙◌, ap, subst, arith}
 use Rattle.std.proofs.lemmas.List.{length-set, length-replicate, take-append-le, take_all}
-use Rattle.std.specs.Prelude.{Option, Some, None, IfSome, Result, Ok, Err, OnErr, is_ok, if◌then◌else◌}
-use Rattle.ark_media.specs.Journal.{Event, Read, Write, Sync, Out, History, onto, block, current, zero_block, HasFailed}
-use Rattle.ark_media.specs.Calls.{Call, Reads, Writes, Syncs, Comes, Makes, Went, Told, Tells, Adds, Rose, Rests, Puts, Script, Beside, Keeps, Moves, IsHonest}
+use Rattle.std.specs.Prelude.{Result, Ok, Err, OnErr, is_ok, if◌then◌else◌}
+use Rattle.ark_media.specs.Journal.{Event, Read, Write, Sync, Out, onto, block, current, zero_block}
 use Rattle.ark_media.specs.Blocks.{blocks_of, flat, AllWhole}
-use Rattle.ark_media.specs.Memory.{Reel, Limits, Taped, with_event, lost_of, begun, history_of, told_history, told_of, reel_of}
-use Rattle.ark_media.specs.Going.{onto-append, adds_none}
+use Rattle.ark_media.specs.Memory.{Reel, Taped, begun, reel_of}
+use Rattle.ark_media.specs.Going.{onto-append}
 use Rattle.ark_media.proofs.Flat.{length-flat, block-flat, set-flat, whole-set, flat_of_whole, whole_of_whole, no_blocks, zeros}
 
 onto_end : (es : List Event) (e : Event) → onto (es ++ e ∷ []) [] ≡ e ∷ onto es []

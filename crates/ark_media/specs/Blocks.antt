@@ -1,5 +1,5 @@
 -- Bytes as blocks, and blocks as bytes.
-use Rattle.std.specs.Prelude.{◌≡◌, ℕ, zero, suc, ◌*◌, ◌/◌, List, [], ◌∷◌, ◌++◌, length, take, drop}
+use Rattle.std.specs.Prelude.{◌≡◌, ℕ, zero, suc, ◌/◌, List, [], ◌∷◌, ◌++◌, length, take, drop}
 
 -- the first n blocks of the bytes
 unfoldable pub blocks_in : ℕ → List ℕ → List (List ℕ)

@@ -1,8 +1,8 @@
 -- The base that is told has the size of the device.
-use Rattle.std.specs.Prelude.{◌≡◌, ℕ, Bool, true, false, List, [], Option, Some, None, length, refl}
-use Rattle.std.proofs.Common.{sym, ap, subst}
-use Rattle.ark_media.specs.Journal.{Event, History, onto}
-use Rattle.ark_media.specs.Memory.{Reel, Limits, history_of, told_history}
+use Rattle.std.specs.Prelude.{◌≡◌, ℕ, Bool, true, false, [], Option, Some, None, length, refl}
+use Rattle.std.proofs.Common.{subst}
+use Rattle.ark_media.specs.Journal.{History, onto}
+use Rattle.ark_media.specs.Memory.{Reel, history_of, told_history}
 
 -- the size of the base is this, where a history is told
 abbrev HasSize : ℕ → Option History → Type 0

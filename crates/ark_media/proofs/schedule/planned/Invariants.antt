@@ -1,4 +1,4 @@
-use Rattle.std.proofs.Common.{◌≡◌, ℕ, drop}
+use Rattle.std.proofs.Common.{◌≡◌, drop}
 use Rattle.ark_media.specs.Plan.{planned_for}
 use Rattle.ark_media.proofs.schedule.planned.Given as goal
 

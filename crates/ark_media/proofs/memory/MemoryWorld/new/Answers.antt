@@ -1,7 +1,6 @@
 use Rattle.std.proofs.Common.{◌≡◌, ◌≤◌, ◌-◌, ◌*◌, ◌%◌, ℕ, false, [], length, take, arith, rules}
 use Rattle.std.proofs.lemmas.Grind.{common_steps}
 use Rattle.std.proofs.lemmas.List.{length-take}
-use Rattle.ark_media.specs.Memory.{Reel, Limits}
 use Rattle.ark_media.proofs.Moving.{ready_first}
 use Rattle.ark_media.proofs.memory.MemoryWorld.new.Goals as goal
 

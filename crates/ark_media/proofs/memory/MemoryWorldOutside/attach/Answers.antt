@@ -1,5 +1,4 @@
-use Rattle.std.proofs.Common.{◌≡◌, ◌≤◌, ◌*◌, ℕ, List, length, ap, sym, ◌∙◌, subst, arith, rules}
-use Rattle.ark_media.specs.Blocks.{blocks_of}
+use Rattle.std.proofs.Common.{◌≤◌, ◌*◌, length, sym, subst, arith}
 use Rattle.ark_media.specs.Memory.{Reel}
 use Rattle.ark_media.proofs.Moving.{small_blocks}
 use Rattle.ark_media.proofs.memory.MemoryWorldOutside.attach.Goals as goal

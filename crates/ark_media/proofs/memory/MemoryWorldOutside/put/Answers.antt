@@ -1,7 +1,6 @@
-use Rattle.std.proofs.Common.{◌≡◌, ◌⊎◌, ℕ, ◌-◌, ◌+◌, ◌≤◌, Bool, true, false, List, [], ◌∷◌, length, take, Some, refl, inl, inr, ap, sym, ◌∙◌, arith, rules}
-use Rattle.ark_media.specs.Journal.{Event, Read, Write, Sync, Out}
-use Rattle.ark_media.specs.Calls.{Call, Reads, Writes, Syncs, Rose, Beside}
-use Rattle.ark_media.proofs.Moving.{went, failed, honest, puts, spent, ready_event, ready_lost, ready_same, ready_begun, small_blocks}
+use Rattle.std.proofs.Common.{◌-◌, ◌≤◌, true, false, length, take, arith, rules}
+use Rattle.ark_media.specs.Journal.{Out}
+use Rattle.ark_media.proofs.Moving.{puts, spent, ready_event}
 use Rattle.ark_media.proofs.memory.MemoryWorldOutside.put.Goals as goal
 
 pub invariant_of-self : goal.invariant_of-self

@@ -1,7 +1,7 @@
-use Rattle.std.proofs.Common.{◌≡◌, ◌≤◌, ◌<◌, ◌+◌, ◌-◌, ◌*◌, ◌/◌, ◌%◌, ◌^◌, ◌++◌, ◌∷◌, [], List, ℕ, true, false, refl, length, take, drop, ap, sym, subst, ◌∙◌, arith, rules, replicate, vec_capacity}
-use Rattle.ark_media.specs.Journal.{Event, Read, Write, Sync, Out, onto, current, block, output_of, zero_block}
-use Rattle.ark_media.specs.Memory.{Taped, tape_with, Reel}
-use Rattle.ark_media.specs.Blocks.{blocks_of, flat, AllWhole}
+use Rattle.std.proofs.Common.{◌≡◌, ◌≤◌, ◌+◌, ◌-◌, ◌*◌, List, ℕ, refl, length, take, drop, ap, subst, ◌∙◌, rules}
+use Rattle.ark_media.specs.Journal.{Read}
+use Rattle.ark_media.specs.Memory.{Taped}
+use Rattle.ark_media.specs.Blocks.{blocks_of}
 use Rattle.ark_media.proofs.Recording.{plain_image, image_size, read_block, part_read, is_inside}
 use Rattle.ark_media.proofs.recorded.Recorded.read.Goals as goal
 

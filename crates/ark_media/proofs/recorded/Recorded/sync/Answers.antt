@@ -1,7 +1,7 @@
-use Rattle.std.proofs.Common.{◌≡◌, ◌≤◌, ◌<◌, ◌+◌, ◌*◌, ◌/◌, ◌%◌, ◌^◌, ◌++◌, ◌∷◌, [], List, ℕ, true, false, refl, length, take, drop, ap, sym, subst, ◌∙◌, arith, rules, replicate, vec_capacity}
-use Rattle.ark_media.specs.Journal.{Event, Read, Write, Sync, Out, onto, current, block, output_of, zero_block}
-use Rattle.ark_media.specs.Memory.{Taped, tape_with, Reel}
-use Rattle.ark_media.specs.Blocks.{blocks_of, flat, AllWhole}
+use Rattle.std.proofs.Common.{refl, ap}
+use Rattle.ark_media.specs.Journal.{Sync}
+use Rattle.ark_media.specs.Memory.{Taped}
+use Rattle.ark_media.specs.Blocks.{blocks_of}
 use Rattle.ark_media.proofs.Recording.{plain_image}
 use Rattle.ark_media.proofs.recorded.Recorded.sync.Goals as goal
 

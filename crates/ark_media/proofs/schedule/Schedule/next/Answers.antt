@@ -1,6 +1,6 @@
-use Rattle.std.proofs.Common.{◌≡◌, ◌<◌, ap, sym, ◌∙◌, subst, rules}
+use Rattle.std.proofs.Common.{sym, subst, rules}
 use Rattle.ark_media.specs.declared.schedule.Turn.{Turn}
-use Rattle.ark_media.specs.Plan.{IsTurn, planned_for}
+use Rattle.ark_media.specs.Plan.{IsTurn}
 use Rattle.ark_media.proofs.Planning.{is_turn}
 use Rattle.ark_media.proofs.schedule.Schedule.next.Goals as goal
 

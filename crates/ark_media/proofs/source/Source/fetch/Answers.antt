@@ -1,4 +1,4 @@
-use Rattle.std.proofs.Common.{◌≡◌, ℕ, ◌-◌, length, min, take, drop, rules}
+use Rattle.std.proofs.Common.{◌≡◌, ◌-◌, length, min, take, drop, rules}
 use Rattle.ark_media.proofs.Fetching.{fetched}
 use Rattle.ark_media.proofs.source.Source.fetch.Goals as goal
 

@@ -1,10 +1,9 @@
-use Rattle.std.proofs.Common.{rules, [], ◌≡◌, ◌<◌, ◌≤◌, length, get_or, subst, sym, ◌∙◌, ap, false, List, ℕ, arith, refl}
+use Rattle.std.proofs.Common.{rules, [], ◌<◌, ◌≤◌, length, get_or, subst, sym, ◌∙◌, ap, false, List, ℕ, arith}
 use Rattle.std.proofs.lemmas.List.{length-map}
 use Rattle.ark_media.specs.Journal.{Event, Sync, Write}
 use Rattle.ark_media.specs.Memory.{Taped}
 use Rattle.ark_media.specs.Tape.{event_of, IsWithin}
 use Rattle.ark_media.specs.declared.tape.Kept.{Kept}
-use Rattle.ark_media.specs.declared.tape.Kept.TheVariants as kept
 use Rattle.ark_media.proofs.Taping.{kept_at, event_at, any_block}
 use Rattle.ark_media.proofs.tape.Tape.get.Goals as goal
 

@@ -1,6 +1,4 @@
-use Rattle.std.proofs.Common.{◌≡◌, ◌≤◌, ◌<◌, ◌+◌, ◌^◌, ◌++◌, ◌∷◌, [], List, ℕ, refl, length, ap, sym, ◌∙◌, arith, rules, length-append, vec_capacity}
-use Rattle.ark_media.specs.Journal.{Event, Read, Write, Sync, Out, output_of}
-use Rattle.ark_media.specs.Memory.{Taped}
+use Rattle.std.proofs.Common.{◌≡◌, ◌<◌, ◌+◌, ◌∷◌, [], refl, length, ap, ◌∙◌, arith, length-append}
 use Rattle.ark_media.specs.Tape.{Sound}
 use Rattle.ark_media.specs.declared.tape.Kept.TheVariants as kept
 use Rattle.ark_media.proofs.Taping.{plain_sound, has_room}

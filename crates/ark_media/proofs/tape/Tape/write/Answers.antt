@@ -1,6 +1,5 @@
-use Rattle.std.proofs.Common.{◌≡◌, ◌≤◌, ◌<◌, ◌+◌, ◌^◌, ◌++◌, ◌∷◌, [], List, ℕ, map, refl, length, ap, sym, ◌∙◌, arith, rules, length-append, vec_capacity}
-use Rattle.ark_media.specs.Journal.{Event, Read, Write, Sync, Out, output_of}
-use Rattle.ark_media.specs.Memory.{Taped}
+use Rattle.std.proofs.Common.{◌≡◌, ◌<◌, ◌+◌, ◌++◌, ◌∷◌, [], List, ℕ, map, refl, length, ap, ◌∙◌, arith, rules, length-append}
+use Rattle.ark_media.specs.Journal.{Write}
 use Rattle.ark_media.specs.Tape.{Sound, event_of}
 use Rattle.ark_media.specs.declared.tape.Kept.TheVariants as kept
 use Rattle.ark_media.proofs.Taping.{write_view, write_sound, has_room, is_longer}
