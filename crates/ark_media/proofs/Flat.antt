@@ -10,7 +10,7 @@ unfolding blocks_in
 length-blocks_in zero bytes = refl
 length-blocks_in (suc n) bytes = ap suc (length-blocks_in n (drop 512 bytes))
 
-none_left : (l : List ℕ) → length l ≡ 0 → l ≡ []
+pub none_left : (l : List ℕ) → length l ≡ 0 → l ≡ []
 none_left [] h = refl
 none_left (x ∷ xs) h = absurd (omega (arith, h))
 

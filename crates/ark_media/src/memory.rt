@@ -1,9 +1,6 @@
-ghost use Rattle.std.specs.Prelude.{◌≡◌, ◌≤◌, ◌<◌, ◌+◌, ◌-◌, ◌*◌, ◌%◌, ◌^◌, false, [], length, min, Some, ℕ, List};
-ghost use Rattle.ark_media.specs.Memory.{Reel, Limits, IsReady, told_of};
-ghost use Rattle.ark_media.specs.Calls.{Told, Beside, Script, Moves};
-ghost use Rattle.ark_media.specs.Going.{moves_none, moves_then};
-ghost use Rattle.ark_media.specs.Journal.{Event as Happening, output_of};
-ghost use Rattle.ark_media.specs.Size.{size_told};
+ghost use Rattle.std.specs.Prelude.{◌≡◌, ◌≤◌, ◌<◌, ◌+◌, ◌-◌, ◌*◌, ◌%◌, ◌^◌, false, [], length, min};
+ghost use Rattle.ark_media.specs.Memory.{IsReady};
+ghost use Rattle.ark_media.specs.Journal.{output_of};
 
 use crate::event::Event;
 use crate::outside::{AttachFailed, Disk, DiskFailed, Outside, SinkFailed, SourceFailed};
@@ -41,7 +38,8 @@ fn raise(count: &mut u64)
 }
 
 impl MemoryWorld {
-    ghost use Rattle.std.specs.Prelude.{IfOk, get_or, MatchOption, take};
+    ghost use Rattle.std.specs.Prelude.{IfOk, Some, get_or, MatchOption, take};
+    ghost use Rattle.ark_media.specs.Memory.{told_of};
     ghost use Rattle.ark_media.specs.Journal.{Sync, onto, current};
     ghost use Rattle.ark_media.specs.Blocks.{flat};
     ghost use Rattle.ark_media.specs.Shown.{Shows};
@@ -117,6 +115,8 @@ impl MemoryWorld {
 
 impl Disk for MemoryWorld {
     ghost use Rattle.std.specs.Prelude.{◌∷◌, is_ok, OnOk, OnErr};
+    ghost use Rattle.ark_media.specs.Going.{moves_none, moves_then};
+    ghost use Rattle.ark_media.specs.Size.{size_told};
     ghost use Rattle.ark_media.specs.Calls.{Went, Reads, Writes, Syncs, IsHonest};
     ghost use Rattle.ark_media.specs.World.{TurnsOn, told_by, beside_by, goes_by, turn_at, works, counted, after_read, after_write, after_sync};
 
