@@ -3,3 +3,10 @@ pub mod Calls
 pub mod Going
 pub mod Parts
 pub mod Stops
+pub mod Blocks
+pub mod Memory
+pub mod Plan
+pub mod Shown
+pub mod Tape
+pub mod Size
+pub mod World

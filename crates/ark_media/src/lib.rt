@@ -2,7 +2,14 @@
 #![tactic(auto)]
 
 mod event;
+mod memory;
 mod outside;
+mod recorded;
+mod schedule;
+mod source;
+mod tape;
 
 pub use event::Event;
+pub use memory::MemoryWorld;
 pub use outside::{AttachFailed, Disk, DiskFailed, Outside, SinkFailed, SourceFailed};
+pub use schedule::Fail;

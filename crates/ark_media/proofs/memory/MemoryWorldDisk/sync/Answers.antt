@@ -1,0 +1,38 @@
+use Rattle.std.proofs.Common.{true, false, length, Some, refl, inl, inr, arith}
+use Rattle.ark_media.specs.Journal.{Sync}
+use Rattle.ark_media.specs.Calls.{Syncs, Rose, Beside}
+use Rattle.ark_media.proofs.Moving.{went, failed, ready_event}
+use Rattle.ark_media.proofs.memory.MemoryWorldDisk.sync.Goals as goal
+
+pub invariant_of-self : goal.invariant_of-self
+invariant_of-self c =
+    let w = c.args.self.now in
+    record { ready = ready_event (length w.found.items) w.room w.device c.sync.new.self w.schedule.calls c.next.new.self.calls w.schedule.made c.next.new.self.made w.text w.ready c.next.ensures.made c.next.ensures.calls (Sync true) w.text c.in-Works.ensures.due (omega arith) c.sync.ensures }
+
+pub invariant_of-self-in-Fails : goal.invariant_of-self-in-Fails
+invariant_of-self-in-Fails c =
+    let w = c.args.self.now in
+    record { ready = ready_event (length w.found.items) w.room w.device c.sync-in-Fails.new.self w.schedule.calls c.next.new.self.calls w.schedule.made c.next.new.self.made w.text w.ready c.next.ensures.made c.next.ensures.calls (Sync false) w.text c.in-Fails.ensures.due (omega arith) c.sync-in-Fails.ensures }
+
+pub returns-in-Works-clause-went : goal.returns-in-Works-clause-went
+returns-in-Works-clause-went c =
+    let w = c.args.self.now in
+    let beside : Beside = record { script = Some w.source; attach_faults = w.attach_faults; source_faults = w.source_faults; sink_faults = w.sink_faults } in
+    let m = went (Syncs) (Sync true) w.device c.sync.new.self beside w.disk_faults refl c.sync.ensures in
+    record { events = m.0; makes = m.1; goes_on = m.2 }
+
+pub returns-in-Fails-clause-went : goal.returns-in-Fails-clause-went
+returns-in-Fails-clause-went c =
+    let w = c.args.self.now in
+    let beside : Beside = record { script = Some w.source; attach_faults = w.attach_faults; source_faults = w.source_faults; sink_faults = w.sink_faults } in
+    let rose : Rose w.disk_faults c.raise.new.count = omega (arith, c.raise.ensures.saturates) in
+    let m = failed (Syncs) (Sync false) w.device c.sync-in-Fails.new.self beside w.disk_faults c.raise.new.count refl (inl c.sync-in-Fails.ensures) c.raise.ensures.later rose in
+    record { events = m.0; makes = m.1; goes_on = m.2 }
+
+pub returns-in-Over-clause-went : goal.returns-in-Over-clause-went
+returns-in-Over-clause-went c =
+    let w = c.args.self.now in
+    let beside : Beside = record { script = Some w.source; attach_faults = w.attach_faults; source_faults = w.source_faults; sink_faults = w.sink_faults } in
+    let rose : Rose w.disk_faults c.raise-in-Over.new.count = omega (arith, c.raise-in-Over.ensures.saturates) in
+    let m = failed (Syncs) (Sync false) w.device c.lose.new.self beside w.disk_faults c.raise-in-Over.new.count refl (inr c.lose.ensures) c.raise-in-Over.ensures.later rose in
+    record { events = m.0; makes = m.1; goes_on = m.2 }
