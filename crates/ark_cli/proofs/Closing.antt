@@ -42,10 +42,14 @@ abbrev IsNoReply : List Event → Type 0
 IsNoReply closing = (closing ≡ []) ⊎ ((part : List ℕ) × (closing ≡ Out part ∷ []) × (ends_reply (Out part) ≡ false))
 
 no_reply : (words : List ℕ) (closing : List Event) → no_newline words ≡ true → ends_reply (Out (words ++ 10 ∷ [])) ≡ false → ((part : List ℕ) × (more : List ℕ) × (words ++ 10 ∷ [] ≡ part ++ more) × (closing ≡ Out part ∷ [])) → IsNoReply closing
-no_reply words closing clean none c = inr (c.0, c.3, elim (cut_line words c.0 c.1 clean c.2) [
-  | inl same ↦ subst (λ b. ends_reply (Out b) ≡ false) (sym same) none
-  | inr part ↦ clean_goes_on c.0 part
-])
+no_reply words closing clean none c = inr (
+  c.0,
+  c.3,
+  elim (cut_line words c.0 c.1 clean c.2) [
+    | inl same ↦ subst (λ b. ends_reply (Out b) ≡ false) (sym same) none
+    | inr part ↦ clean_goes_on c.0 part
+  ],
+)
 
 closes_no_reply : (status : Status) (closing : List Event) → IsUndamaged status → Closes status closing → IsNoReply closing
 closes_no_reply Done closing u c = inl c

@@ -231,7 +231,7 @@ module _ (s : System) (fed : List ℕ) (added : List Event) where
       (f : Fed s fed added host told line) → (line ≡ [] → ⊥) → AnswersLine (system_after s f.meanings f.whole) f.tail part now after ok → Finishes s fed added part after ok
   finish_line host now told after line part ok adds f some a =
       let lines : lines_of fed ≡ f.lines ++ f.tail ∷ [] = ap lines_of f.cut ∙ lines_of-ended f.lines f.tail f.clean
-          ∙ ap (λ t. f.lines ++ t) (lines_of-tail f.tail f.clean_tail (λ e. some (f.held ∙ ap kept e ∙ kept_none))) in
+      ∙ ap (λ t. f.lines ++ t) (lines_of-tail f.tail f.clean_tail (λ e. some (f.held ∙ ap kept e ∙ kept_none))) in
       let count : length f.lines + 1 ≡ length (lines_of fed) = omega (arith, ap (λ (l : List (List ℕ)). length l) lines, length-append f.lines (f.tail ∷ [])) in
       record {
         done = λ e. subst (λ n. Stopped s fed (added ++ part) after n) count (answer_stopped s fed added host told line f part now after adds fed [] lines (a.done e));

@@ -1,6 +1,6 @@
 -- Worked rows: scripts of the composed run, evaluated.
 use Rattle.std.specs.Prelude.{◌≡◌, ◌⊎◌, ℕ, Bool, true, false, List, [], ◌∷◌, ◌++◌, codes, Option, Some, None, refl, Ok, Err}
-use Rattle.std.proofs.Common.{lit≤, inl, inr}
+use Rattle.std.proofs.Common.{lit≤, inl, inr, ap, get_or, arith}
 use Rattle.ark_base.specs.declared.refusal.Refusal.TheVariants as r
 use Rattle.ark_media.specs.Journal.{Event, Write, Sync, Out}
 use Rattle.ark_media.specs.Parts.{parts}
@@ -71,21 +71,24 @@ whole =
 pub parts_are : parts events ≡ record { whole = (Write 0 [] true true ∷ Sync true ∷ Out (line (codes "ready 200 0") []) ∷ []) ∷ whole; unfinished = Out (line (codes "fault source") []) ∷ [] }
 parts_are = refl
 
+first_apart : ◌≡◌ {A = ℕ} 102 97 → ⊥
+first_apart h = absurd (omega (arith, h))
+
 frob_unknown : w.HasWord (codes "app") (codes "frob") → ⊥
-frob_unknown (inl h) = cc
-frob_unknown (inr h) = cc (h.1)
+frob_unknown (inl h) = first_apart (ap (λ l. get_or l 0 0) h)
+frob_unknown (inr h) = first_apart (ap (λ l. get_or l 0 0) h.1)
 
 pub run_is : Replies (fresh_system 200) (lines_of script) whole (Out (line (codes "fault source") []) ∷ [])
 unfolding step
 run_is = record {
   meanings = Ok (w.app (codes "a") None) ∷ Ok (w.app (codes "a") None) ∷ Err r.UnknownWord ∷ Ok (w.app (codes "b") None) ∷ [];
-  say = ((lit≤ tt, refl, refl), (lit≤ tt, refl, refl), (lit≤ tt, frob_unknown), (lit≤ tt, refl, refl), tt);
+  say = ((lit≤ tt, (refl, refl)), ((lit≤ tt, (refl, refl)), ((lit≤ tt, frob_unknown), ((lit≤ tt, (refl, refl)), tt))));
   each = (
     record { output = refl; calls = ended; memory = tt },
-    record { output = refl; calls = ended; memory = tt },
-    record { output = refl; calls = refl; memory = tt },
-    record { output = refl; calls = ended; memory = tt },
-    tt,
+    (
+      record { output = refl; calls = ended; memory = tt },
+      (record { output = refl; calls = refl; memory = tt }, (record { output = refl; calls = ended; memory = tt }, tt)),
+    ),
   );
   begins = refl;
 }

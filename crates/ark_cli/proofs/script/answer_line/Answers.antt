@@ -14,7 +14,7 @@ returns-clause-answers g c =
     let w2 = c.put.new.self in
     let puts = subst (λ b. Puts (g.W.Disk.told w1) (g.W.Disk.told w2) b (is_ok c.put.result)) c.print-len.ensures.text c.put.ensures.puts in
     let first = goes_kept (g.W.Disk.told w0) (g.W.Disk.told w1) (g.W.Outside.beside w0) (g.W.Outside.beside w1) served.events
-        (g.met.W.Disk.goes_told w0 w1 served.events served.goes_on) (g.met.W.Outside.goes_means w0 w1 served.events served.goes_on) in
+    (g.met.W.Disk.goes_told w0 w1 served.events served.goes_on) (g.met.W.Outside.goes_means w0 w1 served.events served.goes_on) in
     let then = goes_put (g.W.Disk.told w1) (g.W.Disk.told w2) (g.W.Outside.beside w1) (g.W.Outside.beside w2) puts.part puts.rests c.put.ensures.keeps c.put.ensures.cause.later in
     record {
       events = _;

@@ -34,9 +34,9 @@ returns-in-Ok-eq0-clause-ran g c =
     let t = c.in-Ok-eq0.ensures.turns in
     let zero : c.in-Ok-eq0.field-0 ≡ 0 = search rules in
     let now = going_on (g.W.Disk.told c.args.world.now) (g.W.Disk.told c.loop-count.world) (g.W.Disk.told c.turn.new.world)
-        (g.W.Outside.beside c.args.world.now) (g.W.Outside.beside c.loop-count.world) (g.W.Outside.beside c.turn.new.world)
-        c.args.host.now c.loop-count.host c.args.line.now c.loop-count.line c.loop-count.count c.loop-count.invariant.going
-        (length (take c.min-room.result c.loop-count.chunk)) c.turn.new.host c.turn.new.line c.in-Ok-eq0.field-0 t in
+    (g.W.Outside.beside c.args.world.now) (g.W.Outside.beside c.loop-count.world) (g.W.Outside.beside c.turn.new.world)
+    c.args.host.now c.loop-count.host c.args.line.now c.loop-count.line c.loop-count.count c.loop-count.invariant.going
+    (length (take c.min-room.result c.loop-count.chunk)) c.turn.new.host c.turn.new.line c.in-Ok-eq0.field-0 t in
     ran_finish (g.W.Disk.told c.args.world.now) (g.W.Disk.told c.turn.new.world) (g.W.Disk.told c.end_script.new.world)
     (g.W.Outside.beside c.args.world.now) (g.W.Outside.beside c.turn.new.world) (g.W.Outside.beside c.end_script.new.world)
     c.args.host.now c.turn.new.host c.args.line.now c.turn.new.line (c.loop-count.count + c.in-Ok-eq0.field-0) now
@@ -58,9 +58,9 @@ returns-in-Ok-eq0-fetch-clause-ran g c =
     let zero : c.in-Ok-eq0-fetch.field-0 ≡ 0 = search rules in
     let f = subst (λ n. Fetches b1.script b2.script n c.fetch.new.out) zero c.in-Ok-eq0-fetch.ensures.bytes in
     let now = going_none (g.W.Disk.told c.args.world.now) (g.W.Disk.told c.loop-count.world) (g.W.Disk.told c.fetch.new.self)
-        (g.W.Outside.beside c.args.world.now) b1 b2
-        c.args.host.now c.loop-count.host c.args.line.now c.loop-count.line c.loop-count.count c.loop-count.invariant.going
-        c.fetch.ensures.rests c.fetch.ensures.keeps c.fetch.ensures.cause.later (takes_fetched b1.script b2.script 0 c.fetch.new.out f) in
+    (g.W.Outside.beside c.args.world.now) b1 b2
+    c.args.host.now c.loop-count.host c.args.line.now c.loop-count.line c.loop-count.count c.loop-count.invariant.going
+    c.fetch.ensures.rests c.fetch.ensures.keeps c.fetch.ensures.cause.later (takes_fetched b1.script b2.script 0 c.fetch.new.out f) in
     ran_finish (g.W.Disk.told c.args.world.now) (g.W.Disk.told c.fetch.new.self) (g.W.Disk.told c.end_script-in-Ok-eq0-fetch.new.world)
     (g.W.Outside.beside c.args.world.now) b2 (g.W.Outside.beside c.end_script-in-Ok-eq0-fetch.new.world)
     c.args.host.now c.loop-count.host c.args.line.now c.loop-count.line c.loop-count.count now

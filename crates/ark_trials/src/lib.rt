@@ -1,0 +1,11 @@
+//! Runs of the whole control plane over a world in memory: what no clause says, against values from outside.
+#![tactic(auto)]
+
+#[cfg(test)]
+mod failures;
+#[cfg(test)]
+mod lines;
+#[cfg(test)]
+mod runs;
+#[cfg(test)]
+mod words;

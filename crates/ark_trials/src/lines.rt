@@ -1,0 +1,64 @@
+use crate::runs::run;
+use ark_base::Status;
+use std::test::Fail;
+
+// Scripts, and the replies behind the line of the device.
+#[test]
+fn answers_each_line(rt: HostRuntime) -> Result<(), Fail> {
+    let cases: [(&[u8], &[u8]); 12] = [
+        (b"app a\n", b"ok\n"),
+        (b"app a", b"ok\n"),
+        (b"app a\napp a\n", b"ok\nrefused 4 name taken\n"),
+        (b"app a\napp b\napp a", b"ok\nok\nrefused 4 name taken\n"),
+        (b"\n", b"refused 2 unknown word\n"),
+        (b"\n\n", b"refused 2 unknown word\nrefused 2 unknown word\n"),
+        (b"frob", b"refused 2 unknown word\n"),
+        (b"app", b"refused 1 syntax\n"),
+        (b"app A", b"refused 1 syntax\n"),
+        (b"app a\r\n", b"refused 1 syntax\n"),
+        (b"app a 4\n", b"refused 1 syntax\n"),
+        (b"\xff\x00\x80\n", b"refused 2 unknown word\n"),
+    ];
+    for (script, replies) in cases {
+        let done = run(rt.alloc(), script, &[])?;
+        assert_eq!(rt; done.status, Status::Done);
+        assert_eq!(rt;
+            done.world.out().strip_prefix(b"ready 200 0\n"),
+            Some(replies),
+            "at {script:?}"
+        );
+    }
+    Ok(())
+}
+
+// A line of 66,000 bytes is read, and one of 66,001 is not, wherever the fetches cut it.
+#[test]
+fn refuses_longer_lines(rt: HostRuntime) -> Result<(), Fail> {
+    let cases: [(usize, &[u8]); 3] = [
+        (66_000, b"ready 200 0\nrefused 2 unknown word\nok\n"),
+        (66_001, b"ready 200 0\nrefused 24 too long\nok\n"),
+        (140_000, b"ready 200 0\nrefused 24 too long\nok\n"),
+    ];
+    for (len, out) in cases {
+        let mut script = vec![in rt.alloc(); b'x'; len]?;
+        script.extend_from_slice(b"\napp a\n")?;
+        let done = run(rt.alloc(), &script, &[])?;
+        assert_eq!(rt; done.status, Status::Done);
+        assert_eq!(rt; done.world.out(), out);
+    }
+    Ok(())
+}
+
+// Sixteen applications are made in a run, and no more.
+#[test]
+fn makes_sixteen_applications(rt: HostRuntime) -> Result<(), Fail> {
+    let script =
+        b"app a\napp b\napp c\napp d\napp e\napp f\napp g\napp h\napp i\napp j\napp k\napp l\napp m\napp n\napp o\napp p\napp q\napp a\n";
+    let done = run(rt.alloc(), script, &[])?;
+    assert!(rt;
+        done.world
+            .out()
+            .ends_with(b"ok\nok\nrefused 7 limit\nrefused 4 name taken\n")
+    );
+    Ok(())
+}
