@@ -1,5 +1,5 @@
 -- What holds of a line, and the one order in which a refusal is chosen.
-use Rattle.std.specs.Prelude.{ℕ, Bool, true, false, List, [], ◌∷◌, Option, Some, None, is_none, option_map, if◌then◌else◌}
+use Rattle.std.specs.Prelude.{ℕ, Bool, true, false, List, Option, Some, None}
 use Rattle.std.specs.Option.{option_or}
 use Rattle.ark_base.specs.declared.refusal.Refusal.{Refusal}
 use Rattle.ark_base.specs.declared.refusal.Refusal.TheVariants as r

@@ -1,10 +1,10 @@
 -- A line that was served, and its reply put out: the part of the line.
-use Rattle.std.proofs.Common.{◌≡◌, ℕ, Bool, true, false, not, ◌&&◌, nat_eq, List, [], ◌∷◌, ◌++◌, refl, sym, ◌∙◌, ap, subst, append_assoc, append-nil, inl, inr, ◌==◌, bytes_eq}
-use Rattle.std.specs.Prelude.{◌⊎◌, Option, Some}
+use Rattle.std.proofs.Common.{◌≡◌, ℕ, Bool, true, false, nat_eq, List, [], ◌∷◌, ◌++◌, refl, sym, ◌∙◌, ap, subst, append-nil, inl, inr, bytes_eq}
+use Rattle.std.specs.Prelude.{◌⊎◌}
 use Rattle.ark_base.specs.declared.refusal.Refusal.TheVariants as r
-use Rattle.ark_media.specs.Journal.{Event, Out, History, output_of, device_events}
+use Rattle.ark_media.specs.Journal.{Event, Out, output_of, device_events}
 use Rattle.ark_media.specs.Calls.{Told, Puts, Rests}
-use Rattle.ark_media.specs.Parts.{ends_with_newline, is_closing, ends_reply, IsUnfinished, IsWhole}
+use Rattle.ark_media.specs.Parts.{ends_with_newline, ends_reply}
 use Rattle.ark_media.proofs.Parting.{whole_with, devices_unfinished, unfinished_then}
 use Rattle.ark_media.proofs.Composing.{device_events-put, output_of-put, devices_silent, told_before}
 use Rattle.ark_script.specs.Text.{text, reply_words, no_newline, wants_memory, IsSaid}
@@ -12,15 +12,13 @@ use Rattle.ark_script.specs.declared.said.Said.{Said}
 use Rattle.ark_script.specs.declared.said.Said.TheVariants as said
 use Rattle.ark_script.proofs.Lining.{clean_head, clean_tail}
 use Rattle.ark_script.proofs.Clean.{words_clean, text_ends, wants_text}
-use Rattle.ark_script.specs.Lines.{Meaning}
 use Rattle.ark_machine.specs.System.{System, Turn, turn}
 use Rattle.ark_machine.specs.Follow.{Performs, ends_of}
-use Rattle.ark_machine.specs.Replies.{turn_for, has_lacked, Answers, MayLack, IsBegun}
+use Rattle.ark_machine.specs.Replies.{turn_for, has_lacked, MayLack, IsBegun}
 use Rattle.ark_machine.proofs.Runs.{performs_devices}
 use Rattle.ark_host.specs.declared.host.Host.{Host}
-use Rattle.ark_host.specs.Stands.{Stands, Answered}
+use Rattle.ark_host.specs.Stands.{Stands}
 use Rattle.ark_host.proofs.Standing.{stands_rests}
-use Rattle.ark_host.proofs.Machines.{by_test}
 use Rattle.ark_cli.specs.Session.{ServesLine, IsAnswer, IsCut, AnswersLine}
 
 newline_last : (words : List ℕ) → ends_with_newline (words ++ 10 ∷ []) ≡ true

@@ -1,23 +1,21 @@
 -- The closing line after a run, and what the program did.
-use Rattle.std.proofs.Common.{◌≡◌, ℕ, ◌≤◌, Bool, true, false, List, [], ◌∷◌, ◌++◌, length, drop, refl, sym, ◌∙◌, ap, subst, append-nil, inl, inr, arith}
-use Rattle.std.specs.Prelude.{◌⊎◌, ◌↔◌, Option, Some}
+use Rattle.std.proofs.Common.{◌≡◌, ℕ, ◌≤◌, Bool, true, false, List, [], ◌∷◌, ◌++◌, length, drop, refl, sym, ◌∙◌, ap, subst, append-nil, inl, inr}
+use Rattle.std.specs.Prelude.{◌⊎◌, ◌↔◌}
 use Rattle.ark_base.specs.declared.status.Status.{Status}
 use Rattle.ark_base.specs.declared.status.Status.TheVariants.{Done, Usage, Source, Sink, Device, Memory, Damaged, Long}
-use Rattle.ark_media.specs.Journal.{Event, Out, History, device_events}
-use Rattle.ark_media.specs.Calls.{Told, Beside, Adds, Goes, Puts, KeepsAtPut, Rose, Tells}
+use Rattle.ark_media.specs.Journal.{Event, Out, device_events}
+use Rattle.ark_media.specs.Calls.{Told, Beside, Goes, Puts, KeepsAtPut, Rose}
 use Rattle.ark_media.specs.Going.{rose_later, adds_then}
 use Rattle.ark_media.specs.Parts.{Parts, parts, ends_reply}
 use Rattle.ark_media.proofs.Parting.{parts-more}
 use Rattle.ark_media.proofs.Composing.{device_events-append, goes_none, goes_put, goes_then, takes_none, takes_then, told_before}
 use Rattle.ark_script.specs.Lines.{lines_of}
 use Rattle.ark_script.specs.Text.{no_newline}
-use Rattle.ark_machine.specs.System.{System, fresh_system}
-use Rattle.ark_machine.specs.Replies.{Replies, Begins, system_after}
-use Rattle.ark_machine.specs.Confined.{Confined, BeginsConfined}
+use Rattle.ark_machine.specs.System.{fresh_system}
+use Rattle.ark_machine.specs.Replies.{Begins, system_after}
+use Rattle.ark_machine.specs.Confined.{BeginsConfined}
 use Rattle.ark_cli.specs.Words.{IsRun}
-use Rattle.ark_cli.specs.Line.{limit}
 use Rattle.ark_cli.specs.Opening.{SinceMake, BeginsFormat, IsUnmade}
-use Rattle.ark_cli.specs.Session.{IsAtEnd}
 use Rattle.ark_cli.proofs.Turning.{still_at_end}
 use Rattle.ark_cli.specs.Ending.{closing_words, Closes, HasRun, Ends, IsOpen, IsClosed, IsQuiet, IsRefused, RunsNew, Commands, Does, no_command, no_memory, no_device, runs, IsCause, IsUndamaged}
 use Rattle.ark_cli.proofs.Answering.{cut_line, clean_goes_on}

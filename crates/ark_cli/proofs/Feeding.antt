@@ -1,17 +1,17 @@
 -- What is fed goes on.
-use Rattle.std.proofs.Common.{◌≡◌, ℕ, Bool, true, false, nat_eq, ◌+◌, ◌<◌, ◌≤◌, List, [], ◌∷◌, ◌++◌, length, take, drop, get_or, refl, sym, ◌∙◌, ap, subst, append_assoc, append-nil, length-append, arith, inl, inr}
+use Rattle.std.proofs.Common.{◌≡◌, ℕ, Bool, true, false, nat_eq, ◌+◌, ◌<◌, List, [], ◌∷◌, ◌++◌, length, take, drop, get_or, refl, sym, ◌∙◌, ap, subst, append_assoc, append-nil, length-append, arith, inl, inr}
 use Rattle.std.proofs.lemmas.List.{take_more, take-append-drop}
-use Rattle.std.specs.Prelude.{◌⊎◌, Option, Some}
+use Rattle.std.specs.Prelude.{◌⊎◌, Some}
 use Rattle.ark_media.specs.Journal.{Event, History, device_events}
-use Rattle.ark_media.specs.Calls.{Told, Adds, Tells, Rests}
-use Rattle.ark_media.specs.Parts.{IsUnfinished, IsWhole, EachIsWhole, joined}
+use Rattle.ark_media.specs.Calls.{Told, Adds, Rests}
+use Rattle.ark_media.specs.Parts.{joined}
 use Rattle.ark_media.proofs.Parting.{joined-more, whole_more}
 use Rattle.ark_media.proofs.Composing.{told_before}
-use Rattle.ark_script.specs.Lines.{Meaning, Says, EachSays, EachClean, lines_of, ended, newlines}
+use Rattle.ark_script.specs.Lines.{Meaning, lines_of, ended, newlines}
 use Rattle.ark_script.specs.Text.{no_newline}
 use Rattle.ark_script.proofs.Lining.{clean_more, lines_of-line, lines_of-last, lines_of-ended, ended-more, each_clean_more, newlines-ended, each_says_more, each_says_count}
 use Rattle.ark_machine.specs.System.{System}
-use Rattle.ark_machine.specs.Replies.{turn_for, system_after, Answers, EachAnswers, IsBegun, Begins, Replies}
+use Rattle.ark_machine.specs.Replies.{system_after, EachAnswers, IsBegun, Begins, Replies}
 use Rattle.ark_machine.proofs.Runs.{each_more, system_after-more, replies_of, begins_none}
 use Rattle.ark_host.specs.declared.host.Host.{Host}
 use Rattle.ark_host.specs.Stands.{Stands}

@@ -1,18 +1,18 @@
 -- What is told since a device was made, and how the opening ends.
 use Rattle.std.proofs.Common.{◌≡◌, ℕ, ◌≤◌, Bool, true, false, List, [], ◌∷◌, ◌++◌, refl, sym, ◌∙◌, ap, subst, inl, inr, arith, rules}
 use Rattle.std.proofs.Math.Nat.{le_trans}
-use Rattle.std.specs.Prelude.{◌⊎◌, Option, Some, IfSome, Ok, Err}
-use Rattle.ark_base.specs.declared.status.Status.TheVariants.{Device, Sink}
+use Rattle.std.specs.Prelude.{◌⊎◌, IfSome, Ok, Err}
+use Rattle.ark_base.specs.declared.status.Status.TheVariants.{Sink}
 use Rattle.ark_media.specs.Journal.{Event, Out, History, onto, fresh}
 use Rattle.ark_media.specs.Calls.{Told, Beside, Goes, KeepsAtAttach, KeepsAtPut, Keeps, Makes, Puts, Tells}
 use Rattle.ark_media.specs.Going.{onto-append}
 use Rattle.ark_media.specs.Parts.{IsUnfinished}
 use Rattle.ark_media.proofs.Composing.{takes_none, takes_then, goes_kept, goes_put}
-use Rattle.ark_script.specs.Text.{text, reply_words, no_newline}
+use Rattle.ark_script.specs.Text.{text, reply_words}
 use Rattle.ark_script.specs.declared.said.Said.TheVariants.{Ready}
 use Rattle.ark_script.proofs.Clean.{words_clean}
 use Rattle.ark_table.specs.Superblock.{format_calls}
-use Rattle.ark_cli.specs.Opening.{SinceMake, IsReady, IsUnshown, Opens}
+use Rattle.ark_cli.specs.Opening.{SinceMake, Opens}
 use Rattle.ark_cli.proofs.Answering.{cut_line, clean_goes_on, all_put}
 
 same_history : (b c : List (List ℕ)) (j k : List Event) → b ≡ c → j ≡ k → ◌≡◌ {A = History} (record { base = b; journal = j }) (record { base = c; journal = k })

@@ -1,10 +1,10 @@
 -- A run from its opening to its end, before the closing line.
-use Rattle.std.proofs.Common.{◌≡◌, ℕ, ◌+◌, ◌≤◌, Bool, true, false, List, [], ◌∷◌, ◌++◌, length, refl, sym, ◌∙◌, ap, subst, append-nil, inl, inr, arith}
-use Rattle.std.specs.Prelude.{◌⊎◌, Option, Some}
+use Rattle.std.proofs.Common.{◌≡◌, ℕ, ◌+◌, true, false, List, [], ◌∷◌, ◌++◌, length, refl, sym, ◌∙◌, ap, subst, append-nil, inl, inr, arith}
+use Rattle.std.specs.Prelude.{◌⊎◌, Some}
 use Rattle.ark_base.specs.declared.status.Status.{Status}
 use Rattle.ark_base.specs.declared.status.Status.TheVariants.{Done, Usage, Source, Sink, Device, Memory, Damaged, Long}
-use Rattle.ark_media.specs.Journal.{Event, Out, History, output_of, device_events}
-use Rattle.ark_media.specs.Calls.{Told, Beside, Goes, Makes, Rose}
+use Rattle.ark_media.specs.Journal.{Event, Out, History, device_events}
+use Rattle.ark_media.specs.Calls.{Told, Beside, Makes}
 use Rattle.ark_media.specs.Going.{rose_from}
 use Rattle.ark_media.specs.Parts.{Parts, parts, IsWhole, IsUnfinished, joined}
 use Rattle.ark_media.proofs.Parting.{parts-unfinished, parts-whole, parts-joined, unfinished_then, whole_with, devices_unfinished}
@@ -19,9 +19,9 @@ use Rattle.ark_machine.specs.Replies.{Replies}
 use Rattle.ark_machine.proofs.Confining.{confined_of}
 use Rattle.ark_host.specs.declared.host.Host.{Host}
 use Rattle.ark_host.specs.Stands.{Stands}
-use Rattle.ark_cli.specs.Line.{limit, within_limit}
-use Rattle.ark_cli.specs.Session.{Replied, Stopped, Ended, Ran, IsFault, IsScriptEnd}
-use Rattle.ark_cli.specs.Opening.{SinceMake, IsOpening, BeginsFormat, IsReady, IsUnformatted, IsUnshown, OpensNot, IsUnmade}
+use Rattle.ark_cli.specs.Line.{within_limit}
+use Rattle.ark_cli.specs.Session.{Stopped, Ended, Ran, IsScriptEnd}
+use Rattle.ark_cli.specs.Opening.{SinceMake, IsOpening, IsReady, IsUnformatted, IsUnshown, OpensNot}
 use Rattle.ark_cli.specs.Ending.{HasRun, Ends, IsOpen, RunsNew, IsCause}
 use Rattle.ark_cli.proofs.Answering.{reply_ends}
 use Rattle.ark_cli.proofs.Opened.{since_then}

@@ -5,7 +5,7 @@ use Rattle.ark_base.specs.declared.refusal.Refusal.{Refusal}
 use Rattle.ark_base.specs.declared.refusal.Refusal.TheVariants.{TooLong}
 use Rattle.ark_media.specs.Journal.{Event}
 use Rattle.ark_media.specs.Calls.{Told}
-use Rattle.ark_script.specs.Lines.{Line, Meaning, Says, max_line}
+use Rattle.ark_script.specs.Lines.{Line, Says, max_line}
 use Rattle.ark_script.specs.declared.said.Said.{Said}
 use Rattle.ark_script.specs.declared.said.Said.TheVariants.{Refused}
 use Rattle.ark_machine.specs.System.{System}

@@ -1,20 +1,19 @@
 -- One fetch after another.
-use Rattle.std.proofs.Common.{◌≡◌, ℕ, Bool, true, false, ◌+◌, ◌-◌, ◌<◌, ◌≤◌, min, List, [], ◌∷◌, ◌++◌, length, take, refl, sym, ◌∙◌, ap, subst, append_assoc, append-nil, arith, rules, length-append, inl, inr}
+use Rattle.std.proofs.Common.{◌≡◌, ℕ, true, false, ◌+◌, ◌≤◌, List, [], ◌++◌, length, take, refl, sym, ◌∙◌, ap, subst, append-nil, arith, rules, length-append, inl, inr}
 use Rattle.std.proofs.lemmas.List.{length-take}
-use Rattle.std.specs.Prelude.{Option, Some, Result, Ok, Err, ◌⊎◌}
+use Rattle.std.specs.Prelude.{Option, Ok, Err, ◌⊎◌}
 use Rattle.ark_base.specs.declared.status.Status.{Status}
 use Rattle.ark_base.specs.declared.status.Status.TheVariants.{Done, Usage, Source, Sink, Device, Memory, Damaged, Long}
 use Rattle.ark_media.specs.Journal.{Event}
 use Rattle.ark_media.specs.Calls.{Told, Beside, Script, Rests, Goes, Takes, StillTold, Fetches, KeepsAtFetch}
-use Rattle.ark_media.proofs.Composing.{still_none, takes_none, takes_fetched, goes_none, goes_fetched, goes_then}
-use Rattle.ark_script.specs.Lines.{newlines, lines_of}
+use Rattle.ark_media.proofs.Composing.{takes_none, takes_fetched, goes_none, goes_fetched, goes_then}
+use Rattle.ark_script.specs.Lines.{newlines}
 use Rattle.ark_machine.specs.System.{System}
 use Rattle.ark_host.specs.declared.host.Host.{Host}
-use Rattle.ark_host.specs.Stands.{Stands}
 use Rattle.ark_cli.specs.Line.{limit, within_limit}
 use Rattle.ark_cli.specs.Session.{Acts, Fed, Replied, Stopped, Ended, Feeds, Finishes, IsAtEnd, IsFault, Turns, Going, Ran, is_done}
 use Rattle.ark_cli.proofs.Kept.{within_limit-more}
-use Rattle.ark_cli.proofs.Feeding.{fed_first, fed_rests, fed_stopped, stopped_replied}
+use Rattle.ark_cli.proofs.Feeding.{fed_first, fed_rests, fed_stopped}
 
 -- the lines whose newline came were answered, and nothing else came
 source_ended : (s : System) (fed : List ℕ) (added : List Event) (host : Host) (told : Told) (line : List ℕ) → Fed s fed added host told line → Ended s (fed ++ []) (added ++ []) told Source

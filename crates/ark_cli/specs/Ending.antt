@@ -1,10 +1,10 @@
 -- What the program does, and how it ends.
-use Rattle.std.specs.Prelude.{◌≡◌, ◌⊎◌, ◌≤◌, ◌+◌, ℕ, List, [], ◌∷◌, ◌++◌, length, codes, decimal, Option, Some}
+use Rattle.std.specs.Prelude.{◌≡◌, ◌⊎◌, ◌≤◌, ◌+◌, ℕ, List, [], ◌∷◌, ◌++◌, length, codes, decimal, Some}
 use Rattle.ark_base.specs.declared.status.Status.{Status}
 use Rattle.ark_base.specs.declared.status.Status.TheVariants.{Done, Usage, Source, Sink, Device, Memory, Damaged, Long}
 use Rattle.ark_media.specs.Journal.{Event, Out, History, output_of, device_events}
 use Rattle.ark_media.specs.Calls.{Told, Beside, Adds, Takes, Rose, Goes}
-use Rattle.ark_media.specs.Parts.{Parts, parts}
+use Rattle.ark_media.specs.Parts.{parts}
 use Rattle.ark_script.specs.Lines.{lines_of, newlines}
 use Rattle.ark_machine.specs.System.{fresh_system}
 use Rattle.ark_machine.specs.Replies.{Replies}

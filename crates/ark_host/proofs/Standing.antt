@@ -3,10 +3,10 @@ use Rattle.std.proofs.Common.{◌≡◌, ℕ, Bool, true, false, ◌<◌, ◌≤
 use Rattle.std.proofs.lemmas.Bool.Decides.{nat_tests}
 use Rattle.std.proofs.Math.Bool.{or-true, or-false}
 use Rattle.std.specs.List.{list_any}
-use Rattle.std.specs.Prelude.{Option, Some, None, Ok, Err, unwrap_or}
+use Rattle.std.specs.Prelude.{Option, Ok, Err, unwrap_or}
 use Rattle.ark_base.specs.declared.refusal.Refusal.{Refusal}
 use Rattle.ark_base.specs.declared.refusal.Refusal.TheVariants as r
-use Rattle.ark_media.specs.Journal.{Event, History, device_events}
+use Rattle.ark_media.specs.Journal.{Event, device_events}
 use Rattle.ark_media.specs.Calls.{Told, Rests}
 use Rattle.ark_script.specs.Lines as w
 use Rattle.ark_script.specs.Lines.{Line, Says}
@@ -18,13 +18,13 @@ use Rattle.ark_script.specs.declared.said.Said.TheVariants as said
 use Rattle.ark_machine.specs.Machine.{Machine}
 use Rattle.ark_machine.specs.Row.{Row, says}
 use Rattle.ark_machine.specs.Step.{step, usual_frames}
-use Rattle.ark_machine.specs.Plane.{recorded, max_apps}
-use Rattle.ark_machine.specs.System.{System, machine_of, fresh_system, own_turn}
-use Rattle.ark_machine.specs.Follow.{ended, ends_of}
+use Rattle.ark_machine.specs.Plane.{max_apps}
+use Rattle.ark_machine.specs.System.{System, machine_of, fresh_system}
+use Rattle.ark_machine.specs.Follow.{ended}
 use Rattle.ark_machine.specs.Replies.{MayLack}
 use Rattle.ark_host.specs.declared.host.Host.{Host}
 use Rattle.ark_host.specs.Stands.{Stands, Turned, Answered, app_row}
-use Rattle.ark_host.proofs.Machines.{by_test, bytes_eq-same, set_machine-same, listed_machine-set, list_any-more}
+use Rattle.ark_host.proofs.Machines.{by_test, set_machine-same, listed_machine-set, list_any-more}
 
 -- nothing is granted
 pub fresh_stands : (host : Host) (told : Told) → host.apps.items ≡ [] → Stands host told (fresh_system told.blocks)

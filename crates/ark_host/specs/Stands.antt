@@ -1,5 +1,5 @@
 -- What the host stands for, and what its functions promise.
-use Rattle.std.specs.Prelude.{◌≡◌, ℕ, Bool, true, List, [], Option, Some, None, Ok, unwrap_or, bytes_eq}
+use Rattle.std.specs.Prelude.{◌≡◌, ℕ, true, List, [], Option, Some, unwrap_or, bytes_eq}
 use Rattle.std.specs.List.{list_any}
 use Rattle.ark_media.specs.Journal.{Event, History}
 use Rattle.ark_media.specs.Calls.{Told}
@@ -11,7 +11,7 @@ use Rattle.ark_machine.specs.Row.{Row}
 use Rattle.ark_machine.specs.Control as control
 use Rattle.ark_machine.specs.Step.{usual_frames}
 use Rattle.ark_machine.specs.Plane.{recorded}
-use Rattle.ark_machine.specs.System.{System, machine_of, Turn, turn, own_turn}
+use Rattle.ark_machine.specs.System.{System, machine_of, turn, own_turn}
 use Rattle.ark_machine.specs.Follow.{Follow, Performs, ends_of}
 use Rattle.ark_machine.specs.Replies.{MayLack}
 use Rattle.ark_host.specs.declared.host.Host.{Host}

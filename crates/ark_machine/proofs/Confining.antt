@@ -1,10 +1,10 @@
 -- What follows a line's calls touches only what the line may touch: the law that carries confinement for every word.
-use Rattle.std.proofs.Common.{◌≡◌, ◌⊎◌, inl, inr, ℕ, zero, suc, Bool, true, false, List, [], ◌∷◌, ◌++◌, length, drop, refl, sym, ◌∙◌, ap, subst, arith}
-use Rattle.std.specs.Prelude.{IsTrue, Option, Some, None, Ok, Err, unwrap_or}
+use Rattle.std.proofs.Common.{◌≡◌, inl, inr, ℕ, Bool, true, false, List, [], ◌∷◌, ◌++◌, length, drop, refl, sym, subst, arith}
+use Rattle.std.specs.Prelude.{Option, Some, None, Ok, Err, unwrap_or}
 use Rattle.std.specs.List.{AllByRecursion}
 use Rattle.ark_base.specs.declared.refusal.Refusal.{Refusal}
 use Rattle.ark_base.specs.Conditions.{Conditions, none, early, late}
-use Rattle.ark_media.specs.Journal.{Event, Read, Write, Sync, Out, has_succeeded, device_events}
+use Rattle.ark_media.specs.Journal.{Event, has_succeeded, device_events}
 use Rattle.ark_script.specs.Lines as w
 use Rattle.ark_script.specs.Lines.{Line, Meaning, Says}
 use Rattle.ark_machine.specs.Machine.{Machine}
@@ -12,10 +12,10 @@ use Rattle.ark_machine.specs.Row.{Row, Call, Ended, Given, says, unless_refused,
 use Rattle.ark_machine.specs.Control.{app}
 use Rattle.ark_script.specs.declared.said.Said.TheVariants as said
 use Rattle.ark_machine.specs.Step.{step, usual_frames}
-use Rattle.ark_machine.specs.System.{System, machine_of, turn, Turn}
+use Rattle.ark_machine.specs.System.{System, machine_of, turn}
 use Rattle.ark_machine.specs.Plane.{recorded}
 use Rattle.ark_machine.specs.Follow.{Makes, Follow, ended, fails, goes_on, again, passes, Performs, ends_of}
-use Rattle.ark_machine.specs.Replies.{turn_for, system_after, has_lacked, Answers, EachAnswers, IsBegun, Begins, Replies}
+use Rattle.ark_machine.specs.Replies.{turn_for, system_after, has_lacked, EachAnswers, Begins, Replies}
 use Rattle.ark_machine.specs.Confined.{IsAllowed, AllAllowed, EndsAtFailure, IsConfined, EachConfined, BeginsConfined, Confined}
 
 -- whatever event makes the call is allowed

@@ -1,5 +1,5 @@
 -- Worked rows: scripts of the composed run, evaluated.
-use Rattle.std.specs.Prelude.{◌≡◌, ◌⊎◌, ℕ, Bool, true, false, List, [], ◌∷◌, ◌++◌, codes, Option, Some, None, refl, Ok, Err}
+use Rattle.std.specs.Prelude.{◌≡◌, ℕ, Bool, true, false, List, [], ◌∷◌, ◌++◌, codes, None, refl, Ok, Err}
 use Rattle.std.proofs.Common.{lit≤, inl, inr, ap, get_or, arith}
 use Rattle.ark_base.specs.declared.refusal.Refusal.TheVariants as r
 use Rattle.ark_media.specs.Journal.{Event, Write, Sync, Out}

@@ -1,5 +1,5 @@
 -- Which blocks a line may touch, by the grants that are held before it.
-use Rattle.std.specs.Prelude.{◌≡◌, ◌⊎◌, ℕ, Bool, true, false, List, [], ◌∷◌, length, drop, Ok, Err, Contains, IsTrue}
+use Rattle.std.specs.Prelude.{◌≡◌, ◌⊎◌, ℕ, Bool, false, List, [], ◌∷◌, length, drop, Ok, Err, Contains, IsTrue}
 use Rattle.ark_media.specs.Journal.{Event, Read, Write, Sync, Out, has_succeeded, device_events}
 use Rattle.ark_script.specs.Lines as w
 use Rattle.ark_script.specs.Lines.{Line, Meaning, Says, FirstSay}

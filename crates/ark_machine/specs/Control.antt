@@ -1,6 +1,6 @@
 -- The rows of the words that grant.
-use Rattle.std.specs.Prelude.{ℕ, Bool, true}
-use Rattle.ark_base.specs.Conditions.{Conditions, none}
+use Rattle.std.specs.Prelude.{ℕ, true}
+use Rattle.ark_base.specs.Conditions.{none}
 use Rattle.ark_script.specs.declared.said.Said.TheVariants as said
 use Rattle.ark_machine.specs.Machine.{Machine}
 use Rattle.ark_machine.specs.Row.{Row, Given, says, answer}

@@ -1,7 +1,7 @@
 -- How device events follow a line's calls.
 use Rattle.std.specs.Prelude.{◌≡◌, ℕ, Bool, true, false, List, [], ◌∷◌, map, Option, Some, None, slice_get, Ok, Err, Contains}
 use Rattle.ark_media.specs.Journal.{Event, Read, Write, Sync, Out, has_succeeded}
-use Rattle.ark_script.specs.Lines.{Line, Meaning}
+use Rattle.ark_script.specs.Lines.{Meaning}
 use Rattle.ark_machine.specs.Row
 use Rattle.ark_machine.specs.Row.{Call, Ended, reading, writing, syncing}
 use Rattle.ark_machine.specs.Plane.{blocks_at}

@@ -1,5 +1,5 @@
 -- The control plane: what is granted, as sets and lists of names and blocks.
-use Rattle.std.specs.Prelude.{◌≡◌, ℕ, Bool, true, false, ◌&&◌, ◌++◌, List, [], ◌∷◌, length, nat_le, Option, Some, None, find, option_map, unwrap_or, bytes_eq}
+use Rattle.std.specs.Prelude.{ℕ, Bool, ◌&&◌, ◌++◌, List, [], ◌∷◌, length, nat_le, find, option_map, unwrap_or, bytes_eq}
 use Rattle.ark_base.specs.declared.kind.Kind.{Kind}
 use Rattle.ark_script.specs.Lines as w
 use Rattle.ark_script.specs.Lines.{Line}

@@ -1,5 +1,5 @@
 -- The control plane with the machines of all applications, and what one line does to them.
-use Rattle.std.specs.Prelude.{ℕ, Bool, false, List, [], ◌∷◌, Option, Some, None, option_map, find, unwrap_or, if◌then◌else◌, bytes_eq, Ok, Err}
+use Rattle.std.specs.Prelude.{ℕ, Bool, List, [], ◌∷◌, Option, Some, None, option_map, find, unwrap_or, if◌then◌else◌, bytes_eq, Ok, Err}
 use Rattle.ark_script.specs.Lines as w
 use Rattle.ark_script.specs.Lines.{Line, Meaning}
 use Rattle.ark_script.specs.declared.said.Said.{Said}

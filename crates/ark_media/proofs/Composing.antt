@@ -1,10 +1,10 @@
 -- Calls of an outside one after another: what it tells then.
-use Rattle.std.proofs.Common.{◌≡◌, ◌⊎◌, inl, inr, ℕ, ◌≤◌, Bool, true, false, List, [], ◌∷◌, ◌++◌, length, take, refl, sym, ◌∙◌, ap, subst, append_assoc, append-nil, arith}
+use Rattle.std.proofs.Common.{◌≡◌, inl, inr, ℕ, ◌≤◌, List, [], ◌∷◌, ◌++◌, take, refl, sym, ◌∙◌, ap, subst, append_assoc, append-nil, arith}
 use Rattle.std.specs.Prelude.{Option, Some}
 use Rattle.std.proofs.Math.Nat.{le_refl, le_trans}
-use Rattle.ark_media.specs.Journal.{Event, Read, Write, Sync, Out, History, onto, output_of, device_events, HasFailed, has_succeeded}
-use Rattle.ark_media.specs.Calls.{Script, Told, Beside, Tells, Rests, Adds, StillTold, Takes, Fetches, Rose, Goes, Keeps, KeepsAtFetch, KeepsAtPut, Call, Makes, Comes, Reads, Writes, Syncs, Went}
-use Rattle.ark_media.specs.Going.{tells_none, tells_then, adds_none}
+use Rattle.ark_media.specs.Journal.{Event, Read, Write, Sync, Out, History, output_of, device_events, HasFailed}
+use Rattle.ark_media.specs.Calls.{Script, Told, Beside, Tells, Rests, Adds, StillTold, Takes, Fetches, Goes, Keeps, KeepsAtFetch, KeepsAtPut}
+use Rattle.ark_media.specs.Going.{tells_none, tells_then}
 
 pub output_of-append : (xs ys : List Event) → output_of (xs ++ ys) ≡ output_of xs ++ output_of ys
 output_of-append [] ys = refl

@@ -1,7 +1,7 @@
 -- How events fall into parts.
-use Rattle.std.proofs.Common.{◌≡◌, ℕ, Bool, true, false, List, [], ◌∷◌, ◌++◌, refl, sym, ◌∙◌, ap, subst, append_assoc, append-nil}
+use Rattle.std.proofs.Common.{◌≡◌, Bool, true, false, List, [], ◌∷◌, ◌++◌, refl, sym, ◌∙◌, ap, subst, append_assoc, append-nil}
 use Rattle.ark_media.specs.Journal.{Event, Read, Write, Sync, Out, device_events}
-use Rattle.ark_media.specs.Parts.{Parts, parts, with_front, into_first, ends_reply, IsUnfinished, IsWhole, EachIsWhole, joined}
+use Rattle.ark_media.specs.Parts.{Parts, parts, with_front, ends_reply, IsUnfinished, IsWhole, EachIsWhole, joined}
 
 pub parts-unfinished : (es : List Event) → IsUnfinished es → parts es ≡ record { whole = []; unfinished = es }
 parts-unfinished [] h = refl

@@ -1,6 +1,6 @@
 -- Plans of device calls: how they are joined, and what a failed one says.
-use Rattle.std.proofs.Common.{◌≡◌, ◌⊎◌, inl, inr, ℕ, Bool, true, false, List, [], ◌∷◌, ◌++◌, refl, sym, ◌∙◌, ap, subst}
-use Rattle.ark_media.specs.Journal.{Event, Read, Write, Sync, Out, HasFailed, output_of, device_events}
+use Rattle.std.proofs.Common.{◌≡◌, inl, inr, Bool, true, false, List, [], ◌∷◌, ◌++◌, refl, sym, ◌∙◌, ap, subst}
+use Rattle.ark_media.specs.Journal.{Event, HasFailed, device_events}
 use Rattle.ark_media.specs.Calls.{Call, Reads, Writes, Syncs, Comes, Makes, Went}
 
 -- calls made after others

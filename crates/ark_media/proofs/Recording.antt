@@ -1,8 +1,8 @@
 -- One more event of a device in memory.
 use Rattle.std.proofs.Common.{◌≡◌, ℕ, zero, suc, ◌+◌, ◌-◌, ◌*◌, ◌%◌, ◌<◌, ◌≤◌, Bool, true, false, List, [], ◌∷◌, ◌++◌, length, take, drop, set, replicate, refl, sym, ◌∙◌, ap, subst, arith}
-use Rattle.std.proofs.lemmas.List.{length-set, length-replicate, take-append-le, take_all}
+use Rattle.std.proofs.lemmas.List.{length-replicate, take-append-le, take_all}
 use Rattle.std.specs.Prelude.{Result, Ok, Err, OnErr, is_ok, if◌then◌else◌}
-use Rattle.ark_media.specs.Journal.{Event, Read, Write, Sync, Out, onto, block, current, zero_block}
+use Rattle.ark_media.specs.Journal.{Event, Read, Write, onto, block, current, zero_block}
 use Rattle.ark_media.specs.Blocks.{blocks_of, flat, AllWhole}
 use Rattle.ark_media.specs.Memory.{Reel, Taped, begun, reel_of}
 use Rattle.ark_media.specs.Going.{onto-append}

@@ -1,9 +1,9 @@
 -- Events that are kept go on: what was kept stands for the same.
-use Rattle.std.proofs.Common.{◌≡◌, ℕ, zero, suc, Bool, ◌+◌, ◌-◌, ◌<◌, ◌≤◌, List, [], ◌∷◌, ◌++◌, length, take, drop, get_or, map, refl, sym, ◌∙◌, ap, subst, arith, append-nil, append_assoc, length-append, length-drop}
+use Rattle.std.proofs.Common.{◌≡◌, ℕ, zero, suc, Bool, ◌+◌, ◌-◌, ◌<◌, ◌≤◌, List, [], ◌∷◌, ◌++◌, length, take, drop, get_or, map, refl, sym, ◌∙◌, ap, subst, arith, append-nil, length-append, length-drop}
 use Rattle.std.proofs.lemmas.List.{length-map, drop-append-le, take-append-le, take_all, map-append}
 use Rattle.std.proofs.Math.ListN.{get_or-append}
 use Rattle.std.proofs.Math.Seq.{drop-append_seam, get_or-append_seam}
-use Rattle.ark_media.specs.Journal.{Event, Read, Write, Sync, Out, output_of}
+use Rattle.ark_media.specs.Journal.{Event, Write, Out, output_of}
 use Rattle.ark_media.proofs.Composing.{output_of-append}
 use Rattle.ark_media.specs.declared.tape.Kept.{Kept}
 use Rattle.ark_media.specs.declared.tape.Kept.TheVariants as kept

@@ -1,8 +1,8 @@
 -- How what is told goes on: the laws that every implementation of the outside cites, written out.
-use Rattle.std.proofs.Common.{◌≡◌, ◌⊎◌, inl, inr, ⊎_elim, ℕ, ◌+◌, ◌-◌, ◌^◌, ◌≤◌, min, Bool, true, false, List, [], ◌∷◌, ◌++◌, length, refl, sym, ◌∙◌, ap, subst, append_assoc}
+use Rattle.std.proofs.Common.{◌≡◌, ◌⊎◌, inl, inr, ⊎_elim, ℕ, ◌+◌, ◌-◌, ◌^◌, ◌≤◌, List, [], ◌∷◌, ◌++◌, refl, sym, ◌∙◌, ap}
 use Rattle.std.proofs.Math.Nat.{le_refl, le_trans, le-min, min-le_left, min-le_right, add-le-add}
-use Rattle.std.specs.Prelude.{Option, Some, None}
-use Rattle.ark_media.specs.Journal.{Event, Read, Write, Sync, Out, History, onto, HasFailed, has_succeeded}
+use Rattle.std.specs.Prelude.{Option}
+use Rattle.ark_media.specs.Journal.{Event, History, onto, HasFailed}
 use Rattle.ark_media.specs.Calls.{Told, Tells, Adds, Rose, Beside, Keeps, Moves}
 
 pub onto-append : (xs ys j : List Event) → onto (xs ++ ys) j ≡ onto ys (onto xs j)

@@ -1,5 +1,5 @@
 -- The lines of a script that comes in pieces.
-use Rattle.std.proofs.Common.{◌≡◌, ℕ, ◌+◌, Bool, true, false, not, ◌&&◌, nat_eq, List, [], ◌∷◌, ◌++◌, length, refl, sym, ◌∙◌, ap, append_assoc, append-nil, arith, length-append}
+use Rattle.std.proofs.Common.{◌≡◌, ℕ, ◌+◌, Bool, true, false, not, ◌&&◌, nat_eq, List, [], ◌∷◌, ◌++◌, length, refl, sym, ◌∙◌, ap, append_assoc, arith}
 use Rattle.ark_script.specs.Lines.{begin_first, lines_of, ended, EachClean, newlines, Meaning, Says, EachSays, FirstSay}
 use Rattle.ark_script.specs.Text.{no_newline}
 

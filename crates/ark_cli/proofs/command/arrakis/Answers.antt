@@ -1,8 +1,5 @@
-use Rattle.std.proofs.Common.{subst}
 use Rattle.std.specs.Prelude.{map, string_bytes}
-use Rattle.ark_base.specs.declared.status.Status.{Status}
-use Rattle.ark_cli.specs.Ending.{IsCause}
-use Rattle.ark_cli.proofs.Closing.{does, undamaged, usage_exact, cause_closed}
+use Rattle.ark_cli.proofs.Closing.{does, undamaged}
 use Rattle.ark_cli.proofs.command.arrakis.Goals as goal
 
 pub close-requires : goal.close-requires

@@ -1,8 +1,8 @@
-use Rattle.std.proofs.Common.{◌≡◌, ◌<◌, ◌+◌, ◌∷◌, ◌++◌, [], length, true, false, refl, sym, ◌∙◌, ap, subst, take, drop, get_or, arith}
+use Rattle.std.proofs.Common.{◌<◌, ◌+◌, ◌∷◌, ◌++◌, [], length, true, false, refl, sym, subst, take, drop, get_or, arith}
 use Rattle.std.proofs.lemmas.Result.{err_from_is_err_and}
 use Rattle.std.proofs.lemmas.List.{take_more, take_all}
 use Rattle.ark_media.proofs.Composing.{goes_none, goes_then}
-use Rattle.ark_cli.specs.Session.{Acts, Feeds}
+use Rattle.ark_cli.specs.Session.{Feeds}
 use Rattle.ark_cli.proofs.Feeding.{feeds_none, feeds_then, feeds_cut, split_at}
 use Rattle.ark_cli.proofs.script.run_bytes.Goals as goal
 

@@ -1,4 +1,4 @@
-use Rattle.std.proofs.Common.{◌≡◌, ℕ, List, true, take}
+use Rattle.std.proofs.Common.{ℕ, List, true, take}
 use Rattle.ark_media.specs.Journal.{Event}
 use Rattle.ark_machine.specs.System.{System}
 use Rattle.ark_cli.specs.Session.{Acts, Fed, Feeds}

@@ -1,5 +1,4 @@
 use Rattle.std.proofs.Common.{◌≡◌, ◌+◌, length, take, subst, inl, inr, arith, rules}
-use Rattle.std.specs.Prelude.{◌⊎◌}
 use Rattle.std.proofs.lemmas.List.{length-take}
 use Rattle.ark_media.specs.Calls.{Fetches}
 use Rattle.ark_media.proofs.Composing.{takes_fetched, takes_none, still_none}

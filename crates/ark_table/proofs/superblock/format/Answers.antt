@@ -1,7 +1,6 @@
-use Rattle.std.proofs.Common.{[], ◌∷◌, is_ok, subst}
-use Rattle.ark_media.specs.Calls.{Went, Writes, Syncs}
+use Rattle.std.proofs.Common.{[], ◌∷◌, is_ok}
+use Rattle.ark_media.specs.Calls.{Writes, Syncs}
 use Rattle.ark_media.proofs.Planning.{went_then}
-use Rattle.ark_table.specs.Superblock.{superblock, format_calls}
 use Rattle.ark_table.proofs.superblock.format.Goals as goal
 
 pub returns : goal.returns

@@ -1,4 +1,4 @@
-use Rattle.std.proofs.Common.{sym, ◌∙◌, arith, rules}
+use Rattle.std.proofs.Common.{rules}
 use Rattle.ark_host.proofs.Standing.{app_taken, app_limited, app_lacking, app_made}
 use Rattle.ark_host.proofs.host.Host.make_app.Goals as goal
 
