@@ -1,5 +1,8 @@
-use crate::runs::run;
+use crate::one_byte::OneByte;
+use crate::runs::{run, words_of};
 use ark_base::Status;
+use ark_cli::arrakis;
+use ark_media::MemoryWorld;
 use std::test::Fail;
 
 // Scripts, and the replies behind the line of the device.
@@ -60,5 +63,37 @@ fn makes_sixteen_applications(rt: HostRuntime) -> Result<(), Fail> {
             .out()
             .ends_with(b"ok\nok\nrefused 7 limit\nrefused 4 name taken\n")
     );
+    Ok(())
+}
+
+// A script that comes one byte at a time has the same replies.
+#[test]
+fn answers_alike_byte_by_byte(rt: HostRuntime) -> Result<(), Fail> {
+    let script = b"app a\n\napp a\nfrob\napp b";
+    let whole = run(rt.alloc(), script, &[])?;
+    let words = words_of(rt.alloc(), &["run", "--new", "200", "d"])?;
+    let inner = MemoryWorld::new(rt.alloc(), b"", 400, script, &[], 100, 2000)?;
+    let mut world = OneByte { inner };
+    let status = arrakis(rt.alloc(), &words, &mut world);
+    assert_eq!(rt; status, Status::Done);
+    assert_eq!(rt; world.inner.out(), whole.world.out());
+    Ok(())
+}
+
+// A line of one byte, for each byte: none is a word, and the newline makes two empty lines.
+#[test]
+fn refuses_each_byte(rt: HostRuntime) -> Result<(), Fail> {
+    let mut script = Vec::new(rt.alloc());
+    let mut replies = Vec::from_slice(rt.alloc(), b"ready 200 0\n")?;
+    for byte in 0..=255u8 {
+        script.extend_from_slice(&[byte, b'\n'])?;
+        replies.extend_from_slice(b"refused 2 unknown word\n")?;
+    }
+    replies.extend_from_slice(b"refused 2 unknown word\n")?;
+    let words = words_of(rt.alloc(), &["run", "--new", "200", "d"])?;
+    let mut world = MemoryWorld::new(rt.alloc(), b"", 400, &script, &[], 400, 8000)?;
+    let status = arrakis(rt.alloc(), &words, &mut world);
+    assert_eq!(rt; status, Status::Done);
+    assert_eq!(rt; world.out(), replies.as_slice());
     Ok(())
 }
