@@ -45,6 +45,41 @@ fn ends_as_each_call_fails(rt: HostRuntime) -> Result<(), Failure> {
     Ok(())
 }
 
+// A put that fails lets out each part of its line that there may be, and nothing comes after it.
+#[test]
+fn lets_out_each_part(rt: HostRuntime) -> Result<(), Failure> {
+    let ready = b"ready 200 0\n";
+    let ok = b"ready 200 0\nok\n";
+    for part in 0..=16u32 {
+        let shown = ready.len().min(part as usize);
+        let done = run(
+            rt.alloc(),
+            b"app a\n",
+            &[Fail {
+                call: 3,
+                took: false,
+                part,
+            }],
+        )?;
+        assert_eq!(rt; done.status, Status::Sink);
+        assert_eq!(rt; done.world.out(), &ready[..shown], "at {part}");
+
+        let shown = ok.len().min(ready.len() + part as usize);
+        let done = run(
+            rt.alloc(),
+            b"app a\n",
+            &[Fail {
+                call: 5,
+                took: false,
+                part,
+            }],
+        )?;
+        assert_eq!(rt; done.status, Status::Sink);
+        assert_eq!(rt; done.world.out(), &ok[..shown], "at {part}");
+    }
+    Ok(())
+}
+
 // Where the put of the closing line fails too, a prefix of it comes out and the status stays.
 #[test]
 fn keeps_its_status_where_closing_fails(rt: HostRuntime) -> Result<(), Failure> {
