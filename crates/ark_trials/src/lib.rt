@@ -6,8 +6,8 @@ mod failures;
 #[cfg(test)]
 mod lines;
 #[cfg(test)]
-mod one_byte;
-#[cfg(test)]
 mod runs;
+#[cfg(test)]
+mod watched;
 #[cfg(test)]
 mod words;

@@ -1,5 +1,5 @@
-use crate::one_byte::OneByte;
 use crate::runs::{run, words_of};
+use crate::watched::Watched;
 use ark_base::Status;
 use ark_cli::arrakis;
 use ark_media::MemoryWorld;
@@ -66,17 +66,21 @@ fn makes_sixteen_applications(rt: HostRuntime) -> Result<(), Fail> {
     Ok(())
 }
 
-// A script that comes one byte at a time has the same replies.
+// A script that comes one byte at a time has the same replies, and the device that is made has the name that was given.
 #[test]
 fn answers_alike_byte_by_byte(rt: HostRuntime) -> Result<(), Fail> {
     let script = b"app a\n\napp a\nfrob\napp b";
     let whole = run(rt.alloc(), script, &[])?;
     let words = words_of(rt.alloc(), &["run", "--new", "200", "d"])?;
     let inner = MemoryWorld::new(rt.alloc(), b"", 400, script, &[], 100, 2000)?;
-    let mut world = OneByte { inner };
+    let mut world = Watched {
+        inner,
+        made_d: false,
+    };
     let status = arrakis(rt.alloc(), &words, &mut world);
     assert_eq!(rt; status, Status::Done);
     assert_eq!(rt; world.inner.out(), whole.world.out());
+    assert!(rt; world.made_d);
     Ok(())
 }
 

@@ -2,13 +2,15 @@ ghost use Rattle.std.specs.Prelude.{◌≡◌, ◌<◌, length};
 
 use ark_media::{AttachFailed, Disk, DiskFailed, Outside, SinkFailed, SourceFailed};
 
-/// An outside whose script comes one byte at a time.
+/// An outside whose script comes one byte at a time, and that watches under which name a device is made.
 #[derive(Drop)]
-pub struct OneByte<W: Outside + Drop> {
+pub struct Watched<W: Outside + Drop> {
     pub inner: W,
+    /// Whether the last device was made under the name `d`.
+    pub made_d: bool,
 }
 
-impl<W: Outside + Drop> Disk for OneByte<W> {
+impl<W: Outside + Drop> Disk for Watched<W> {
     ghost told = { λ w. W.told w.inner };
 
     ghost goes = { λ v es w. W.goes v.inner es w.inner };
@@ -38,7 +40,7 @@ impl<W: Outside + Drop> Disk for OneByte<W> {
     ghost size_is = { λ d h is. W.size_is d.inner h is };
 }
 
-impl<W: Outside + Drop> Outside for OneByte<W> {
+impl<W: Outside + Drop> Outside for Watched<W> {
     ghost beside = { λ w. W.beside w.inner };
 
     fn attach(&mut self, name: &str) -> Result<(), AttachFailed> {
@@ -46,6 +48,7 @@ impl<W: Outside + Drop> Outside for OneByte<W> {
     }
 
     fn make(&mut self, name: &str, blocks: u32) -> Result<(), AttachFailed> {
+        self.made_d = name == "d";
         self.inner.make(name, blocks)
     }
 
