@@ -1,13 +1,7 @@
-// A library with one function.
+//! The blocks of storage areas: spans of blocks, the free blocks, and a disk seen at the blocks of one area.
 #![tactic(auto)]
 
-ghost use Rattle.std.specs.Prelude.{◌≡◌};
-ghost use Rattle.ark_extents.specs.Echo.{echo_of};
+mod runs;
+mod spans;
 
-// The `ensures` clause is the contract: what `echo` returns is `echo_of` of its argument, a definition
-// in `specs/Echo.antt`, which a caller's clause can cite too.
-pub fn echo(x: usize) -> usize
-    ensures { result ≡ echo_of x }
-{
-    x
-}
+pub use spans::Spans;
