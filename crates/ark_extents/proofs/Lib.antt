@@ -1,3 +1,4 @@
 pub mod RunLemmas
 pub mod Holding
 pub mod Counting
+pub mod Building

@@ -1,10 +1,10 @@
 -- Runs, and the blocks that they are.
-use Rattle.std.proofs.Common.{◌≡◌, ◌≤◌, ◌<◌, ◌-◌, ◌+◌, ℕ, zero, suc, Bool, List, [], ◌∷◌, ◌++◌, length, take, drop, true, false, not, ◌&&◌, ◌==◌, arith, refl, sym, ◌∙◌, ap, subst, Some, slice_get, get_or, length-append, if◌then◌else◌}
+use Rattle.std.proofs.Common.{◌≡◌, ◌≤◌, ◌<◌, ◌-◌, ◌+◌, ℕ, zero, suc, Bool, List, [], ◌∷◌, ◌++◌, length, take, drop, true, false, not, ◌&&◌, ◌==◌, arith, refl, sym, ◌∙◌, ap, subst, Some, slice_get, get_or, set, length-append, append_assoc, append-nil, if◌then◌else◌}
 use Rattle.std.specs.List.{range_with_len, list_all}
 use Rattle.std.proofs.Math.Seq.{take-append_seam}
-use Rattle.std.proofs.lemmas.List.{drop-replicate}
+use Rattle.std.proofs.lemmas.List.{drop-replicate, take_more}
 use Rattle.std.proofs.lemmas.List.FromFn.{length-range_with_len}
-use Rattle.std.proofs.lemmas.Bool.{and_parts, not-true, eqb-false, leb-true, eq-eqb, ne_eqb}
+use Rattle.std.proofs.lemmas.Bool.{and_parts, not-true, eqb-false, eqb-true, leb-true, eq-eqb, ne_eqb}
 use Rattle.ark_base.specs.declared.block.Span.{Span}
 use Rattle.ark_extents.specs.Blocks.{blocks_of, runs_of, with_block}
 use Rattle.ark_extents.specs.Runs.{are_spans, are_longest, ends_before, fits, padded, no_run}
@@ -109,3 +109,89 @@ length-none_left [] zero lt = refl
 length-none_left [] (suc i) lt = refl
 length-none_left (run ∷ runs) zero lt = absurd (omega arith)
 length-none_left (run ∷ runs) (suc i) lt = length-none_left runs i (omega arith)
+
+range-append : (s a b : ℕ) → range_with_len s (a + b) ≡ range_with_len s a ++ range_with_len (s + a) b
+range-append s zero b = let e : zero + b ≡ b = omega arith in let f : s + zero ≡ s = omega arith in rw (e, f) refl
+range-append s (suc a) b =
+    let e : suc a + b ≡ suc (a + b) = omega arith in
+    let f : s + suc a ≡ (s + 1) + a = omega arith in
+    rw (e, f) (ap (λ t. s ∷ t) (range-append (s + 1) a b))
+
+pub blocks_of-append : (xs ys : List Span) → blocks_of (xs ++ ys) ≡ blocks_of xs ++ blocks_of ys
+blocks_of-append [] ys = refl
+blocks_of-append (x ∷ xs) ys = ap (λ t. range_with_len x.start x.len ++ t) (blocks_of-append xs ys) ∙ sym (append_assoc (range_with_len x.start x.len) (blocks_of xs) (blocks_of ys))
+
+pub blocks_of-one : (run : Span) → blocks_of (run ∷ []) ≡ range_with_len run.start run.len
+blocks_of-one run = append-nil (range_with_len run.start run.len)
+
+pub blocks_of-more : (runs : List Span) (i : ℕ) (d : Span) → i < length runs
+    → blocks_of (take (i + 1) runs) ≡ blocks_of (take i runs) ++ range_with_len (get_or runs i d).start (get_or runs i d).len
+blocks_of-more runs i d lt =
+    ap blocks_of (take_more runs i d lt) ∙ blocks_of-append (take i runs) (get_or runs i d ∷ []) ∙ ap (λ t. blocks_of (take i runs) ++ t) (blocks_of-one (get_or runs i d))
+
+-- a block before runs
+blocks_of-with_block : (n : ℕ) (runs : List Span) → blocks_of (with_block n runs) ≡ n ∷ blocks_of runs
+blocks_of-with_block n [] = refl
+blocks_of-with_block n (run ∷ runs) = by (n + 1 == run.start) refl
+  where
+    by : (b : Bool) → (n + 1 == run.start) ≡ b
+        → blocks_of (if b then record { start = n; len = suc run.len } ∷ runs else record { start = n; len = 1 } ∷ (run ∷ runs)) ≡ n ∷ blocks_of (run ∷ runs)
+    by true e = ap (λ s. n ∷ (range_with_len s run.len ++ blocks_of runs)) (eqb-true (n + 1) run.start e)
+    by false e = refl
+
+-- the runs of blocks have these blocks
+pub blocks_of-runs_of : (blocks : List ℕ) → blocks_of (runs_of blocks) ≡ blocks
+blocks_of-runs_of [] = refl
+blocks_of-runs_of (n ∷ blocks) = blocks_of-with_block n (runs_of blocks) ∙ ap (λ t. n ∷ t) (blocks_of-runs_of blocks)
+
+longest-with_block : (n : ℕ) (runs : List Span) → AreLongest runs → AreLongest (with_block n runs)
+longest-with_block n [] h = (omega arith, tt, tt)
+longest-with_block n (run ∷ runs) h = by (n + 1 == run.start) refl
+  where
+    by : (b : Bool) → (n + 1 == run.start) ≡ b
+        → AreLongest (if b then record { start = n; len = suc run.len } ∷ runs else record { start = n; len = 1 } ∷ (run ∷ runs))
+    by true e =
+        let at = eqb-true (n + 1) run.start e in
+        let same : run.start + run.len ≡ n + suc run.len = omega (arith, at) in
+        (omega arith, subst (λ k. BeginsNotAt k runs) same h.1, h.2)
+    by false e = (omega arith, eqb-false (n + 1) run.start e, h)
+
+-- and are the longest
+pub longest-runs_of : (blocks : List ℕ) → AreLongest (runs_of blocks)
+longest-runs_of [] = tt
+longest-runs_of (n ∷ blocks) = longest-with_block n (runs_of blocks) (longest-runs_of blocks)
+
+pub longest_kept : (runs : List Span) → runs_of (blocks_of runs) ≡ runs → AreLongest runs
+longest_kept runs e = subst AreLongest e (longest-runs_of (blocks_of runs))
+
+-- the last run, made longer
+pub blocks_of-longer : (runs : List Span) (k n : ℕ) (d : Span) → suc k ≡ length runs
+    → blocks_of (set runs k (record { start = (get_or runs k d).start; len = (get_or runs k d).len + n })) ≡ blocks_of runs ++ range_with_len ((get_or runs k d).start + (get_or runs k d).len) n
+blocks_of-longer [] k n d e = absurd (omega arith)
+blocks_of-longer (x ∷ []) zero n d e =
+    append-nil (range_with_len x.start (x.len + n)) ∙ range-append x.start x.len n ∙ ap (λ t. t ++ range_with_len (x.start + x.len) n) (sym (append-nil (range_with_len x.start x.len)))
+blocks_of-longer (x ∷ []) (suc k) n d e = absurd (omega arith)
+blocks_of-longer (x ∷ y ∷ xs) zero n d e = absurd (omega arith)
+blocks_of-longer (x ∷ y ∷ xs) (suc k) n d e =
+    ap (λ t. range_with_len x.start x.len ++ t) (blocks_of-longer (y ∷ xs) k n d (omega arith))
+    ∙ sym (append_assoc (range_with_len x.start x.len) (blocks_of (y ∷ xs)) (range_with_len ((get_or (y ∷ xs) k d).start + (get_or (y ∷ xs) k d).len) n))
+
+begins_longer : (m k n : ℕ) (runs : List Span) (d : Span) → BeginsNotAt m runs → BeginsNotAt m (set runs k (record { start = (get_or runs k d).start; len = (get_or runs k d).len + n }))
+begins_longer m k n [] d h = tt
+begins_longer m zero n (x ∷ xs) d h = h
+begins_longer m (suc k) n (x ∷ xs) d h = h
+
+pub longest_longer : (runs : List Span) (k n : ℕ) (d : Span) → suc k ≡ length runs → AreLongest runs
+    → AreLongest (set runs k (record { start = (get_or runs k d).start; len = (get_or runs k d).len + n }))
+longest_longer [] k n d e h = absurd (omega arith)
+longest_longer (x ∷ []) zero n d e h = (omega (arith, h.0), tt, tt)
+longest_longer (x ∷ []) (suc k) n d e h = absurd (omega arith)
+longest_longer (x ∷ y ∷ xs) zero n d e h = absurd (omega arith)
+longest_longer (x ∷ y ∷ xs) (suc k) n d e h = (h.0, begins_longer (x.start + x.len) k n (y ∷ xs) d h.1, longest_longer (y ∷ xs) k n d (omega arith) h.2)
+
+-- a run that does not go on with the last one
+pub longest_more : (runs : List Span) (run : Span) → AreLongest runs → 1 ≤ run.len
+    → ((k : ℕ) (d : Span) → suc k ≡ length runs → (get_or runs k d).start + (get_or runs k d).len ≡ run.start → ⊥) → AreLongest (runs ++ run ∷ [])
+longest_more [] run h some ends = (some, tt, tt)
+longest_more (x ∷ []) run h some ends = (h.0, ends 0 x refl, (some, tt, tt))
+longest_more (x ∷ y ∷ xs) run h some ends = (h.0, h.1, longest_more (y ∷ xs) run h.2 some (λ k d e. ends (suc k) d (omega arith)))

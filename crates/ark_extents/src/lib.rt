@@ -1,6 +1,7 @@
 //! The blocks of storage areas: spans of blocks, the free blocks, and a disk seen at the blocks of one area.
 #![tactic(auto)]
 
+mod builder;
 mod runs;
 mod spans;
 

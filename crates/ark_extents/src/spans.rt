@@ -2,6 +2,7 @@ ghost use Rattle.std.specs.Prelude.{◌≡◌, ◌≤◌, ◌<◌, ◌+◌, ◌-
 ghost use Rattle.ark_extents.specs.Blocks.{blocks_of, runs_of, AreDistinct, AreApart};
 ghost use Rattle.ark_extents.specs.Runs as spec;
 
+use crate::builder::RunBuilder;
 use crate::runs::{are_spans, block_at, count_of, hold};
 use ark_base::Span;
 use std::marker::Model;
@@ -88,5 +89,17 @@ impl Spans {
         ensures held { IsTrue result ↔ Contains self.now n }
     {
         hold(&self.runs[..self.count], n)
+    }
+
+    /// These blocks and then those of `more`; `None` where they form more than 16 runs.
+    pub fn join(&self, more: &Spans) -> Option<Spans>
+        requires apart { AreApart self.now more.now }
+        ensures blocks { IfSome result (λ s. s ≡ self.now ++ more.now) }
+        ensures found { IsSome result ↔ (length (runs_of (self.now ++ more.now)) ≤ 16) }
+    {
+        let mut joined = RunBuilder::new();
+        joined.add_all(&self.runs[..self.count]);
+        joined.add_all(&more.runs[..more.count]);
+        Spans::of(joined.runs())
     }
 }
