@@ -23,7 +23,7 @@ use Rattle.ark_extents.proofs.Holding.{AnyHas, Has, has_contained, contains_had,
 pub length-below : (bound : ℕ) (ns : List ℕ) → AreDistinct ns → ((n : ℕ) → Contains ns n → n < bound) → length ns ≤ bound
 length-below bound ns distinct below =
     let apart : IsDistinct (λ x y. x == y) ns = IsDistinct-from_apart (λ x y. x == y) ns (λ i j d lt in_list. ne_eqb (get_or ns i d) (get_or ns j d)
-        (λ e. let same : i ≡ j = distinct i j (omega arith) in_list (get_or_default ns i 0 d (omega arith) ∙ e ∙ get_or_default ns j d 0 in_list) in omega arith)) in
+    (λ e. let same : i ≡ j = distinct i j (omega arith) in_list (get_or_default ns i 0 d (omega arith) ∙ e ∙ get_or_default ns j d 0 in_list) in omega arith)) in
     length-le_from_distinct_below ns bound apart (λ q h. below q ((is_member-Decides Decides-eqb ns q).0 h))
 
 -- the parts of the test
@@ -107,7 +107,7 @@ distinct_rest xs ys d i k li lk e =
     let bi : length xs + i - length xs ≡ i = omega arith in
     let bk : length xs + k - length xs ≡ k = omega arith in
     let same : length xs + i ≡ length xs + k = d (length xs + i) (length xs + k) (omega (arith, length-append xs ys, li)) (omega (arith, length-append xs ys, lk))
-        (get_or-append_right xs ys (length xs + i) 0 (omega arith) ∙ ap (λ m. get_or ys m 0) bi ∙ e ∙ sym (get_or-append_right xs ys (length xs + k) 0 (omega arith) ∙ ap (λ m. get_or ys m 0) bk)) in
+    (get_or-append_right xs ys (length xs + i) 0 (omega arith) ∙ ap (λ m. get_or ys m 0) bi ∙ e ∙ sym (get_or-append_right xs ys (length xs + k) 0 (omega arith) ∙ ap (λ m. get_or ys m 0) bk)) in
     omega (arith, same)
 
 shared_true : (runs : List Span) → AreLongest runs → AreDistinct (blocks_of runs) → share_none runs ≡ true

@@ -73,8 +73,8 @@ none_shared run [] h n a b = b
 none_shared run (s ∷ runs) h n a (inl b) =
     let p = and_parts (are_apart run s) (list_all (λ s. are_apart run s) runs) h in
     ⊎_elim (λ l. let e : run.start + run.len ≤ s.start = leb-true (run.start + run.len) s.start l in omega (arith, a.1, b.0, e))
-        (λ r. let e : s.start + s.len ≤ run.start = leb-true (s.start + s.len) run.start r in omega (arith, a.0, b.1, e))
-        (or_cases (nat_le (run.start + run.len) s.start) (nat_le (s.start + s.len) run.start) p.0)
+    (λ r. let e : s.start + s.len ≤ run.start = leb-true (s.start + s.len) run.start r in omega (arith, a.0, b.1, e))
+    (or_cases (nat_le (run.start + run.len) s.start) (nat_le (s.start + s.len) run.start) p.0)
 none_shared run (s ∷ runs) h n a (inr b) =
     let p = and_parts (are_apart run s) (list_all (λ s. are_apart run s) runs) h in none_shared run runs p.1 n a b
 
@@ -91,7 +91,7 @@ distinct_append xs ys dx dy apart i k li lk e = elim (cases_lt i (length xs)) [
         (subst (λ (n : ℕ). Contains ys n) (sym (get_or-append_right xs ys i 0 a) ∙ e ∙ get_or-append xs ys 0 k b) (Contains-get_or ys (i - length xs) 0 (omega (arith, li, length-append xs ys, a)))))
     | inr b ↦
         let same : i - length xs ≡ k - length xs = dy (i - length xs) (k - length xs) (omega (arith, li, length-append xs ys, a)) (omega (arith, lk, length-append xs ys, b))
-            (sym (get_or-append_right xs ys i 0 a) ∙ e ∙ get_or-append_right xs ys k 0 b) in
+        (sym (get_or-append_right xs ys i 0 a) ∙ e ∙ get_or-append_right xs ys k 0 b) in
         omega (arith, a, b, same)
   ]
 ]

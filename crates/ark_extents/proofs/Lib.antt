@@ -2,3 +2,6 @@ pub mod RunLemmas
 pub mod Holding
 pub mod Counting
 pub mod Building
+pub mod Images
+pub mod ViewImages
+pub mod Unview

@@ -4,5 +4,7 @@
 mod builder;
 mod runs;
 mod spans;
+mod view;
 
 pub use spans::Spans;
+pub use view::VsaView;
