@@ -17,7 +17,8 @@ use Rattle.ark_base.specs.declared.block.Span.{Span}
 use Rattle.ark_extents.specs.Blocks.{blocks_of, runs_of, AreDistinct, AreApart}
 use Rattle.ark_extents.specs.Runs.{are_spans, are_apart, share_none, are_longest, ends_before, is_count, fits}
 use Rattle.ark_extents.proofs.RunLemmas.{AreLongest, BeginsNotAt, blocks_of-runs_of, longest-runs_of, length-blocks_of}
-use Rattle.ark_extents.proofs.Holding.{AnyHas, Has, has_contained, contains_had, range_contains, distinct_from, distinct_append}
+use Rattle.ark_extents.specs.Free.{Has, AnyHas}
+use Rattle.ark_extents.proofs.Holding.{has_contained, contains_had, range_contains, distinct_from, distinct_append}
 
 -- distinct numbers below a bound are no more than it
 pub length-below : (bound : ℕ) (ns : List ℕ) → AreDistinct ns → ((n : ℕ) → Contains ns n → n < bound) → length ns ≤ bound

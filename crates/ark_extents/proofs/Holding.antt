@@ -12,16 +12,8 @@ use Rattle.std.proofs.Math.ListN.{get_or-append}
 use Rattle.std.proofs.Math.Seq.{get_or-append_right}
 use Rattle.ark_base.specs.declared.block.Span.{Span}
 use Rattle.ark_extents.specs.Blocks.{blocks_of, AreDistinct, AreApart}
-use Rattle.ark_extents.specs.Runs.{are_spans, share_none, are_apart, fits, has}
-
--- the block is one of the run's
-abbrev pub Has : Span → ℕ → Type 0
-Has run n = (run.start ≤ n) × (n < run.start + run.len)
-
--- one of the runs has the block
-abbrev pub AnyHas : List Span → ℕ → Type 0
-AnyHas [] n = ⊥
-AnyHas (run ∷ runs) n = Has run n ⊎ AnyHas runs n
+use Rattle.ark_extents.specs.Runs.{share_none, are_apart, has}
+use Rattle.ark_extents.specs.Free.{Has, AnyHas}
 
 pub range_contains : (s len n : ℕ) → s ≤ n → n < s + len → Contains (range_with_len s len) n
 range_contains s len n low high =

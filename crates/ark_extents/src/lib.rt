@@ -2,9 +2,13 @@
 #![tactic(auto)]
 
 mod builder;
+mod free;
+mod lowest;
+mod rising;
 mod runs;
 mod spans;
 mod view;
 
+pub use free::{FreeMap, RUNS, TakeFault};
 pub use spans::Spans;
 pub use view::VsaView;

@@ -51,6 +51,16 @@ impl Spans {
         Some(Spans { count, runs: all })
     }
 
+    /// The runs, in their order.
+    pub(crate) fn as_slice(&self) -> &[Span]
+        ensures runs { result.now ≡ runs_of self.now }
+        ensures blocks { blocks_of result.now ≡ self.now }
+        ensures spans { spec.are_spans result.now ≡ true }
+        ensures few { length result.now ≤ 16 }
+    {
+        &self.runs[..self.count]
+    }
+
     /// The number of runs, 1 to 16.
     pub fn runs(&self) -> usize
         ensures runs { result ≡ length (runs_of self.now) }
