@@ -5,7 +5,7 @@ use Rattle.std.proofs.lemmas.List.{take_more_set, length-set, get_or_default}
 use Rattle.ark_base.specs.declared.block.Span.{Span}
 use Rattle.ark_extents.specs.Blocks.{blocks_of, runs_of}
 use Rattle.ark_extents.specs.Runs.{no_run}
-use Rattle.ark_extents.proofs.RunLemmas.{AreLongest, runs_of-blocks_of, longest_kept, longest_longer, longest_more, blocks_of-longer, blocks_of-append, blocks_of-one}
+use Rattle.ark_extents.proofs.RunLemmas.{runs_of-blocks_of, longest_kept, longest_longer, longest_more, blocks_of-longer, blocks_of-append, blocks_of-one}
 
 take-set : (xs : List Span) (n k : ℕ) (v : Span) → k < n → take n (set xs k v) ≡ set (take n xs) k v
 take-set xs zero k v lt = absurd (omega arith)

@@ -1,22 +1,20 @@
 -- How many blocks spans have.
-use Rattle.std.proofs.Common.{◌≡◌, ◌≤◌, ◌<◌, ◌-◌, ◌+◌, ◌^◌, ◌⊎◌, inl, inr, ⊎_elim, ℕ, zero, suc, Bool, List, [], ◌∷◌, ◌++◌, length, get_or, not, true, false, length-append, arith, refl, sym, ◌∙◌, ap, subst, Contains}
+use Rattle.std.proofs.Common.{◌≡◌, ◌≤◌, ◌<◌, ◌-◌, ◌+◌, ◌^◌, inl, inr, ⊎_elim, ℕ, List, [], ◌∷◌, ◌++◌, length, get_or, not, true, length-append, arith, refl, sym, ◌∙◌, ap, subst, Contains}
 use Rattle.std.specs.Prelude.{All, nat_le, ◌==◌}
 use Rattle.std.specs.List.{range_with_len, list_all, IsDistinct}
-use Rattle.std.specs.Set.{is_member}
 use Rattle.std.proofs.lemmas.Map.Steps.{length-le_from_distinct_below}
 use Rattle.std.proofs.lemmas.Bool.{and_parts, and_from, or_left, or_right, leb-true, le-leb, ne_eqb, cases_lt}
 use Rattle.std.proofs.lemmas.Bool.Decides.{Decides-eqb}
 use Rattle.std.proofs.lemmas.Map.Made.{is_member-Decides}
 use Rattle.std.proofs.lemmas.Map.Keys.{IsDistinct-from_apart}
 use Rattle.std.proofs.lemmas.List.{get_or_default}
-use Rattle.std.proofs.lemmas.List.FromFn.{length-range_with_len}
 use Rattle.std.proofs.lemmas.List.Elements.{Contains-get_or, Contains-append_cases}
 use Rattle.std.proofs.Math.ListN.{get_or-append}
 use Rattle.std.proofs.Math.Seq.{get_or-append_right}
 use Rattle.ark_base.specs.declared.block.Span.{Span}
 use Rattle.ark_extents.specs.Blocks.{blocks_of, runs_of, AreDistinct, AreApart}
 use Rattle.ark_extents.specs.Runs.{are_spans, are_apart, share_none, are_longest, ends_before, is_count, fits}
-use Rattle.ark_extents.proofs.RunLemmas.{AreLongest, BeginsNotAt, blocks_of-runs_of, longest-runs_of, length-blocks_of}
+use Rattle.ark_extents.proofs.RunLemmas.{AreLongest, blocks_of-runs_of, longest-runs_of, length-blocks_of}
 use Rattle.ark_extents.specs.Free.{Has, AnyHas}
 use Rattle.ark_extents.proofs.Holding.{has_contained, contains_had, range_contains, distinct_from, distinct_append}
 

@@ -1,11 +1,8 @@
 -- Which blocks runs have.
-use Rattle.std.proofs.Common.{◌≡◌, ◌≤◌, ◌<◌, ◌-◌, ◌+◌, ◌⊎◌, inl, inr, ⊎_elim, ℕ, zero, suc, Bool, List, [], ◌∷◌, ◌++◌, length, get_or, true, false, ◌&&◌, ◌||◌, arith, refl, sym, ◌∙◌, ap, subst, Contains, length-append}
-use Rattle.std.specs.Prelude.{All, nat_le, nat_lt}
-use Rattle.std.specs.List.{range_with_len, list_all, list_any, IsDistinct}
-use Rattle.std.specs.Set.{is_member}
-use Rattle.std.specs.Cmp.Lexicographic.{nat_list_eq_equiv}
+use Rattle.std.proofs.Common.{◌≡◌, ◌≤◌, ◌<◌, ◌-◌, ◌+◌, inl, inr, ⊎_elim, ℕ, List, [], ◌∷◌, ◌++◌, length, get_or, true, arith, sym, ◌∙◌, subst, Contains, length-append}
+use Rattle.std.specs.Prelude.{nat_le, nat_lt}
+use Rattle.std.specs.List.{range_with_len, list_all, list_any}
 use Rattle.std.proofs.lemmas.Bool.{and_parts, and_from, or_cases, or_left, or_right, leb-true, ltb-true, le-leb, lt-ltb, cases_lt}
-use Rattle.std.proofs.lemmas.Bool.Decides.{Decides-eqb}
 use Rattle.std.proofs.lemmas.List.FromFn.{length-range_with_len, get_or-range_with_len}
 use Rattle.std.proofs.lemmas.List.Elements.{Contains-append_left, Contains-append_right, Contains-append_cases, Contains-get_or}
 use Rattle.std.proofs.Math.ListN.{get_or-append}
@@ -60,7 +57,7 @@ pub contains_any : (runs : List Span) (n : ℕ) → Contains (blocks_of runs) n 
 contains_any runs n h = true_any runs n (has_contained runs n h)
 
 -- runs apart from one have none of its blocks
-none_shared : (run : Span) (runs : List Span) → list_all (λ s. are_apart run s) runs ≡ true → (n : ℕ) → Has run n → AnyHas runs n → ⊥
+pub none_shared : (run : Span) (runs : List Span) → list_all (λ s. are_apart run s) runs ≡ true → (n : ℕ) → Has run n → AnyHas runs n → ⊥
 none_shared run [] h n a b = b
 none_shared run (s ∷ runs) h n a (inl b) =
     let p = and_parts (are_apart run s) (list_all (λ s. are_apart run s) runs) h in

@@ -139,25 +139,25 @@ module _ (xs : List Span) (run : Span) (ys : List Span) (piece : Span) (rising :
       let b = piece_begins in
       let e = piece_ends in
       let right : AreRising (piece.start + piece.len) (with_run behind ys) =
-          rising_with_run behind ys (piece.start + piece.len) (omega arith) (omega (arith, rest.2, e)) (rising_weaker (run.start + run.len + 1) (behind.start + behind.len + 1) ys (omega (arith, e)) rest.3) in
+      rising_with_run behind ys (piece.start + piece.len) (omega arith) (omega (arith, rest.2, e)) (rising_weaker (run.start + run.len + 1) (behind.start + behind.len + 1) ys (omega (arith, e)) rest.3) in
       let left : AreRising run.start (with_run before (with_run behind ys)) =
-          rising_with_run before (with_run behind ys) run.start (omega arith) (omega (arith, rest.2, b, e)) (rising_weaker (piece.start + piece.len) (before.start + before.len + 1) (with_run behind ys) (omega (arith, b, some)) right) in
+      rising_with_run before (with_run behind ys) run.start (omega arith) (omega (arith, rest.2, b, e)) (rising_weaker (piece.start + piece.len) (before.start + before.len + 1) (with_run behind ys) (omega (arith, b, some)) right) in
       rising_append 0 run.start xs (with_run before (with_run behind ys)) (omega arith) (rising_front 0 xs (run ∷ ys) rising) (rising_before 0 xs run ys rising) left
 
   pub cut_loses : (n : ℕ) → AnyHas (xs ++ with_run before (with_run behind ys)) n ↔ (AnyHas (xs ++ run ∷ ys) n × (Has piece n → ⊥))
   cut_loses n = (
     λ a. ⊎_elim (λ x. ((any_append xs (run ∷ ys) n).1 (inl x), λ p. none_by piece.start n xs by p.0 x))
-    (λ r. ⊎_elim (λ h. ((any_append xs (run ∷ ys) n).1 (inr (inl (h.0, omega (arith, h.1, b, reaches)))), λ p. omega (arith, h.1, p.0, b)))
-    (λ s. ⊎_elim (λ h. ((any_append xs (run ∷ ys) n).1 (inr (inl (omega (arith, h.0, b), omega (arith, h.1, e)))), λ p. omega (arith, h.0, p.1)))
-    (λ y. ((any_append xs (run ∷ ys) n).1 (inr (inr y)), λ p. in_run n (omega (arith, p.1, e)) y))
-    ((any_with_run behind ys n).0 s))
-    ((any_with_run before (with_run behind ys) n).0 r))
-    ((any_append xs (with_run before (with_run behind ys)) n).0 a),
+        (λ r. ⊎_elim (λ h. ((any_append xs (run ∷ ys) n).1 (inr (inl (h.0, omega (arith, h.1, b, reaches)))), λ p. omega (arith, h.1, p.0, b)))
+        (λ s. ⊎_elim (λ h. ((any_append xs (run ∷ ys) n).1 (inr (inl (omega (arith, h.0, b), omega (arith, h.1, e)))), λ p. omega (arith, h.0, p.1)))
+        (λ y. ((any_append xs (run ∷ ys) n).1 (inr (inr y)), λ p. in_run n (omega (arith, p.1, e)) y))
+        ((any_with_run behind ys n).0 s))
+        ((any_with_run before (with_run behind ys) n).0 r))
+        ((any_append xs (with_run before (with_run behind ys)) n).0 a),
     λ a. (any_append xs (with_run before (with_run behind ys)) n).1 (⊎_elim (λ x. inl x)
-    (λ r. inr ((any_with_run before (with_run behind ys) n).1 (⊎_elim (λ h. kept h a.1)
-    (λ y. inr ((any_with_run behind ys n).1 (inr y)))
-    r)))
-    ((any_append xs (run ∷ ys) n).0 a.0)),
+        (λ r. inr ((any_with_run before (with_run behind ys) n).1 (⊎_elim (λ h. kept h a.1)
+        (λ y. inr ((any_with_run behind ys n).1 (inr y)))
+        r)))
+        ((any_append xs (run ∷ ys) n).0 a.0)),
   )
     where
       b : run.start ≤ piece.start
@@ -229,7 +229,7 @@ module _ (run : Span) (zs : List Span) (some : 1 ≤ run.len) (fits : run.start 
       → AnyHas (set xs k (record { start = (get_or xs k d).start; len = (get_or xs k d).len + run.len }) ++ zs) n ↔ (AnyHas xs n ⊎ (Has run n ⊎ AnyHas zs n))
   merged_has n [] k d at e = absurd (omega arith)
   merged_has n (x ∷ []) zero d at e = (
-    λ a. ⊎_elim (λ h. elim (cases_lt n run.start) [ | inl lt ↦ inl (inl (h.0, omega (arith, e, lt))) | inr ge ↦ inr (inl (ge, omega (arith, h.1, e))) ]) (λ z. inr (inr z)) a,
+    λ a. ⊎_elim (λ h. elim (cases_lt n run.start) [ inl lt ↦ inl (inl (h.0, omega (arith, e, lt))) | inr ge ↦ inr (inl (ge, omega (arith, h.1, e))) ]) (λ z. inr (inr z)) a,
     λ a. ⊎_elim (λ b. ⊎_elim (λ h. inl (h.0, omega (arith, h.1))) (λ h. absurd h) b) (λ b. ⊎_elim (λ h. inl (omega (arith, h.0, e), omega (arith, h.1, e))) (λ z. inr z) b) a,
   )
   merged_has n (x ∷ []) (suc k) d at e = absurd (omega (arith, at))

@@ -1,5 +1,5 @@
 -- Runs, and the blocks that they are.
-use Rattle.std.proofs.Common.{◌≡◌, ◌≤◌, ◌<◌, ◌-◌, ◌+◌, ℕ, zero, suc, Bool, List, [], ◌∷◌, ◌++◌, length, take, drop, true, false, not, ◌&&◌, ◌==◌, arith, refl, sym, ◌∙◌, ap, subst, Some, slice_get, get_or, set, length-append, append_assoc, append-nil, if◌then◌else◌}
+use Rattle.std.proofs.Common.{◌≡◌, ◌≤◌, ◌<◌, ◌-◌, ◌+◌, ℕ, zero, suc, Bool, List, [], ◌∷◌, ◌++◌, length, take, drop, true, false, ◌==◌, arith, refl, sym, ◌∙◌, ap, subst, Some, slice_get, get_or, set, length-append, append_assoc, append-nil, if◌then◌else◌}
 use Rattle.std.specs.List.{range_with_len, list_all}
 use Rattle.std.proofs.Math.Seq.{take-append_seam}
 use Rattle.std.proofs.lemmas.List.{drop-replicate, take_more}
@@ -110,7 +110,7 @@ length-none_left [] (suc i) lt = refl
 length-none_left (run ∷ runs) zero lt = absurd (omega arith)
 length-none_left (run ∷ runs) (suc i) lt = length-none_left runs i (omega arith)
 
-range-append : (s a b : ℕ) → range_with_len s (a + b) ≡ range_with_len s a ++ range_with_len (s + a) b
+pub range-append : (s a b : ℕ) → range_with_len s (a + b) ≡ range_with_len s a ++ range_with_len (s + a) b
 range-append s zero b = let e : zero + b ≡ b = omega arith in let f : s + zero ≡ s = omega arith in rw (e, f) refl
 range-append s (suc a) b =
     let e : suc a + b ≡ suc (a + b) = omega arith in

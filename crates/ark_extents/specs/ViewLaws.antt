@@ -1,10 +1,10 @@
 -- How a view goes on: the laws of a disk, written out for a view.
-use Rattle.std.specs.Prelude.{◌≡◌, ◌<◌, ◌≤◌, ℕ, Bool, List, [], ◌∷◌, ◌++◌, Option, Some, None, get_or, map, length, option_map, is_some, refl, ◌⊎◌}
+use Rattle.std.specs.Prelude.{◌≡◌, ℕ, List, [], ◌∷◌, ◌++◌, Option, Some, None, get_or, map, length, option_map, is_some, refl}
 use Rattle.std.proofs.Common.{sym, ◌∙◌, ap, subst, inl, inr, ⊎_elim}
 use Rattle.std.proofs.lemmas.Bool.{false≢true}
 use Rattle.std.proofs.lemmas.List.{length-map}
 use Rattle.ark_media.specs.Journal.{Event, Read, Write, Sync, Out, History, onto, block, HasFailed}
-use Rattle.ark_media.specs.Calls.{Told, Tells, Adds}
+use Rattle.ark_media.specs.Calls.{Told, Tells}
 use Rattle.ark_extents.specs.Views.{view_told, view_events, view_history, read_at, write_at, ArePlaced, outer, AreWithin, GoesOver}
 
 map_append : (blocks : List ℕ) (xs ys : List Event) → map (outer blocks) (xs ++ ys) ≡ map (outer blocks) xs ++ map (outer blocks) ys

@@ -112,10 +112,11 @@ impl FreeMap {
         ensures taken { result ≡ true → Loses self.old self.new spans.now }
         ensures kept { result ≡ false → self.new ≡ self.old }
     {
-        if !has_all(&self.runs, spans.as_slice()) {
+        let pieces = spans.as_slice();
+        if !has_all(&self.runs, pieces) {
             return false;
         }
-        cut_all(&mut self.runs, spans.as_slice());
+        cut_all(&mut self.runs, pieces);
         true
     }
 

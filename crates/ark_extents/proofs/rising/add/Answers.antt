@@ -1,7 +1,7 @@
-use Rattle.std.proofs.Common.{◌≡◌, ◌≤◌, ◌∙◌, ◌⊎◌, inl, inr, ⊎_elim, ap, sym, subst, List, take, drop, length, arith}
+use Rattle.std.proofs.Common.{◌∙◌, inl, inr, ⊎_elim, ap, sym, subst, List, take, drop, length}
 use Rattle.std.proofs.lemmas.List.{take-append-drop}
 use Rattle.ark_base.specs.declared.block.Span.{Span}
-use Rattle.ark_extents.specs.Free.{AreRising, EndBy, IsPlace, AnyHas}
+use Rattle.ark_extents.specs.Free.{AreRising, IsPlace, AnyHas}
 use Rattle.ark_extents.proofs.RisingRuns.{place_front, place_rest, front_length, length-front, any_append}
 use Rattle.ark_extents.proofs.rising.add.Goals as goal
 
@@ -35,10 +35,10 @@ returns-clause-gained c n =
     let front = c.with_next-whole.ensures.front in
     let whole = take-append-drop i rs in (
       λ a. ⊎_elim (λ x. inl (subst (λ (l : List Span). AnyHas l n) whole (all.1 (inl (subst (λ (l : List Span). AnyHas l n) front x)))))
-      (λ b. ⊎_elim (λ h. inr h) (λ y. inl (subst (λ (l : List Span). AnyHas l n) whole (all.1 (inr y)))) (next.0 b))
-      (both.0 a),
+          (λ b. ⊎_elim (λ h. inr h) (λ y. inl (subst (λ (l : List Span). AnyHas l n) whole (all.1 (inr y)))) (next.0 b))
+          (both.0 a),
       λ a. both.1 (⊎_elim
-      (λ old. ⊎_elim (λ x. inl (subst (λ (l : List Span). AnyHas l n) (sym front) x)) (λ y. inr (next.1 (inr y))) (all.0 (subst (λ (l : List Span). AnyHas l n) (sym whole) old)))
-      (λ h. inr (next.1 (inl h)))
-      a),
+          (λ old. ⊎_elim (λ x. inl (subst (λ (l : List Span). AnyHas l n) (sym front) x)) (λ y. inr (next.1 (inr y))) (all.0 (subst (λ (l : List Span). AnyHas l n) (sym whole) old)))
+          (λ h. inr (next.1 (inl h)))
+          a),
     )

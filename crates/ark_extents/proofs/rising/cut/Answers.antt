@@ -1,4 +1,4 @@
-use Rattle.std.proofs.Common.{◌≡◌, ◌≤◌, ◌<◌, ◌+◌, ◌-◌, ◌∙◌, ◌↔◌, List, ℕ, ap, sym, subst, take, drop, length, arith}
+use Rattle.std.proofs.Common.{◌+◌, ◌↔◌, List, ap, sym, subst, take, drop, length, arith}
 use Rattle.ark_base.specs.declared.block.Span.{Span}
 use Rattle.ark_extents.specs.Free.{AreRising, IsPlace, Has, AnyHas}
 use Rattle.ark_extents.proofs.RisingRuns.{cut_inside, run_fits, cut_begins, cut_ends, left_rising, left_loses, put_twice, length-front}
@@ -34,7 +34,7 @@ returns-clause-rising c =
     let place = subst (λ (l : List Span). IsPlace l c.args.piece.start c.place_of-i.result) c.deref.ensures.value c.place_of-i.ensures.place in
     let inside = cut_inside c.args.runs.now.items c.place_of-i.result c.args.piece c.requires.rising place c.requires.some c.requires.had in
     let items = put_twice (take c.place_of-i.result c.args.runs.now.items) (drop (c.place_of-i.result + 1) c.args.runs.now.items) c.remove-run.new.self.items c.put.new.runs.items c.put-2.new.runs.items
-        c.place_of-i.result _ _ (length-front c.args.runs.now.items c.place_of-i.result (omega (arith, inside))) c.remove-run.ensures.by_index.2 c.put.ensures.items c.put-2.ensures.items in
+    c.place_of-i.result _ _ (length-front c.args.runs.now.items c.place_of-i.result (omega (arith, inside))) c.remove-run.ensures.by_index.2 c.put.ensures.items c.put-2.ensures.items in
     subst (AreRising 0) (sym items) (left_rising c.args.runs.now.items c.place_of-i.result c.args.piece c.requires.rising place c.requires.some c.requires.had c.remove-run.result c.remove-run.ensures.value)
 
 pub returns-clause-lost : goal.returns-clause-lost
@@ -42,5 +42,5 @@ returns-clause-lost c n =
     let place = subst (λ (l : List Span). IsPlace l c.args.piece.start c.place_of-i.result) c.deref.ensures.value c.place_of-i.ensures.place in
     let inside = cut_inside c.args.runs.now.items c.place_of-i.result c.args.piece c.requires.rising place c.requires.some c.requires.had in
     let items = put_twice (take c.place_of-i.result c.args.runs.now.items) (drop (c.place_of-i.result + 1) c.args.runs.now.items) c.remove-run.new.self.items c.put.new.runs.items c.put-2.new.runs.items
-        c.place_of-i.result _ _ (length-front c.args.runs.now.items c.place_of-i.result (omega (arith, inside))) c.remove-run.ensures.by_index.2 c.put.ensures.items c.put-2.ensures.items in
+    c.place_of-i.result _ _ (length-front c.args.runs.now.items c.place_of-i.result (omega (arith, inside))) c.remove-run.ensures.by_index.2 c.put.ensures.items c.put-2.ensures.items in
     subst (λ (l : List Span). AnyHas l n ↔ (AnyHas c.args.runs.now.items n × (Has c.args.piece n → ⊥))) (sym items) (left_loses c.args.runs.now.items c.place_of-i.result c.args.piece c.requires.rising place c.requires.some c.requires.had c.remove-run.result c.remove-run.ensures.value n)

@@ -1,4 +1,4 @@
-use Rattle.std.proofs.Common.{◌≡◌, arith}
+use Rattle.std.proofs.Common.{arith}
 use Rattle.ark_extents.proofs.RunLemmas.{length-rest, length-none_left}
 use Rattle.ark_extents.specs.Runs.{no_run}
 use Rattle.ark_extents.proofs.runs.count_of.Goals as goal

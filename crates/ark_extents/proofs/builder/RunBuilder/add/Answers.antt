@@ -1,4 +1,4 @@
-use Rattle.std.proofs.Common.{◌≡◌, ◌∙◌, ◌++◌, ◌+◌, ◌<◌, ◌-◌, List, ℕ, take, set, sym, ap, subst, length, get_or, arith}
+use Rattle.std.proofs.Common.{◌≡◌, ◌∙◌, ◌++◌, ◌+◌, ◌<◌, ◌-◌, take, set, sym, ap, length, get_or, arith}
 use Rattle.std.specs.List.{range_with_len}
 use Rattle.ark_extents.specs.Blocks.{blocks_of, runs_of}
 use Rattle.ark_extents.specs.Runs.{no_run}

@@ -1,6 +1,6 @@
-use Rattle.std.proofs.Common.{◌≡◌, ◌∙◌, ◌++◌, ◌+◌, ◌≤◌, sym, ap, take, get_or, length, append_assoc, arith}
+use Rattle.std.proofs.Common.{◌∙◌, ◌++◌, sym, ap, take, get_or, append_assoc, arith}
 use Rattle.std.specs.List.{range_with_len}
-use Rattle.ark_extents.specs.Blocks.{blocks_of, runs_of}
+use Rattle.ark_extents.specs.Blocks.{blocks_of}
 use Rattle.ark_extents.specs.Runs.{no_run}
 use Rattle.ark_extents.proofs.RunLemmas.{blocks_of-more}
 use Rattle.ark_extents.proofs.builder.RunBuilder.add_all.Goals as goal

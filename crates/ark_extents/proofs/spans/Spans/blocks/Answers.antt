@@ -1,4 +1,4 @@
-use Rattle.std.proofs.Common.{◌≡◌, ◌<◌, ◌-◌, ◌^◌, List, ℕ, subst, take, All, arith}
+use Rattle.std.proofs.Common.{◌<◌, ◌-◌, ◌^◌, List, ℕ, subst, take, All, arith}
 use Rattle.ark_extents.specs.Blocks.{AreDistinct}
 use Rattle.ark_extents.proofs.Counting.{count_below, distinct_blocks, blocks_within}
 use Rattle.ark_extents.proofs.spans.Spans.blocks.Goals as goal

@@ -1,4 +1,4 @@
-use Rattle.std.proofs.Common.{◌≡◌, ◌∙◌, sym, subst, List, ℕ, true, take, Contains}
+use Rattle.std.proofs.Common.{◌∙◌, sym, subst, List, ℕ, take, Contains}
 use Rattle.ark_extents.proofs.Holding.{any_contains, contains_any}
 use Rattle.ark_extents.proofs.spans.Spans.holds.Goals as goal
 

@@ -1,4 +1,3 @@
-use Rattle.std.proofs.Common.{◌≡◌, sym}
 use Rattle.ark_media.specs.Stops.{Whole, AnyBytes}
 use Rattle.ark_extents.proofs.ViewImages.{left_alike, placed_blocks}
 use Rattle.ark_extents.proofs.view.VsaView.new.Goals as goal
