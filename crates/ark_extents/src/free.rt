@@ -129,3 +129,6 @@ impl FreeMap {
         add_all(&mut self.runs, spans.as_slice());
     }
 }
+
+#[cfg(test)]
+mod tests;

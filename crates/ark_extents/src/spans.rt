@@ -8,7 +8,7 @@ use ark_base::Span;
 use std::marker::Model;
 
 /// The blocks of an area in their order, as their 1 to 16 longest runs. Contracts see the list of blocks.
-#[derive(Clone, Copy)]
+#[derive(Clone, Copy, Debug)]
 pub struct Spans {
     count: usize,
     runs: [Span; 16],

@@ -48,17 +48,17 @@ impl<'a, D: Disk> Disk for VsaView<'a, D> {
     }
 
     fn read(&mut self, n: u32, out: &mut [u8]) -> Result<(), DiskFailed> {
-        let Some(n) = self.spans.translate(n) else {
+        let Some(at) = self.spans.translate(n) else {
             unreachable!()
         };
-        self.disk.read(n, out)
+        self.disk.read(at, out)
     }
 
     fn write(&mut self, n: u32, block: &[u8]) -> Result<(), DiskFailed> {
-        let Some(n) = self.spans.translate(n) else {
+        let Some(at) = self.spans.translate(n) else {
             unreachable!()
         };
-        self.disk.write(n, block)
+        self.disk.write(at, block)
     }
 
     fn sync(&mut self) -> Result<(), DiskFailed> {
@@ -77,3 +77,6 @@ impl<'a, D: Disk> Disk for VsaView<'a, D> {
 
     ghost size_is = { λ v h is. view_size v.spans (D.told v.disk.now).history h is };
 }
+
+#[cfg(test)]
+mod tests;

@@ -11,8 +11,8 @@ pub returns-clause-went : goal.returns-clause-went
 returns-clause-went g c =
     let v = c.args.self.now in
     let at = sym c.in-Some.ensures.block in
-    let u = unview_read g.D.Disk.goes v.spans (is_ok c.read.result) v.disk.now c.read.new.self c.args.n c.in-Some.n
-    (slice_get_within v.spans c.args.n c.in-Some.n at) (sym (get_or_from_slice_get v.spans c.args.n c.in-Some.n 0 at)) c.read.ensures.went in
+    let u = unview_read g.D.Disk.goes v.spans (is_ok c.read.result) v.disk.now c.read.new.self c.args.n c.in-Some.at
+    (slice_get_within v.spans c.args.n c.in-Some.at at) (sym (get_or_from_slice_get v.spans c.args.n c.in-Some.at 0 at)) c.read.ensures.went in
     record { events = u.0; makes = u.1; goes_on = (refl, refl, u.2) }
 
 pub returns-clause-honest : goal.returns-clause-honest
@@ -21,6 +21,6 @@ returns-clause-honest g c =
     let at = sym c.in-Some.ensures.block in
     let same = (g.met.D.Disk.goes_told v.disk.now c.read.new.self c.read.ensures.went.events c.read.ensures.went.goes_on).blocks in
     on_ok_weaker c.read.result
-    (λ honest. honest_view v.spans v.placed (g.D.Disk.told c.read.new.self) c.args.n c.read.new.out (slice_get_within v.spans c.args.n c.in-Some.n at)
+    (λ honest. honest_view v.spans v.placed (g.D.Disk.told c.read.new.self) c.args.n c.read.new.out (slice_get_within v.spans c.args.n c.in-Some.at at)
     (λ h is i lt. subst (λ (m : ℕ). get_or v.spans i 0 < m) (sym (g.met.D.Disk.size_is c.read.new.self h is ∙ same)) (v.inside i 0 lt)) honest)
-    (subst (λ (m : ℕ). OnOk c.read.result (IsHonest (g.D.Disk.told c.read.new.self).history m c.read.new.out)) (sym (get_or_from_slice_get v.spans c.args.n c.in-Some.n 0 at)) c.read.ensures.honest)
+    (subst (λ (m : ℕ). OnOk c.read.result (IsHonest (g.D.Disk.told c.read.new.self).history m c.read.new.out)) (sym (get_or_from_slice_get v.spans c.args.n c.in-Some.at 0 at)) c.read.ensures.honest)
