@@ -1,0 +1,12 @@
+pub mod RunLemmas
+pub mod Holding
+pub mod Counting
+pub mod Building
+pub mod RisingRuns
+pub mod Pieces
+pub mod Ascending
+pub mod Front
+pub mod FreeBlocks
+pub mod Images
+pub mod ViewImages
+pub mod Unview
