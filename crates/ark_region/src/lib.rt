@@ -1,13 +1,9 @@
-// A library with one function.
+//! The I/O memory of one application: a region of frames of 512 bytes, and the buffers that lie in it.
 #![tactic(auto)]
 
-ghost use Rattle.std.specs.Prelude.{◌≡◌};
-ghost use Rattle.ark_region.specs.Echo.{echo_of};
+mod buf;
+mod place;
+mod region;
 
-// The `ensures` clause is the contract: what `echo` returns is `echo_of` of its argument, a definition
-// in `specs/Echo.antt`, which a caller's clause can cite too.
-pub fn echo(x: usize) -> usize
-    ensures { result ≡ echo_of x }
-{
-    x
-}
+pub use buf::Buf;
+pub use region::Region;
