@@ -62,7 +62,7 @@ bytes_of r b = slice_range r.bytes (512 * b.start) (512 * b.start + b.len)
 
 -- xs, with ys from place i on
 abbrev pub put : {X : Type 0} → List X → ℕ → List X → List X
-put xs i ys = take i xs ++ ys ++ drop (i + length ys) xs
+put xs i ys = take i xs ++ (ys ++ drop (i + length ys) xs)
 
 -- xs, with ys from place i on; where ys is too long or too short the length of xs stays
 abbrev pub written : {X : Type 0} → List X → ℕ → List X → List X

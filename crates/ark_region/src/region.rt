@@ -54,6 +54,7 @@ impl Region {
         ensures place { IfSome result (λ b. IsPlace (IsTaken self.old.taken) (length self.old.taken) (frames_of len) b.start) }
         ensures taken { IfSome result (λ b. self.new.taken ≡ put self.old.taken b.start (replicate (frames_of len) true)) }
         ensures zero { IfSome result (λ b. self.new.bytes ≡ put self.old.bytes (512 * b.start) (replicate len 0)) }
+        ensures others { IfSome result (λ b. (a : Piece) → Apart b a → bytes_of self.new a ≡ bytes_of self.old a) }
         ensures none { IfNone result ((s : ℕ) → ¬ Fits (IsTaken self.old.taken) (length self.old.taken) (frames_of len) s) }
         ensures same { IfNone result (self.new ≡ self.old) }
     {
@@ -116,6 +117,7 @@ impl Region {
         requires block { length block.now ≡ 512 }
         ensures taken { self.new.taken ≡ self.old.taken }
         ensures bytes { self.new.bytes ≡ put self.old.bytes (512 * buf.now.start + at) block.now }
+        ensures others { (a : Piece) → Apart buf.now a → bytes_of self.new a ≡ bytes_of self.old a }
     {
         let from = FRAME * buf.start as usize + at as usize;
         self.bytes[from..from + FRAME].copy_from_slice(block);
@@ -129,6 +131,7 @@ impl Region {
         requires to_len { len ≤ to.now.len }
         ensures taken { self.new.taken ≡ self.old.taken }
         ensures bytes { self.new.bytes ≡ put self.old.bytes (512 * to.now.start) (slice_range self.old.bytes (512 * from.now.start) (512 * from.now.start + len)) }
+        ensures others { (a : Piece) → Apart to.now a → bytes_of self.new a ≡ bytes_of self.old a }
     {
         let at = FRAME * from.start as usize;
         self.bytes

@@ -1,4 +1,8 @@
-use Rattle.std.proofs.Common.{◌≡◌, ◌∙◌, ap, arith}
+use Rattle.std.proofs.Common.{◌≡◌, ◌*◌, ◌+◌, ◌∙◌, ap, subst, length, replicate, arith, ℕ}
+use Rattle.std.proofs.lemmas.Grind.{common_steps}
+use Rattle.ark_region.proofs.Sharing.{others_keep}
+use Rattle.std.proofs.lemmas.List.{length-replicate}
+use Rattle.ark_region.specs.Frames.{Space}
 use Rattle.ark_region.proofs.Placing.{none_same, place_same}
 use Rattle.ark_region.proofs.region.Region.take.Goals as goal
 
@@ -10,3 +14,13 @@ returns-in_err-start-clause-none c =
 pub returns-clause-place : goal.returns-clause-place
 returns-clause-place c =
     place_same _ _ _ _ c.in_ok-start.start (c.deref.ensures.value ∙ ap (λ m. m.taken) c.self.view_is) (omega (arith, c.div_ceil-count.ensures)) c.in_ok-start.ensures.some
+
+pub returns-clause-zero : goal.returns-clause-zero
+returns-clause-zero c = grind (arith, common_steps)
+
+pub returns-clause-others : goal.returns-clause-others
+returns-clause-others c b apart =
+    let whole = subst (λ (m : Space). length m.bytes ≡ 512 * length m.taken) c.self.view_is c.self.invariant.0 in
+    let place = returns-clause-place c in
+    let n = length-replicate {A = ℕ} c.args.len 0 in
+    others_keep c.args.self.now (replicate c.args.len 0) (record { start = c.in_ok-start.start; len = c.args.len }) b (512 * c.in_ok-start.start) whole place.here.inside (omega arith) (omega (arith, n)) apart _ (returns-clause-zero c)
