@@ -6,6 +6,9 @@ use Rattle.std.proofs.lemmas.Slice.{take-put_mid_below, drop-put_mid, between-pu
 use borrow.Rule.Slice.PartMut.{put_mid}
 use Rattle.ark_region.specs.Frames.{put}
 
+pub at_or_below : (a b : ℕ) → (a ≤ b) ⊎ (b < a)
+at_or_below a b = grind arith
+
 module _ {X : Type 0} where
   drop_none : (n : ℕ) → drop {A = X} n [] ≡ []
   drop_none zero = refl

@@ -3,10 +3,7 @@ use Rattle.std.proofs.Common.{◌≡◌, ◌<◌, ◌≤◌, ◌+◌, ◌-◌, �
 use Rattle.std.specs.Prelude.{◌⊎◌}
 use Rattle.std.proofs.lemmas.List.{take-append-drop, length-take}
 use Rattle.ark_region.specs.Frames.{Space, Piece, frames_of, bytes_of, Lies, Apart, put}
-use Rattle.ark_region.proofs.Putting.{put_beside}
-
-at_or_below : (a b : ℕ) → (a ≤ b) ⊎ (b < a)
-at_or_below a b = grind arith
+use Rattle.ark_region.proofs.Putting.{at_or_below, put_beside}
 
 frames_hold : (n : ℕ) → n ≤ 512 * frames_of n
 frames_hold n = omega arith
@@ -39,11 +36,11 @@ put_none xs [] i h = let e : i + length {A = ℕ} [] ≡ i = omega arith in ap (
 put_none xs (y ∷ ys) i h = absurd (omega arith)
 
 -- a region has the bytes of each buffer that lies in it
-pub inside_bytes : (r : Space) (b : Piece) → length r.bytes ≡ 512 * length r.taken → Lies r b → 512 * b.start + b.len ≤ length r.bytes
+pub inside_bytes : (r : Space) (b : Piece) → length r.bytes ≡ 512 * length r.taken → Lies r.taken b → 512 * b.start + b.len ≤ length r.bytes
 inside_bytes r b e lies = let f = frames_hold b.len in omega (arith, e, lies, f)
 
 -- what is put into one buffer leaves the bytes of another
-module _ (r : Space) (ys : List ℕ) (a b : Piece) (i : ℕ) (whole : length r.bytes ≡ 512 * length r.taken) (lies : Lies r a) (low : 512 * a.start ≤ i) (high : i + length ys ≤ 512 * a.start + a.len) (apart : Apart a b) where
+module _ (r : Space) (ys : List ℕ) (a b : Piece) (i : ℕ) (whole : length r.bytes ≡ 512 * length r.taken) (lies : Lies r.taken a) (low : 512 * a.start ≤ i) (high : i + length ys ≤ 512 * a.start + a.len) (apart : Apart a b) where
   beside : (512 * a.start + a.len ≤ 512 * b.start) ⊎ (512 * b.start + b.len ≤ 512 * a.start) → (i + length ys ≤ 512 * b.start) ⊎ (512 * b.start + b.len ≤ i)
   beside (inl h) = inl (omega (arith, h))
   beside (inr h) = inr (omega (arith, h))

@@ -1,4 +1,5 @@
 -- A region as frames of 512 bytes, and the buffers that lie in it.
+use Rattle.std.specs.List.{AllByRecursion}
 use Rattle.std.specs.Prelude.{◌≡◌, ◌+◌, ◌*◌, ◌/◌, ◌<◌, ◌≤◌, ◌⊎◌, ◌↔◌, ℕ, Bool, true, false, List, [], ◌∷◌, ◌++◌, length, take, drop, slice_range, slice_index_or}
 
 -- what contracts see of a region: which of its frames are taken, and its bytes, 512 to a frame
@@ -47,14 +48,15 @@ abbrev pub AreApart : List Piece → Type 0
 AreApart [] = Unit {0}
 AreApart (b ∷ live) = ((j : ℕ) → Covers b j → ¬ IsLive live j) × AreApart live
 
--- the taken frames are those of the live buffers, which share none
-pub record StandsFor (r : Space) (live : List Piece) : Type 0 where
-  pub taken : (j : ℕ) → IsTaken r.taken j ↔ IsLive live j
-  pub apart : AreApart live
-
 -- the buffer's frames are inside the region
-abbrev pub Lies : Space → Piece → Type 0
-Lies r b = b.start + frames_of b.len ≤ length r.taken
+abbrev pub Lies : List Bool → Piece → Type 0
+Lies taken b = b.start + frames_of b.len ≤ length taken
+
+-- the taken frames are those of the live buffers, which lie inside the region and share none
+pub record StandsFor (taken : List Bool) (live : List Piece) : Type 0 where
+  pub same : (j : ℕ) → IsTaken taken j ↔ IsLive live j
+  pub inside : AllByRecursion (Lies taken) live
+  pub apart : AreApart live
 
 -- the bytes of a buffer
 abbrev pub bytes_of : Space → Piece → List ℕ

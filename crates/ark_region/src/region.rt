@@ -1,4 +1,4 @@
-ghost use Rattle.std.specs.Prelude.{◌≡◌, ◌≤◌, ◌<◌, ◌+◌, ◌*◌, ◌++◌, ◌∷◌, ℕ, true, false, List, length, replicate, slice_range, IfSome, IfNone, IfOk};
+ghost use Rattle.std.specs.Prelude.{◌≡◌, ◌≤◌, ◌<◌, ◌+◌, ◌*◌, ◌++◌, ◌∷◌, [], ℕ, true, false, List, length, replicate, slice_range, IfSome, IfNone, IfOk};
 ghost use Rattle.std.specs.Borrow.{sem};
 ghost use Rattle.ark_region.specs.Frames.{put, frames_of, bytes_of, Lies, Apart, IsTaken, Fits, IsPlace};
 
@@ -35,7 +35,8 @@ impl Region {
     /// A region of at most 4,096 frames, all free and zero. It fails for want of memory alone; no other call takes memory.
     pub fn new(alloc: Global, frames: u32) -> Result<Region, Memory>
         requires { frames ≤ 4096 }
-        ensures { IfOk result (λ r. r ≡ record { taken = replicate frames false; bytes = replicate (512 * frames) 0 }) }
+        ensures value { IfOk result (λ r. r ≡ record { taken = replicate frames false; bytes = replicate (512 * frames) 0 }) }
+        ensures stands { IfOk result (λ r. StandsFor r.taken []) }
     {
         let Ok(bytes) = vec![in alloc; 0u8; FRAME * frames as usize] else {
             return Err(Memory);
@@ -54,8 +55,11 @@ impl Region {
         ensures place { IfSome result (λ b. IsPlace (IsTaken self.old.taken) (length self.old.taken) (frames_of len) b.start) }
         ensures taken { IfSome result (λ b. self.new.taken ≡ put self.old.taken b.start (replicate (frames_of len) true)) }
         ensures zero { IfSome result (λ b. self.new.bytes ≡ put self.old.bytes (512 * b.start) (replicate len 0)) }
+        ensures place_live { (live : List Piece) → StandsFor self.old.taken live → IfSome result (λ b. IsPlace (IsLive live) (length self.old.taken) (frames_of len) b.start) }
+        ensures stands { (live : List Piece) → StandsFor self.old.taken live → IfSome result (λ b. StandsFor self.new.taken (b ∷ live)) }
         ensures others { IfSome result (λ b. (a : Piece) → Apart b a → bytes_of self.new a ≡ bytes_of self.old a) }
         ensures none { IfNone result ((s : ℕ) → ¬ Fits (IsTaken self.old.taken) (length self.old.taken) (frames_of len) s) }
+        ensures none_live { (live : List Piece) → StandsFor self.old.taken live → IfNone result ((s : ℕ) → ¬ Fits (IsLive live) (length self.old.taken) (frames_of len) s) }
         ensures same { IfNone result (self.new ≡ self.old) }
     {
         let count = (len as usize).div_ceil(FRAME);
@@ -71,8 +75,9 @@ impl Region {
 
     /// Takes a buffer back: its frames are free.
     pub fn give(&mut self, buf: Buf)
-        requires { Lies self.old buf }
+        requires { Lies self.old.taken buf }
         ensures taken { self.new.taken ≡ put self.old.taken buf.start (replicate (frames_of buf.len) false) }
+        ensures stands { (before after : List Piece) → StandsFor self.old.taken (before ++ buf ∷ after) → StandsFor self.new.taken (before ++ after) }
         ensures bytes { self.new.bytes ≡ self.old.bytes }
     {
         let start = buf.start as usize;
@@ -82,7 +87,7 @@ impl Region {
 
     /// The bytes of a buffer.
     pub fn bytes(&self, buf: &Buf) -> &[u8]
-        requires { Lies self.now buf.now }
+        requires { Lies self.now.taken buf.now }
         ensures { result.now ≡ bytes_of self.now buf.now }
     {
         let at = FRAME * buf.start as usize;
@@ -91,7 +96,7 @@ impl Region {
 
     /// The bytes of a buffer, to be written. All other bytes stay as they are.
     pub fn bytes_mut(&mut self, buf: &Buf) -> &mut [u8]
-        requires { Lies self.old buf.now }
+        requires { Lies self.old.taken buf.now }
         ensures* writes_back { sem 𝓛 (LendsPiece self.entry (512 * buf.now.start) result) }
         ensures value { result.now ≡ bytes_of self.old buf.now }
     {
@@ -101,7 +106,7 @@ impl Region {
 
     /// The 512 bytes of a buffer from its byte `at` on.
     pub fn block(&self, buf: &Buf, at: u32) -> &[u8]
-        requires lies { Lies self.now buf.now }
+        requires lies { Lies self.now.taken buf.now }
         requires within { at + 512 ≤ buf.now.len }
         ensures value { result.now ≡ slice_range self.now.bytes (512 * buf.now.start + at) (512 * buf.now.start + at + 512) }
         ensures len { length result.now ≡ 512 }
@@ -112,7 +117,7 @@ impl Region {
 
     /// Writes the 512 bytes of a buffer from its byte `at` on.
     pub fn set_block(&mut self, buf: &Buf, at: u32, block: &[u8])
-        requires lies { Lies self.old buf.now }
+        requires lies { Lies self.old.taken buf.now }
         requires within { at + 512 ≤ buf.now.len }
         requires block { length block.now ≡ 512 }
         ensures taken { self.new.taken ≡ self.old.taken }
@@ -125,8 +130,8 @@ impl Region {
 
     /// Copies the first `len` bytes of one buffer to the front of another, or of the same.
     pub fn copy(&mut self, from: &Buf, to: &Buf, len: u32)
-        requires from { Lies self.old from.now }
-        requires to { Lies self.old to.now }
+        requires from { Lies self.old.taken from.now }
+        requires to { Lies self.old.taken to.now }
         requires from_len { len ≤ from.now.len }
         requires to_len { len ≤ to.now.len }
         ensures taken { self.new.taken ≡ self.old.taken }
