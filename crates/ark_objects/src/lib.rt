@@ -1,13 +1,6 @@
-// A library with one function.
+//! Granted objects of one kind, each under the key that its capability carries.
 #![tactic(auto)]
 
-ghost use Rattle.std.specs.Prelude.{◌≡◌};
-ghost use Rattle.ark_objects.specs.Echo.{echo_of};
+mod objects;
 
-// The `ensures` clause is the contract: what `echo` returns is `echo_of` of its argument, a definition
-// in `specs/Echo.antt`, which a caller's clause can cite too.
-pub fn echo(x: usize) -> usize
-    ensures { result ≡ echo_of x }
-{
-    x
-}
+pub use objects::{Objects, ROOM};
