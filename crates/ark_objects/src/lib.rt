@@ -4,3 +4,6 @@
 mod objects;
 
 pub use objects::{Objects, ROOM};
+
+#[cfg(test)]
+mod tests;

@@ -2,3 +2,5 @@ pub mod Placing
 pub mod Putting
 pub mod Sharing
 pub mod Living
+pub mod Cuts
+pub mod TwoLent

@@ -33,8 +33,7 @@ all_free (x ∷ t) (suc s) (suc k) le f = all_free t s (suc k) (omega arith) (λ
 -- the test of the frames from s on tells whether a buffer fits there
 pub fits_test : (t : List Bool) (s k : ℕ) → s + k ≤ length t → (list_all not (slice_range t s (s + k)) ≡ true) ↔ Fits (IsTaken t) (length t) k s
 fits_test t s k le =
-    let e : (s + k) - s ≡ k = omega arith in
-    (
+    let e : (s + k) - s ≡ k = omega arith in (
       λ h. record { inside = le; free = λ j a b is. true≢false (sym is ∙ clear t s k j (rw e at h) a b) },
       λ f. rw e (all_free t s k le f.free),
     )

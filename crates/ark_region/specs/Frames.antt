@@ -66,6 +66,10 @@ bytes_of r b = slice_range r.bytes (512 * b.start) (512 * b.start + b.len)
 abbrev pub put : {X : Type 0} → List X → ℕ → List X → List X
 put xs i ys = take i xs ++ (ys ++ drop (i + length ys) xs)
 
--- xs, with ys from place i on; where ys is too long or too short the length of xs stays
+-- ys, cut or filled up from xs to the length of xs
+abbrev pub fitted : {X : Type 0} → List X → List X → List X
+fitted xs ys = take (length xs) (ys ++ drop (length ys) xs)
+
+-- xs, with ys from place i on, fitted to the length of xs
 abbrev pub written : {X : Type 0} → List X → ℕ → List X → List X
-written xs i ys = let zs = take i xs ++ (ys ++ drop (length ys) (drop i xs)) in take (length xs) (zs ++ drop (length zs) xs)
+written xs i ys = fitted xs (take i xs ++ (ys ++ drop (length ys) (drop i xs)))

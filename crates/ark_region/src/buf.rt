@@ -1,4 +1,4 @@
-ghost use Rattle.std.specs.Prelude.{◌≡◌};
+ghost use Rattle.std.specs.Prelude.{◌≡◌, ◌*◌};
 
 use std::marker::Model;
 
@@ -18,6 +18,15 @@ impl Model for Buf {
     ghost view = { λ b. record { start = b.start; len = b.len } };
 }
 
+/// Where the bytes of a buffer lie in its region.
+#[derive(Clone, Copy, Debug, PartialEq, Eq)]
+pub struct Place {
+    /// The first byte.
+    pub at: usize,
+    /// How many bytes.
+    pub len: usize,
+}
+
 impl Buf {
     /// The frame of the region where it starts; frames count from 0.
     pub fn start(&self) -> u32
@@ -31,5 +40,16 @@ impl Buf {
         ensures { result ≡ self.now.len }
     {
         self.len
+    }
+
+    /// Where its bytes lie in the region.
+    pub fn place(&self) -> Place
+        ensures at { result.at ≡ 512 * self.now.start }
+        ensures len { result.len ≡ self.now.len }
+    {
+        Place {
+            at: 512 * self.start as usize,
+            len: self.len as usize,
+        }
     }
 }

@@ -4,6 +4,11 @@
 mod buf;
 mod place;
 mod region;
+mod two;
 
-pub use buf::Buf;
+pub use buf::{Buf, Place};
 pub use region::Region;
+pub use two::two_of;
+
+#[cfg(test)]
+mod tests;

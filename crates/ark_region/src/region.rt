@@ -30,7 +30,7 @@ impl Model for Region {
 
 impl Region {
     ghost use Rattle.ark_region.specs.Frames.{Space, Piece, StandsFor, IsLive};
-    ghost use Rattle.ark_region.specs.Lending.{LendsPiece};
+    ghost use Rattle.ark_region.specs.Lending.{LendsPiece, LendsWhole};
 
     /// A region of at most 4,096 frames, all free and zero. It fails for want of memory alone; no other call takes memory.
     pub fn new(alloc: Global, frames: u32) -> Result<Region, Memory>
@@ -52,11 +52,13 @@ impl Region {
     pub fn take(&mut self, len: u32) -> Option<Buf>
         requires { 0 < len }
         ensures len { IfSome result (λ b. b.len ≡ len) }
+        ensures lies { IfSome result (λ b. Lies self.new.taken b) }
         ensures place { IfSome result (λ b. IsPlace (IsTaken self.old.taken) (length self.old.taken) (frames_of len) b.start) }
         ensures taken { IfSome result (λ b. self.new.taken ≡ put self.old.taken b.start (replicate (frames_of len) true)) }
         ensures zero { IfSome result (λ b. self.new.bytes ≡ put self.old.bytes (512 * b.start) (replicate len 0)) }
         ensures place_live { (live : List Piece) → StandsFor self.old.taken live → IfSome result (λ b. IsPlace (IsLive live) (length self.old.taken) (frames_of len) b.start) }
         ensures stands { (live : List Piece) → StandsFor self.old.taken live → IfSome result (λ b. StandsFor self.new.taken (b ∷ live)) }
+        ensures frames { length self.new.taken ≡ length self.old.taken }
         ensures others { IfSome result (λ b. (a : Piece) → Apart b a → bytes_of self.new a ≡ bytes_of self.old a) }
         ensures none { IfNone result ((s : ℕ) → ¬ Fits (IsTaken self.old.taken) (length self.old.taken) (frames_of len) s) }
         ensures none_live { (live : List Piece) → StandsFor self.old.taken live → IfNone result ((s : ℕ) → ¬ Fits (IsLive live) (length self.old.taken) (frames_of len) s) }
@@ -79,6 +81,7 @@ impl Region {
         ensures taken { self.new.taken ≡ put self.old.taken buf.start (replicate (frames_of buf.len) false) }
         ensures stands { (before after : List Piece) → StandsFor self.old.taken (before ++ buf ∷ after) → StandsFor self.new.taken (before ++ after) }
         ensures bytes { self.new.bytes ≡ self.old.bytes }
+        ensures frames { length self.new.taken ≡ length self.old.taken }
     {
         let start = buf.start as usize;
         let count = (buf.len as usize).div_ceil(FRAME);
@@ -102,6 +105,15 @@ impl Region {
     {
         let at = FRAME * buf.start as usize;
         self.bytes.slice_mut(at..at + buf.len as usize)
+    }
+
+    /// All bytes of the region, to be lent on by `two_of`.
+    pub fn whole_mut(&mut self) -> &mut [u8]
+        ensures* writes_back { sem 𝓛 (LendsWhole self.entry result) }
+        ensures value { result.now ≡ self.old.bytes }
+        ensures len { length result.now ≡ 512 * length self.old.taken }
+    {
+        self.bytes.as_mut_slice()
     }
 
     /// The 512 bytes of a buffer from its byte `at` on.

@@ -246,8 +246,7 @@ fill_added q t n p past =
 pub kept_law : (q b t n : ℕ) (p : List Pass) → NoneAfter t p → (Keeps q b (p ++ (t, n) ∷ []) → Keeps q b p × (fill_of q p t + n ≤ b)) × (Keeps q b p × (fill_of q p t + n ≤ b) → Keeps q b (p ++ (t, n) ∷ []))
 kept_law q b t n p past =
     let f = fill_is_fill q p t past in
-    let z = no_gap q t in
-    (
+    let z = no_gap q t in (
       λ kept. (keeps_less q b t n p kept, let h = fits_again q p t (fill_of q p t) t n (omega arith) past f b kept in omega (arith, h, z)),
       λ (kept, fits). keeps_more q p t (fill_of q p t) t n (omega arith) past f b kept (omega (arith, fits, z)),
     )

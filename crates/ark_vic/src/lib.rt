@@ -12,3 +12,6 @@ pub use door::{Bell, Counts, Door};
 pub use laws::rate_laws;
 pub use rate::Rate;
 pub use ring::Ring;
+
+#[cfg(test)]
+mod tests;

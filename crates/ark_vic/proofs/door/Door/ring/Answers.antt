@@ -11,4 +11,3 @@ returns-in-Tx-clause-counts c bells e = search rules ∙ ap (λ k. one_more k c.
 
 pub returns-in-Io-clause-counts : goal.returns-in-Io-clause-counts
 returns-in-Io-clause-counts c bells e = search rules ∙ ap (λ k. one_more k c.args.bell) e ∙ counts_more bells c.args.bell
-
