@@ -4,3 +4,4 @@ pub mod Sharing
 pub mod Living
 pub mod Cuts
 pub mod TwoLent
+pub mod Following

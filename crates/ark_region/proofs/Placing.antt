@@ -1,6 +1,6 @@
 -- Free frames, as a test of the part of a list and as a set of places.
 use Rattle.std.proofs.Common.{◌≡◌, ◌<◌, ◌≤◌, ◌+◌, ◌-◌, ℕ, zero, suc, Bool, true, false, not, List, [], ◌∷◌, length, take, drop, refl, sym, subst, ◌∙◌, true≢false, arith, slice_range, slice_index_or}
-use Rattle.std.specs.Prelude.{IsTrue, ◌↔◌, ◌&&◌}
+use Rattle.std.specs.Prelude.{◌↔◌}
 use Rattle.std.specs.List.{list_all}
 use Rattle.std.proofs.lemmas.Bool.{and_parts}
 use Rattle.ark_region.specs.Frames.{IsTaken, Fits, IsPlace}

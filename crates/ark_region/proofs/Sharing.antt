@@ -1,5 +1,5 @@
 -- Buffers that share no frame share no byte.
-use Rattle.std.proofs.Common.{◌≡◌, ◌<◌, ◌≤◌, ◌+◌, ◌-◌, ◌*◌, ◌/◌, ◌++◌, ◌∙◌, ℕ, List, [], ◌∷◌, length, take, drop, refl, ap, arith, slice_range, inl, inr}
+use Rattle.std.proofs.Common.{◌≡◌, ◌<◌, ◌≤◌, ◌+◌, ◌-◌, ◌*◌, ◌++◌, ◌∙◌, ℕ, List, [], ◌∷◌, length, take, drop, refl, ap, arith, slice_range, inl, inr}
 use Rattle.std.specs.Prelude.{◌⊎◌}
 use Rattle.std.proofs.lemmas.List.{take-append-drop, length-take}
 use Rattle.ark_region.specs.Frames.{Space, Piece, frames_of, bytes_of, Lies, Apart, put}
@@ -21,7 +21,7 @@ apart_places s m t n p q apart = by (at_or_below (s + m) t) (at_or_below (t + n)
     by (inr a) (inr b) (inl c) = absurd (apart t (c, a) (omega arith, omega arith))
     by (inr a) (inr b) (inr c) = absurd (apart s (omega arith, omega arith) (omega arith, b))
 
-apart_bytes : (a b : Piece) → 0 < a.len → 0 < b.len → Apart a b → (512 * a.start + a.len ≤ 512 * b.start) ⊎ (512 * b.start + b.len ≤ 512 * a.start)
+pub apart_bytes : (a b : Piece) → 0 < a.len → 0 < b.len → Apart a b → (512 * a.start + a.len ≤ 512 * b.start) ⊎ (512 * b.start + b.len ≤ 512 * a.start)
 apart_bytes a b p q apart = by (apart_places a.start (frames_of a.len) b.start (frames_of b.len) (some_frames a.len p) (some_frames b.len q) apart)
   where
     by : (a.start + frames_of a.len ≤ b.start) ⊎ (b.start + frames_of b.len ≤ a.start) → (512 * a.start + a.len ≤ 512 * b.start) ⊎ (512 * b.start + b.len ≤ 512 * a.start)
@@ -54,3 +54,14 @@ module _ (r : Space) (ys : List ℕ) (a b : Piece) (i : ℕ) (whole : length r.b
 
   pub others_keep : (now : List ℕ) → now ≡ put r.bytes i ys → slice_range now (512 * b.start) (512 * b.start + b.len) ≡ bytes_of r b
   others_keep now is = ap (λ z. slice_range z (512 * b.start) (512 * b.start + b.len)) is ∙ keeps (at_or_below b.len 0) (at_or_below (length ys) 0)
+
+-- the same, in bytes that are known by equations
+pub apart_at : (a b : Piece) (i n j m : ℕ) → i ≡ 512 * a.start → n ≡ a.len → j ≡ 512 * b.start → m ≡ b.len → 0 < a.len → 0 < b.len → Apart a b → (i + n ≤ j) ⊎ (j + m ≤ i)
+apart_at a b i n j m ei en ej em p q apart = by (apart_bytes a b p q apart)
+  where
+    by : (512 * a.start + a.len ≤ 512 * b.start) ⊎ (512 * b.start + b.len ≤ 512 * a.start) → (i + n ≤ j) ⊎ (j + m ≤ i)
+    by (inl h) = inl (omega (arith, h, ei, en, ej))
+    by (inr h) = inr (omega (arith, h, ej, em, ei))
+
+pub same_range : (xs ys : List ℕ) (i n j m : ℕ) → xs ≡ ys → i ≡ j → n ≡ m → slice_range xs i (i + n) ≡ slice_range ys j (j + m)
+same_range xs ys i n j m e f g = cc

@@ -1,5 +1,5 @@
 -- Two parts of a slice of bytes are lent at once, and the slice follows them.
-use Rattle.std.proofs.Common.{◌≡◌, ◌<◌, ◌≤◌, ◌+◌, ◌-◌, ◌*◌, ◌++◌, ◌^◌, ℕ, List, [], ◌∷◌, length, take, drop, refl, sym, ap, subst, ◌∙◌, arith, slice_range, inl, inr, MutBor}
+use Rattle.std.proofs.Common.{◌≡◌, ◌≤◌, ◌+◌, ◌-◌, ◌++◌, ℕ, List, [], ◌∷◌, length, take, drop, refl, sym, ap, ◌∙◌, arith, slice_range, inl, inr}
 use Rattle.std.specs.Prelude.{◌⊎◌}
 use seplogic.Ra.Ura.{Ura}
 use mir.Syntax.{Lifetime}
@@ -8,7 +8,7 @@ use base.Logic.{SProp, ent, sep, ex}
 use base.Stored.{coded_list}
 use base.Fml.{Lft, GName, Share, flft, fobs, fbor}
 use types.Logic.{Logic, sem}
-use types.Kit.{‵, raw, ◌⊛◌, some, later, ◌$◌, ◌∵◌, !, qed, by, move, keep, drop as drop_entry, use1, use2, split, split3, join, group, pick, rewrite, fsplit, fsplit3, fjoin, feq_l, feq_i, show, await, updating, now, done}
+use types.Kit.{‵, raw, ◌⊛◌, some, later, ◌$◌, ◌∵◌, !, qed, by, move, drop as drop_entry, use1, use2, split, split3, join, group, pick, rewrite, fsplit, fsplit3, fjoin, feq_l, feq_i, show, await, updating, now, done}
 use types.SemTy.{SemTy, cells, Arr, Body}
 use types.Mut.{open_ref}
 use types.Follow.{after₂, takes_two}
@@ -42,10 +42,13 @@ module _ {M : Type 1} {𝓤 : Ura M} (𝓛 : Logic 𝓤) where
   module _ (a x f y c : List ℕ) (b o : ℕ) where
     abbrev ox : ℕ
     ox = length a + o
+
     abbrev of : ℕ
     of = length x + (length a + o)
+
     abbrev oy : ℕ
     oy = length f + (length x + (length a + o))
+
     abbrev oc : ℕ
     oc = length y + (length f + (length x + (length a + o)))
 
@@ -74,13 +77,16 @@ module _ {M : Type 1} {𝓤 : Ura M} (𝓛 : Logic 𝓤) where
   module _ (xs : List ℕ) (i n j m b o : ℕ) (fi : i + n ≤ length xs) (fj : j + m ≤ length xs) where
     abbrev pub first : List ℕ
     first = slice_range xs i (i + n)
+
     abbrev pub second : List ℕ
     second = slice_range xs j (j + m)
+
     abbrev pub ends : List ℕ → List ℕ → List ℕ
     ends v w = put (put xs i v) j w
 
     pub first_long : length first ≡ n
     first_long = let e = range_long xs i (i + n) (omega arith) fi in omega (arith, e)
+
     pub second_long : length second ≡ m
     second_long = let e = range_long xs j (j + m) (omega arith) fj in omega (arith, e)
 
@@ -169,7 +175,7 @@ module _ {M : Type 1} {𝓤 : Ura M} (𝓛 : Logic 𝓤) where
           use1 𝓛 (‵ (cells B first b (i + o)) ⊛ ‵ (cells B second b (j + o)) ⊛ raw p.Rest) p.out $ split3 ! $
           feq_i ! ℕ (length first) (length first) refl $ fjoin ! $ move ! (1 ∷ []) $ feq_i ! ℕ (length second) (length second) refl $ fjoin ! $ move ! (3 ∷ 4 ∷ 5 ∷ 1 ∷ 0 ∷ 2 ∷ []) $ group ! 6 $
           use1 𝓛 (later (some (λ (γs : GName × GName). (‵ (fobs γs.0 ((coded_list u8.coded).code first)) ⊛ ‵ (fbor κ (Body (L (length first)) b (i + o) γs.0))) ⊛ (‵ (fobs γs.1 ((coded_list u8.coded).code second)) ⊛ ‵ (fbor κ (Body (L (length second)) b (j + o) γs.1)))
-            ⊛ ‵ (flft κ q) ⊛ ‵ (after₂ (L 0) (L 0) (L 0) γ γs.0 γs.1 ends))))
+          ⊛ ‵ (flft κ q) ⊛ ‵ (after₂ (L 0) (L 0) (L 0) γ γs.0 γs.1 ends))))
           (takes_two 𝓛 (L (length xs)) (L (length first)) (L (length second)) ends κ q b o b (i + o) b (j + o) γ p.Rest back_whole ((coded_list u8.coded).code xs) ((coded_list u8.coded).code xs) first second) $ await ! tt $ pick ! (λ γs. split3 ! $
           use1 𝓛 (‵ ((MutSlice ℓ κ u8).own_val (record { ref_ptr = (b, i + o); ghost_name = γs.0; now = first }) (slice_val (b, i + o) (length first) ∷ []))) (slice_of 𝓛 u8 ℓ κ b (i + o) γs.0 first r₁) $ move ! (1 ∷ []) $
           use1 𝓛 (‵ ((MutSlice ℓ κ u8).own_val (record { ref_ptr = (b, j + o); ghost_name = γs.1; now = second }) (slice_val (b, j + o) (length second) ∷ []))) (slice_of 𝓛 u8 ℓ κ b (j + o) γs.1 second r₂) $ move ! (1 ∷ 0 ∷ []) $ now ! $ show ! Two γs $ done !)

@@ -1,4 +1,4 @@
-ghost use Rattle.std.specs.Prelude.{◌≡◌, ◌*◌};
+ghost use Rattle.std.specs.Prelude.{◌≡◌, ◌*◌, ◌<◌};
 
 use std::marker::Model;
 
@@ -11,11 +11,14 @@ pub struct Buf {
 }
 
 impl Model for Buf {
+    ghost use Rattle.std.specs.Prelude.{◌<◌};
     ghost use Rattle.ark_region.specs.Frames.{Piece};
 
     ghost Value = { Piece };
 
     ghost view = { λ b. record { start = b.start; len = b.len } };
+
+    ghost invariant = { λ b. 0 < b.len };
 }
 
 /// Where the bytes of a buffer lie in its region.
@@ -46,6 +49,7 @@ impl Buf {
     pub fn place(&self) -> Place
         ensures at { result.at ≡ 512 * self.now.start }
         ensures len { result.len ≡ self.now.len }
+        ensures some { 0 < self.now.len }
     {
         Place {
             at: 512 * self.start as usize,

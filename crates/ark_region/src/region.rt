@@ -4,6 +4,7 @@ ghost use Rattle.ark_region.specs.Frames.{put, frames_of, bytes_of, Lies, Apart,
 
 use crate::buf::Buf;
 use crate::place::place;
+use crate::two::two_of;
 use ark_base::Memory;
 use std::alloc::Global;
 use std::marker::Model;
@@ -30,7 +31,7 @@ impl Model for Region {
 
 impl Region {
     ghost use Rattle.ark_region.specs.Frames.{Space, Piece, StandsFor, IsLive};
-    ghost use Rattle.ark_region.specs.Lending.{LendsPiece, LendsWhole};
+    ghost use Rattle.ark_region.specs.Lending.{LendsPiece, LendsWhole, LendsPieces};
 
     /// A region of at most 4,096 frames, all free and zero. It fails for want of memory alone; no other call takes memory.
     pub fn new(alloc: Global, frames: u32) -> Result<Region, Memory>
@@ -114,6 +115,20 @@ impl Region {
         ensures len { length result.now ≡ 512 * length self.old.taken }
     {
         self.bytes.as_mut_slice()
+    }
+
+    /// The bytes of two different buffers at once, both to be written. All other bytes stay as they are.
+    pub fn two(&mut self, a: &Buf, b: &Buf) -> (&mut [u8], &mut [u8])
+        requires apart { Apart a.now b.now }
+        requires first { Lies self.old.taken a.now }
+        requires second { Lies self.old.taken b.now }
+        ensures* writes_back { sem 𝓛 (LendsPieces self.entry a.now b.now result) }
+        ensures value { (result.0.now ≡ bytes_of self.old a.now) × (result.1.now ≡ bytes_of self.old b.now) }
+    {
+        let first = a.place();
+        let second = b.place();
+        let all = self.whole_mut();
+        two_of(all, first, second)
     }
 
     /// The 512 bytes of a buffer from its byte `at` on.

@@ -10,6 +10,18 @@ fn gives_zero_bytes(rt: HostRuntime) {
     assert!(rt; region.bytes(&buf).starts_with(&[0, 7]));
     region.bytes_mut(&buf).fill(9);
     assert_eq!(rt; region.block(&buf, 0).first(), Some(&9));
+    let first = buf.place();
     region.give(buf);
+    let second = Place { at: 1024, len: 2 };
+    let (x, y) = two_of(
+        region.whole_mut(),
+        Place {
+            at: first.at,
+            len: 2,
+        },
+        second,
+    );
+    y.copy_from_slice(x);
+    assert_eq!(rt; y.last(), Some(&9));
     assert!(rt; region.take(2049).is_none());
 }

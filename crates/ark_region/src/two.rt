@@ -29,7 +29,10 @@ pub fn two_of(all: &mut [u8], a: Place, b: Place) -> (&mut [u8], &mut [u8])
     requires first { a.at + a.len ≤ length all.old }
     requires second { b.at + b.len ≤ length all.old }
     ensures* writes_back { sem 𝓛 (LendsTwo all.entry a.at b.at result) }
-    ensures value { (result.0.now ≡ slice_range all.old a.at (a.at + a.len)) × (result.1.now ≡ slice_range all.old b.at (b.at + b.len)) }
+    ensures first { result.0.now ≡ slice_range all.old a.at (a.at + a.len) }
+    ensures first_len { length result.0.now ≡ a.len }
+    ensures second { result.1.now ≡ slice_range all.old b.at (b.at + b.len) }
+    ensures second_len { length result.1.now ≡ b.len }
 {
     two_parts(all, a.at, a.len, b.at, b.len)
 }

@@ -1,5 +1,5 @@
 -- One more ring of a door.
-use Rattle.std.proofs.Common.{◌≡◌, ◌+◌, ◌-◌, ◌^◌, ◌++◌, ◌∷◌, [], ℕ, List, Bool, cond, refl, ap, ◌∙◌, arith, min}
+use Rattle.std.proofs.Common.{◌≡◌, ◌+◌, ◌++◌, ◌∷◌, [], ℕ, List, Bool, cond, arith}
 use Rattle.ark_vic.specs.declared.door.Bell.{Bell}
 use Rattle.ark_vic.specs.declared.door.Bell.TheVariants.{Rx, Tx, Io}
 use Rattle.ark_vic.specs.declared.door.Counts.{Counts}

@@ -1,9 +1,8 @@
 use super::*;
 use ark_base::Outcome;
-use ark_region::Region;
 
-/// A write of one block from a buffer.
-fn write(tag: u32, buf: Option<ark_region::Buf>) -> Descriptor {
+/// A write of one block.
+fn write(tag: u32) -> Descriptor {
     Descriptor {
         job: Job::Write,
         grant: 3,
@@ -13,28 +12,24 @@ fn write(tag: u32, buf: Option<ark_region::Buf>) -> Descriptor {
         from: 0,
         len: 0,
         tag,
-        buf,
+        buf: None,
     }
 }
 
 #[test]
-fn passes_a_buffer_through_a_ring(rt: HostRuntime) {
-    let mut region = Region::new(rt.alloc(), 4).expect(&rt, "a region");
+fn ends_the_oldest(rt: HostRuntime) {
     let mut ring = Ring::new(rt.alloc(), 2).expect(&rt, "a ring");
-    let buf = region.take(512);
-    assert!(rt; ring.post(write(1, buf)).is_ok());
-    assert!(rt; ring.post(write(2, None)).is_ok());
+    assert!(rt; ring.post(write(1)).is_ok());
+    assert!(rt; ring.post(write(2)).is_ok());
     assert!(rt; ring.is_full());
-    assert!(rt; ring.post(write(3, None)).is_err());
+    assert!(rt; ring.post(write(3)).is_err());
+    assert_eq!(rt; ring.posted(), 2);
     ring.advance();
-    assert_eq!(rt; (ring.moved(), ring.posted(), ring.size()), (1, 2, 2));
+    assert_eq!(rt; ring.moved(), 1);
     ring.finish(Outcome::Ok, 0);
-    assert_eq!(rt; (ring.moved(), ring.posted(), ring.unreaped()), (0, 1, 1));
+    assert_eq!(rt; (ring.moved(), ring.unreaped(), ring.size()), (0, 1, 2));
     assert_eq!(rt; ring.head().map(|d| d.tag), Some(2));
-    let done = ring.reap().expect(&rt, "a done");
-    assert_eq!(rt; (done.tag, done.outcome), (1, Outcome::Ok));
-    let buf = done.buf.expect(&rt, "a buf");
-    region.give(buf);
+    assert_eq!(rt; ring.reap().map(|c| c.tag), Some(1));
     assert!(rt; ring.reap().is_none());
 }
 

@@ -1,4 +1,4 @@
-use Rattle.std.proofs.Common.{◌≡◌, ◌<◌, ◌≤◌, ◌+◌, ℕ, length, arith, false, true, sym, ◌∙◌, true≢false, ltb}
+use Rattle.std.proofs.Common.{length, sym, ◌∙◌, true≢false}
 use borrow.Author.Count.{below_more}
 use Rattle.ark_region.specs.Frames.{IsTaken, Fits}
 use Rattle.ark_region.proofs.Placing.{none_below}

@@ -1,11 +1,11 @@
 -- `two_parts` meets its contract: a walk of its MIR by hand.
-use Rattle.std.proofs.Common.{◌≡◌, ◌≤◌, ◌<◌, ◌+◌, ◌*◌, ◌^◌, ℕ, List, [], ◌∷◌, length, refl, sym, subst, arith, w64, MutBor}
+use Rattle.std.proofs.Common.{◌≤◌, ◌<◌, ◌+◌, ◌^◌, ℕ, List, [], ◌∷◌, length, refl, sym, w64, MutBor}
 use Rattle.std.proofs.raw_atomic.Walks.{proved}
 use Rattle.std.specs.Prelude.{◌⊎◌}
 use seplogic.Ra.Ura.{Ura}
 use mir.Syntax.{named}
 use mir.Val.{Val, vint, vstruct, vcons, vnil}
-use base.Logic.{SProp, ent, sep}
+use base.Logic.{SProp, ent}
 use base.Fml.{Lft, GName, Share, ftrue, flft}
 use prog.Memory.{Memory}
 use prog.Routine.{Routine}
@@ -15,7 +15,7 @@ use types.Follow.{after₂}
 use types.SemTy.{Arr}
 use contract.Monad.{Fun, fact}
 use contract.Running.{tables}
-use types.Kit.{‵, raw, ◌⊛◌, some, later, at_ret, ◌$◌, ◌∵◌, !, qed, by, move, keep, use2, drop, split, split3, join, await, pick, fsplit, fjoin, fpack, feq_i, suffices, frame, done}
+use types.Kit.{‵, raw, ◌⊛◌, some, later, at_ret, ◌$◌, ◌∵◌, !, qed, by, move, keep, use2, split, split3, join, await, pick, fsplit, fjoin, fpack, feq_i, suffices, frame, done}
 use types.Part.{whole, sub, agg}
 use types.Run.{stop, fld, addr, hop, from, of_opd, bin, and_then, no_more, first as first_of, blocks, exec, returns, enter}
 use types.ByLocal.{alloc_all, pass_all, free_all, look_at, look_in_at, get, sets, sets_last, env}
@@ -66,7 +66,7 @@ module _ {M : Type 1} {𝓤 : Ura M} (𝓛 : Logic 𝓤) (at_mem : Memory → SP
     module _ (C : Calls 𝓤 H) (Λ : Loops 𝓤 H) where
       walk : Room u8 (length xs) → i < 2 ^ 64 → n < 2 ^ 64 → j < 2 ^ 64 → m < 2 ^ 64 → (i + n ≤ j) ⊎ (j + m ≤ i) → i + n ≤ length xs → j + m ≤ length xs
           → ent 𝓤 (on_entry 𝓛 f.signature (κ, tt) (q, tt) bound.0.3 bound.0.4)
-            (WpFn 𝓤 H C Λ code.function (slice_val (b, o) (length xs) ∷ vint w64 i ∷ vint w64 n ∷ vint w64 j ∷ vint w64 m ∷ []) Post)
+          (WpFn 𝓤 H C Λ code.function (slice_val (b, o) (length xs) ∷ vint w64 i ∷ vint w64 n ∷ vint w64 j ∷ vint w64 m ∷ []) Post)
       unfolding both_by
       walk room fi fn fj fm apart li lj =
           let l₁ = first_long 𝓛 xs i n j m b o li lj in
@@ -91,7 +91,7 @@ module _ {M : Type 1} {𝓤 : Ura M} (𝓛 : Logic 𝓤) (at_mem : Memory → SP
           sets ! (of_opd ! (get ! refl)) refl (tt, ((tt, (record { fits = fn }, tt)), ((tt, (record { fits = fm }, tt)), tt))) $
           move ! (1 ∷ []) $ fsplit ! $ move ! (2 ∷ []) $ split ! $ move ! (2 ∷ 0 ∷ []) $
           use2 𝓛 (later (some (λ (γs : GName × GName). ‵ ((MutSlice (named 0) κ u8).own_val (one γs) (slice_val (b, i + o) (length X) ∷ [])) ⊛ ‵ ((MutSlice (named 0) κ u8).own_val (two γs) (slice_val (b, j + o) (length Y) ∷ []))
-            ⊛ ‵ (flft κ q) ⊛ ‵ (after₂ (Arr (mem u8) 0) (Arr (mem u8) 0) (Arr (mem u8) 0) γ γs.0 γs.1 (ends 𝓛 xs i n j m b o li lj)))))
+          ⊛ ‵ (flft κ q) ⊛ ‵ (after₂ (Arr (mem u8) 0) (Arr (mem u8) 0) (Arr (mem u8) 0) γ γs.0 γs.1 (ends 𝓛 xs i n j m b o li lj)))))
           (lends_both 𝓛 xs i n j m b o li lj (apart_in 𝓛 xs i n j m b o li lj apart) (named 0) κ q γ room (mut_slice_vals self)) $ await ! tt $ pick ! (λ γs. split3 ! $
           nothing ! $ move ! (2 ∷ 0 ∷ []) $ fjoin ! $ move ! (1 ∷ 0 ∷ []) $ fjoin ! $
           feq_i ! (List Val) (v ∷ []) (vstruct (vcons (slice_val (b, i + o) (length X)) (vcons (slice_val (b, j + o) (length Y)) vnil)) ∷ []) (λ k. vstruct (vcons (slice_val (b, i + o) (sym l₁ k)) (vcons (slice_val (b, j + o) (sym l₂ k)) vnil)) ∷ []) $ fjoin ! $

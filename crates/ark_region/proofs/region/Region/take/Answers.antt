@@ -1,4 +1,4 @@
-use Rattle.std.proofs.Common.{◌≡◌, ◌*◌, ◌+◌, ◌∙◌, ap, subst, length, replicate, arith, ℕ}
+use Rattle.std.proofs.Common.{◌≡◌, ◌*◌, ◌∙◌, ap, subst, length, replicate, arith, ℕ}
 use Rattle.ark_region.proofs.Living.{place_over, none_over, stands_more}
 use Rattle.std.proofs.lemmas.Grind.{common_steps}
 use Rattle.ark_region.proofs.Sharing.{others_keep}

@@ -1,4 +1,4 @@
-use Rattle.std.proofs.Common.{◌≡◌, ap, ◌∙◌, rules}
+use Rattle.std.proofs.Common.{ap, ◌∙◌, rules}
 use Rattle.ark_vic.specs.Bells.{one_more}
 use Rattle.ark_vic.proofs.BellLemmas.{counts_more}
 use Rattle.ark_vic.proofs.door.Door.ring.Goals as goal
