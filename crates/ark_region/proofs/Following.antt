@@ -3,9 +3,9 @@ use Rattle.std.proofs.Common.{ℕ, List, [], ◌∷◌}
 use seplogic.Ra.Ura.{Ura}
 use base.Logic.{SProp, ent, sep, wand}
 use base.Stored.{coded_list}
-use base.Fml.{GName, Fml, fres, fsep}
+use base.Fml.{GName, fres, fsep}
 use types.Logic.{Logic, sem}
-use types.Kit.{‵, raw, ◌⊛◌, ◌$◌, ◌∵◌, !, qed, by, move, use2, each, assume}
+use types.Kit.{‵, ◌$◌, ◌∵◌, !, qed, by, move, use2, each, assume}
 use types.SemTy.{SemTy, Arr}
 use types.Follow.{followed₂}
 use denote.Memory.{mem}

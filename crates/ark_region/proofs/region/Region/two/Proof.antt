@@ -1,18 +1,16 @@
 -- `Region::two` meets its contract: a walk over its four calls.
-use Rattle.std.proofs.Common.{◌≡◌, ◌≤◌, ◌<◌, ◌+◌, ◌*◌, ◌^◌, ℕ, List, [], ◌∷◌, length, refl, sym, ap, subst, ◌∙◌, arith, w64, MutBor, slice_range}
+use Rattle.std.proofs.Common.{◌≡◌, ◌≤◌, ◌<◌, ◌+◌, ◌*◌, ℕ, List, [], ◌∷◌, length, refl, sym, ap, ◌∙◌, arith, MutBor, slice_range}
 use Rattle.std.proofs.raw_atomic.Walks.{proved}
 use Rattle.std.specs.Prelude.{◌⊎◌}
-use seplogic.Ra.Ura.{Ura}
 use mir.Syntax.{named}
-use mir.Val.{Val, vint, vptr}
-use base.Logic.{SProp, ent, sep, emp, id⊢}
-use base.Fml.{Lft, GName, Share, Fml, ftrue, flft, fsep, fres, fwand, fall}
-use types.Logic.{Logic, sem}
+use mir.Val.{Val}
+use base.Logic.{emp, id⊢}
+use base.Fml.{Fml, ftrue, flft}
 use contract.Monad.{fact, fact_i}
 use contract.Running.{tables}
-use types.Kit.{‵, raw, ◌⊛◌, some, later, ◌$◌, ◌∵◌, !, qed, by, move, keep, use0, use1, use2, drop, split, split3, join, fjoin, await, pick, group, rewrite, suffices, frame, done}
+use types.Kit.{‵, raw, ◌⊛◌, some, later, ◌$◌, ◌∵◌, !, qed, move, keep, use0, use1, use2, drop, split, split3, join, fjoin, await, pick, group, rewrite, suffices, frame, done}
 use types.Part.{whole, sub, agg}
-use types.Run.{stop, fld, addr, hop, from, of_opd, and_then, no_more, returns, enter}
+use types.Run.{stop, fld, addr, hop, from, and_then, no_more, returns, enter}
 use types.ByLocal.{alloc_all, pass_all, free_all, look_at, look_in_at, get, get_in, through, sets, lands_as}
 use denote.Exit.{yes, no}
 use denote.RattleType.{RattleType}
@@ -20,13 +18,13 @@ use denote.Laws.{Is, shows}
 use denote.Ref.{MutRef, ShrRef, mut_vals, mut_Tells, shr_vals, shr_Tells, NamedLft}
 use denote.Slice.{MutSlice, mut_slice_vals, mut_slice_Tells}
 use denote.Array.{Array}
-use denote.Builtin.{u8, usize, RefOf}
+use denote.Builtin.{u8, RefOf}
 use denote.Signature.{plain, mut_ref_to}
 use denote.Steps.{nothing, heard, only, peeks}
 use denote.Follow.{follows, follows_both}
 use denote.Struct.Tuple.{Tuple, tuple_laws}
 use denote.Struct.Field.{mut_slice_field, u8-field}
-use denote.Struct.Laws.{mut_slice_laws, u8-laws, u8-copy}
+use denote.Struct.Laws.{mut_slice_laws, u8-copy}
 use denote.Param.Laws.{of_field}
 use denote.Param.Shared.{copy_shared, mut_slice_shared}
 use denote.Triple.Call.{calls_at}
@@ -48,7 +46,7 @@ use Rattle.ark_region.specs.contracts.buf.Buf.{the_row as Bf}
 use Rattle.ark_region.specs.contracts.buf.Place.{the_row as Pl}
 use Rattle.ark_region.specs.declared.buf.Place.{Place}
 use Rattle.ark_region.proofs.buf.Place.TheLaws.{the_row_laws as place_laws}
-use Rattle.ark_region.specs.Frames.{Space, Piece, Apart, Lies, fitted, put, frames_of}
+use Rattle.ark_region.specs.Frames.{Apart, Lies, fitted, put}
 use Rattle.ark_region.proofs.Sharing.{apart_at, inside_bytes, same_range}
 use Rattle.ark_region.proofs.Following.{follows_on}
 
@@ -69,7 +67,7 @@ two_spec 𝓤 𝓛 𝓜 𝓡 wired =
     let vs = mut_vals self in let va = shr_vals x in let vb = shr_vals y in
     let yy : W.Ghost = ((κs, qs, bounds, a, (vs, (va, (vb, tt)))), tt) in
     qed 𝓛 (((‵ (flft κs.0 qs.0) ⊛ ‵ (flft κs.1.0 qs.1.0) ⊛ ‵ (flft κs.1.1.0 qs.1.1.0) ⊛ ‵ ftrue) ⊛ ‵ ((MutRef (named 0) κs.0 Rg).own_val self vs) ⊛ ‵ ((ShrRef (named 1) κs.1.0 Bf).own_val x va) ⊛ ‵ ((ShrRef (named 2) κs.1.1.0 Bf).own_val y vb) ⊛ ‵ ftrue)
-      ∷ (raw (fact 𝓤 (Apart x.now y.now)) ⊛ raw (fact 𝓤 (Lies self.now.taken x.now)) ⊛ raw (fact 𝓤 (Lies self.now.taken y.now))) ∷ []) ∵
+    ∷ (raw (fact 𝓤 (Apart x.now y.now)) ⊛ raw (fact 𝓤 (Lies self.now.taken x.now)) ⊛ raw (fact 𝓤 (Lies self.now.taken y.now))) ∷ []) ∵
     move ! (1 ∷ []) $ split3 ! $ heard ! _ (λ apart. heard ! _ (λ lx. heard ! _ (λ ly.
     split ! $ move ! (1 ∷ []) $ split3 ! $ move ! (2 ∷ []) $ split ! $ move ! (4 ∷ []) $ split3 ! $ move ! (2 ∷ []) $ split ! $
     keep ! (2 ∷ 3 ∷ 0 ∷ 6 ∷ 7 ∷ 4 ∷ []) $
@@ -111,7 +109,7 @@ two_spec 𝓤 𝓛 𝓜 𝓡 wired =
     (and_then ! (get ! refl) (no_more !)) (λ v₃.
     use1 𝓛 (later (some (λ (r : MutBor (List ℕ)). ((‵ (flft κs.0 qs.0) ⊛ ‵ ftrue) ⊛ ‵ (Slice.own_val r (v₃ ∷ []))) ⊛
     some (λ (ws : Unit {0} × Unit {0}). ‵ (lasts h.ended z₃.0.0 z₃.0.3 ws) ⊛ ‵ (follows Rg (Array u8 0) self.ghost_name r.ghost_name (λ w. record self.now { bytes = fitted self.now.bytes w }))
-      ⊛ raw (fact 𝓤 (r.now ≡ self.now.bytes)) ⊛ raw (fact 𝓤 (length r.now ≡ 512 * length self.now.taken)))))) (id⊢ 𝓤 _) $
+    ⊛ raw (fact 𝓤 (r.now ≡ self.now.bytes)) ⊛ raw (fact 𝓤 (length r.now ≡ 512 * length self.now.taken)))))) (id⊢ 𝓤 _) $
     await ! tt $ pick ! (λ r. split ! $ split ! $ split ! $ move ! (3 ∷ []) $ pick ! (λ ws₃. split ! $ drop ! $ split3 ! $
     move ! (1 ∷ []) $ heard ! _ (λ rb. move ! (1 ∷ []) $ heard ! _ (λ rl.
     -- [the follow; t0; nothing; r; q; t2; nothing; p; t1; nothing]
@@ -137,9 +135,9 @@ two_spec 𝓤 𝓛 𝓜 𝓡 wired =
     let Halves : List RattleType = Slice ∷ Slice ∷ [] in
     use1 𝓛 (later (some (λ (s : MutBor (List ℕ) × MutBor (List ℕ)). ((‵ (flft κs.0 qs.0) ⊛ ‵ ftrue) ⊛ ‵ ((Tuple Halves).own_val s (v₄ ∷ []))) ⊛
     some (λ (ws : Unit {0} × (Unit {0} × (Unit {0} × Unit {0}))). ‵ (lasts k.ended z₄.0.0 z₄.0.3 ws)
-      ⊛ ‵ (follows_both (Array u8 0) (Array u8 0) (Array u8 0) r.ghost_name s.0.ghost_name s.1.ghost_name (λ v w. put (put r.now p.at v) q.at w))
-      ⊛ raw (fact 𝓤 (s.0.now ≡ slice_range r.now p.at (p.at + p.len))) ⊛ raw (fact 𝓤 (length s.0.now ≡ p.len))
-      ⊛ raw (fact 𝓤 (s.1.now ≡ slice_range r.now q.at (q.at + q.len))) ⊛ raw (fact 𝓤 (length s.1.now ≡ q.len)))))) (id⊢ 𝓤 _) $
+    ⊛ ‵ (follows_both (Array u8 0) (Array u8 0) (Array u8 0) r.ghost_name s.0.ghost_name s.1.ghost_name (λ v w. put (put r.now p.at v) q.at w))
+    ⊛ raw (fact 𝓤 (s.0.now ≡ slice_range r.now p.at (p.at + p.len))) ⊛ raw (fact 𝓤 (length s.0.now ≡ p.len))
+    ⊛ raw (fact 𝓤 (s.1.now ≡ slice_range r.now q.at (q.at + q.len))) ⊛ raw (fact 𝓤 (length s.1.now ≡ q.len)))))) (id⊢ 𝓤 _) $
     await ! tt $ pick ! (λ s. split ! $ split ! $ split ! $ move ! (3 ∷ []) $ pick ! (λ ws₄. split ! $ drop ! $ split3 ! $
     move ! (1 ∷ []) $ heard ! _ (λ s₁. move ! (1 ∷ []) $ split3 ! $ drop ! $ heard ! _ (λ s₂. drop ! $
     -- [the follow of both; t0; nothing; s; the follow; nothing; t2; nothing; t1; nothing]
