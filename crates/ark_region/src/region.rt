@@ -108,7 +108,7 @@ impl Region {
         self.bytes.slice_mut(at..at + buf.len as usize)
     }
 
-    /// All bytes of the region, to be lent on by `two_of`.
+    /// All bytes of the region, to be lent on by `two_of`. Which frames are taken stays as it is.
     pub fn whole_mut(&mut self) -> &mut [u8]
         ensures* writes_back { sem 𝓛 (LendsWhole self.entry result) }
         ensures value { result.now ≡ self.old.bytes }
@@ -117,7 +117,8 @@ impl Region {
         self.bytes.as_mut_slice()
     }
 
-    /// The bytes of two different buffers at once, both to be written. All other bytes stay as they are.
+    /// The bytes of two different buffers at once, both to be written. All other bytes stay as they are. A caller whose own
+    /// contract says what the region holds afterwards lends `whole_mut` on to `two_of`, which callers' proofs follow.
     pub fn two(&mut self, a: &Buf, b: &Buf) -> (&mut [u8], &mut [u8])
         requires apart { Apart a.now b.now }
         requires first { Lies self.old.taken a.now }
