@@ -1,0 +1,7 @@
+pub mod Placing
+pub mod Putting
+pub mod Sharing
+pub mod Living
+pub mod Cuts
+pub mod TwoLent
+pub mod Following

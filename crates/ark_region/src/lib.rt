@@ -1,0 +1,14 @@
+//! The I/O memory of one application: a region of frames of 512 bytes, and the buffers that lie in it.
+#![tactic(auto)]
+
+mod buf;
+mod place;
+mod region;
+mod two;
+
+pub use buf::{Buf, Place};
+pub use region::Region;
+pub use two::two_of;
+
+#[cfg(test)]
+mod tests;

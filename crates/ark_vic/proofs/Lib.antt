@@ -1,0 +1,2 @@
+pub mod PaceLemmas
+pub mod BellLemmas
