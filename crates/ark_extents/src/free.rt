@@ -1,7 +1,6 @@
-ghost use Rattle.std.specs.Prelude.{◌≡◌, ◌≤◌, ◌<◌, ◌+◌, ◌-◌, ◌^◌, ◌⊎◌, ◌↔◌, ◌++◌, ℕ, true, false, All, Contains, length, take, drop, get_or, vec_len, vec_capacity, Err, IsTrue, IsSome, IfOk, IfSome, OnOk, OnErr};
-ghost use Rattle.std.specs.List.{range_with_len};
+ghost use Rattle.std.specs.Prelude.{◌≡◌, ◌≤◌, ◌<◌, ◌+◌, ◌-◌, ◌^◌, ◌↔◌, true, false, All, length, take, drop, Err, IsTrue, IfOk, OnOk, OnErr};
 ghost use Rattle.std.specs.List.Sorted.{IsStrictlyIncreasing};
-ghost use Rattle.ark_extents.specs.Blocks.{blocks_of, runs_of, AreAmong, AreApart};
+ghost use Rattle.ark_extents.specs.Blocks.{runs_of, AreAmong, AreApart};
 ghost use Rattle.ark_extents.specs.Runs as spec;
 ghost use Rattle.ark_extents.specs.Free.{free_at_first, Loses, Gains};
 

@@ -1,4 +1,4 @@
-ghost use Rattle.std.specs.Prelude.{◌≡◌, ◌≤◌, ◌<◌, ◌+◌, ◌↔◌, length, take, drop, vec_len, vec_capacity, IsSome, IfSome};
+ghost use Rattle.std.specs.Prelude.{◌≡◌, ◌≤◌, ◌+◌, ◌↔◌, length, take, drop, vec_len, vec_capacity, IsSome, IfSome};
 ghost use Rattle.ark_extents.specs.Blocks.{blocks_of, runs_of};
 ghost use Rattle.ark_extents.specs.Free.{AreRising, IsFront};
 

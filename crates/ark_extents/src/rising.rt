@@ -1,4 +1,4 @@
-ghost use Rattle.std.specs.Prelude.{◌≡◌, ◌≤◌, ◌<◌, ◌+◌, ◌-◌, ◌^◌, ◌⊎◌, ◌↔◌, ◌++◌, ℕ, true, IsTrue, length, take, drop, get_or, vec_len, vec_capacity};
+ghost use Rattle.std.specs.Prelude.{◌≡◌, ◌≤◌, ◌<◌, ◌+◌, ◌-◌, ◌^◌, ◌⊎◌, ◌↔◌, ◌++◌, ℕ, true, IsTrue, length, take, drop, vec_len, vec_capacity};
 ghost use Rattle.ark_extents.specs.Runs.{are_spans};
 ghost use Rattle.ark_extents.specs.Free.{AreRising, EndBy, IsPlace, Has, AnyHas, with_run};
 

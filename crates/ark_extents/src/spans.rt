@@ -1,4 +1,4 @@
-ghost use Rattle.std.specs.Prelude.{◌≡◌, ◌≤◌, ◌<◌, ◌+◌, ◌-◌, ◌^◌, ◌++◌, ◌↔◌, ℕ, true, All, Contains, List, length, slice_get, IsTrue, IsSome, IfSome};
+ghost use Rattle.std.specs.Prelude.{◌≡◌, ◌≤◌, ◌<◌, ◌-◌, ◌^◌, ◌++◌, ◌↔◌, true, All, Contains, length, slice_get, IsTrue, IsSome, IfSome};
 ghost use Rattle.ark_extents.specs.Blocks.{blocks_of, runs_of, AreDistinct, AreApart};
 ghost use Rattle.ark_extents.specs.Runs as spec;
 

@@ -1,4 +1,4 @@
-ghost use Rattle.std.specs.Prelude.{◌≡◌, ◌<◌, ℕ, All, length, refl};
+ghost use Rattle.std.specs.Prelude.{◌≡◌, ◌<◌, All, length, refl};
 ghost use Rattle.std.proofs.Common.{◌∙◌};
 ghost use Rattle.ark_media.specs.Stops.{Whole, AnyBytes};
 ghost use Rattle.ark_extents.specs.Views.{view_told, ArePlaced, GoesOver, IsLeftAlike};

@@ -1,5 +1,5 @@
 use Rattle.std.proofs.Common.{◌∷◌, [], inl, ⊎_elim, true, true≢false, refl}
-use Rattle.ark_media.specs.Journal.{Read, Write, Sync}
+use Rattle.ark_media.specs.Journal.{Read}
 use Rattle.ark_extents.proofs.view.tests.LastWrittenDisk.read.Goals as goal
 
 pub returns-clause-went : goal.returns-clause-went
