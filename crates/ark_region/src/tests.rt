@@ -25,3 +25,12 @@ fn gives_zero_bytes(rt: HostRuntime) {
     assert_eq!(rt; y.last(), Some(&9));
     assert!(rt; region.take(2049).is_none());
 }
+
+#[test]
+fn lends_two_buffers(rt: HostRuntime) {
+    let mut region = Region::new(rt.alloc(), 4).expect(&rt, "a region");
+    let a = region.take(513).expect(&rt, "a buffer");
+    let b = region.take(2).expect(&rt, "a buffer");
+    let (x, y) = region.two(&a, &b);
+    assert_eq!(rt; (x.first(), y.first()), (Some(&0), Some(&0)));
+}
