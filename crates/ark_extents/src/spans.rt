@@ -113,3 +113,6 @@ impl Spans {
         Spans::of(joined.runs())
     }
 }
+
+#[cfg(test)]
+mod tests;

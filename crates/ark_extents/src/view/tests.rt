@@ -62,5 +62,7 @@ fn writes_the_block_at_its_place(rt: HostRuntime) {
     assert_eq!(rt; view.blocks(), 5);
     assert_eq!(rt; view.write(3, &[0; 512]), Ok(()));
     assert_eq!(rt; view.sync(), Ok(()));
+    let mut block = [0; 512];
+    assert_eq!(rt; view.read(4, &mut block), Ok(()));
     assert_eq!(rt; disk.block, 151);
 }
