@@ -1,0 +1,4 @@
+pub mod Sums
+pub mod Frames
+pub mod Covering
+pub mod Worked

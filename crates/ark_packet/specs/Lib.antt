@@ -1,0 +1,5 @@
+pub mod Wire
+pub mod Sum
+pub mod Ip
+pub mod Frame
+pub mod Udp

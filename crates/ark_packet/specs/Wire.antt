@@ -1,0 +1,10 @@
+-- Numbers in the octets of the wire.
+use Rattle.std.specs.Prelude.{ℕ, ◌+◌, ◌*◌, List, slice_index}
+
+-- a 16-bit word of two octets, the high one first (RFC 791, appendix B)
+abbrev pub word : ℕ → ℕ → ℕ
+word high low = high * 256 + low
+
+-- the word in the two octets from a place on
+abbrev pub word_at : List ℕ → ℕ → ℕ
+word_at bytes i = word (slice_index bytes i) (slice_index bytes (i + 1))
