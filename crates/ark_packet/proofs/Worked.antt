@@ -1,8 +1,7 @@
 -- Frames and headers read by the definitions.
-use Rattle.std.proofs.Common.{◌≡◌, ℕ, List, [], ◌∷◌, ◌++◌, drop, Bool, true, false, Option, Some, None, Ok, Err, refl}
-use Rattle.ark_packet.specs.Sum.{is_right, ones_sum}
-use Rattle.ark_packet.specs.Ip.{packet_of}
-use Rattle.ark_packet.specs.Frame.{target_of, source_of, proto_of, packet_in}
+use Rattle.std.proofs.Common.{◌≡◌, ℕ, List, [], ◌∷◌, ◌++◌, true, false, Ok, refl}
+use Rattle.ark_packet.specs.Sum.{is_right}
+use Rattle.ark_packet.specs.Frame.{target_of, source_of, packet_in}
 use Rattle.ark_packet.specs.Udp.{datagram_in}
 
 -- 45000073000040004011b861c0a80001c0a800c7

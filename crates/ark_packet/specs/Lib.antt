@@ -3,3 +3,4 @@ pub mod Sum
 pub mod Ip
 pub mod Frame
 pub mod Udp
+pub mod Written

@@ -1,5 +1,5 @@
 -- UDP datagrams (RFC 768).
-use Rattle.std.specs.Prelude.{ℕ, List, [], ◌∷◌, ◌++◌, length, take, drop, slice_range, Bool, not, ◌&&◌, ◌||◌, nat_le, nat_eq, if◌then◌else◌, Option, Some, None, Result, Ok, Err}
+use Rattle.std.specs.Prelude.{ℕ, List, ◌∷◌, ◌++◌, length, take, drop, slice_range, Bool, not, ◌&&◌, ◌||◌, nat_le, nat_eq, if◌then◌else◌, Option, Some, None, Result, Ok, Err}
 use Rattle.ark_packet.specs.Wire.{word_at}
 use Rattle.ark_packet.specs.Sum.{is_right}
 use Rattle.ark_packet.specs.Ip.{Packet}

@@ -1,6 +1,7 @@
 ghost use Rattle.std.specs.Prelude.{◌≡◌};
 ghost use Rattle.ark_packet.specs.Sum.{plus, ones_sum};
 ghost use Rattle.ark_packet.specs.Sum as spec;
+ghost use Rattle.ark_packet.specs.Written.{checksum as checksum_of};
 
 use crate::wire::word_of;
 
@@ -34,4 +35,11 @@ pub(crate) fn is_right(octets: &[u8]) -> bool
     ensures { result ≡ spec.is_right octets.now }
 {
     add_octets(0, octets) == 0xffff
+}
+
+// The checksum of octets whose own checksum field is zero.
+pub(crate) fn checksum(octets: &[u8]) -> u16
+    ensures { result ≡ checksum_of octets.now }
+{
+    0xffff - add_octets(0, octets)
 }

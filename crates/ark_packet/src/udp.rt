@@ -1,10 +1,10 @@
 ghost use Rattle.std.specs.Prelude.{◌≡◌, ◌≤◌, length, take, is_some, IfSome};
-ghost use Rattle.ark_packet.specs.Sum.{ones_sum};
 ghost use Rattle.ark_packet.specs.Ip.{seen, plain};
 ghost use Rattle.ark_packet.specs.Udp as spec;
 
+use crate::cover::covered_sum;
 use crate::frame::{Frame, Ip};
-use crate::sum::{add_octets, is_right};
+use crate::sum::is_right;
 use crate::wire::read_word;
 
 /// Why a frame has no UDP datagram that can be taken.
@@ -55,23 +55,16 @@ fn octets_of(payload: &[u8]) -> Option<&[u8]>
     Some(&payload[..end])
 }
 
-// The one's complement sum over what a checksum covers.
-fn covered_sum(from: &[u8; 4], to: &[u8; 4], protocol: u8, octets: &[u8]) -> u16
-    requires { 8 ≤ length octets.now }
-    ensures { result ≡ ones_sum (spec.covered from.now to.now protocol octets.now) }
-{
-    let sum = add_octets(0, from);
-    let sum = add_octets(sum, to);
-    let sum = add_octets(sum, &[0, protocol, octets[4], octets[5]]);
-    add_octets(sum, octets)
-}
-
 // Whether a datagram has no checksum or a right one.
 fn is_sum_right(ip: &Ip<'_>, octets: &[u8]) -> bool
     requires { 8 ≤ length octets.now }
     ensures { result ≡ spec.is_sum_right ip.now.from ip.now.to ip.now.protocol octets.now }
 {
-    read_word(octets, 6) == 0 || covered_sum(&ip.from, &ip.to, ip.protocol, octets) == 0xffff
+    if read_word(octets, 6) == 0 {
+        return true;
+    }
+    let (header, data) = (&octets[..HEADER], &octets[HEADER..]);
+    covered_sum(&ip.from, &ip.to, ip.protocol, header, data) == 0xffff
 }
 
 // The datagram in an IPv4 part.

@@ -1,5 +1,3 @@
-use Rattle.std.proofs.Common.{ap, ◌∙◌, rules, drop}
-use Rattle.ark_packet.specs.Frame.{packet_under}
 use Rattle.ark_packet.proofs.Sums.{rest_from}
 use Rattle.ark_packet.proofs.Frames.{packet_is}
 use Rattle.ark_packet.proofs.frame.read_frame.Goals as goal
