@@ -88,7 +88,7 @@ covered_whole from to header body protocol s1 s2 s3 s4 s5 lf lt lh small hf ht h
     let even : length (from ++ (to ++ (middle ++ header))) ≡ 2 * 10 =
     length-append from (to ++ (middle ++ header)) ∙ (omega (arith, length-append to (middle ++ header), length-append middle header)) in
     more 10 (covered from to protocol header) body s4 s5 (ap length front ∙ even) (λ i. rw front (octets i)) hd
-      (covered_is from to header protocol s1 s2 s3 s4 lf lt (omega arith) small hf ht hh e1 e2 e3 e4) e5
+    (covered_is from to header protocol s1 s2 s3 s4 lf lt (omega arith) small hf ht hh e1 e2 e3 e4) e5
     ∙ ap ones_sum (sym (covered-append from to header body protocol (omega arith)))
 
 -- octets cut in two

@@ -23,7 +23,7 @@ six_before (a ∷ (b ∷ (c ∷ (d ∷ (e ∷ (f ∷ (g ∷ xs))))))) ys h = abs
 -- two lists of six one after another
 pub twelve_before : (xs ys zs : List ℕ) → length xs ≡ 6 → length ys ≡ 6
     → get_or xs 0 0 ∷ (get_or xs 1 0 ∷ (get_or xs 2 0 ∷ (get_or xs 3 0 ∷ (get_or xs 4 0 ∷ (get_or xs 5 0
-      ∷ (get_or ys 0 0 ∷ (get_or ys 1 0 ∷ (get_or ys 2 0 ∷ (get_or ys 3 0 ∷ (get_or ys 4 0 ∷ (get_or ys 5 0 ∷ zs))))))))))) ≡ xs ++ (ys ++ zs)
+    ∷ (get_or ys 0 0 ∷ (get_or ys 1 0 ∷ (get_or ys 2 0 ∷ (get_or ys 3 0 ∷ (get_or ys 4 0 ∷ (get_or ys 5 0 ∷ zs))))))))))) ≡ xs ++ (ys ++ zs)
 twelve_before xs ys zs hx hy =
     ap (λ t. get_or xs 0 0 ∷ (get_or xs 1 0 ∷ (get_or xs 2 0 ∷ (get_or xs 3 0 ∷ (get_or xs 4 0 ∷ (get_or xs 5 0 ∷ t)))))) (six_before ys zs hy)
     ∙ six_before xs (ys ++ zs) hx

@@ -34,4 +34,4 @@ pub part_laid : (d : Datagram) (ip bare udp : List ℕ) (sum : ℕ) → ip ≡ r
     → udp ≡ udp_header d.from_port d.to_port (8 + length d.payload) sum → ip ++ (udp ++ d.payload) ≡ ip_part d
 part_laid d ip bare udp sum i b s u =
     ap (λ t. t ++ (udp ++ d.payload)) i ∙ ap (λ t. right_ip_header (28 + length d.payload) d.from d.to ++ (t ++ d.payload))
-      (u ∙ ap (udp_header d.from_port d.to_port (8 + length d.payload)) (s ∙ ap (λ t. udp_sum d.from d.to t d.payload) b))
+    (u ∙ ap (udp_header d.from_port d.to_port (8 + length d.payload)) (s ∙ ap (λ t. udp_sum d.from d.to t d.payload) b))

@@ -119,15 +119,50 @@ part_read f0 f1 f2 f3 d0 d1 d2 d3 from_port to_port payload hf0 hf1 hf2 hf3 hd0 
     let front : List ℕ = 69 ∷ (0 ∷ ((total / 256 % 256) ∷ ((total % 256) ∷ (0 ∷ (0 ∷ (0 ∷ (0 ∷ (64 ∷ (17 ∷ []))))))))) in
     let right : is_right header ≡ true =
     right_with 5 front (from ++ to) sum refl
-      (octets-each front (omega arith, (omega arith, (octet (total / 256), (octet total, (omega arith, (omega arith, (omega arith, (omega arith, (omega arith, (omega arith, tt)))))))))))
-      (octets-each (from ++ to) (hf0, (hf1, (hf2, (hf3, (hd0, (hd1, (hd2, (hd3, tt))))))))) refl in
+    (octets-each front (omega arith, (omega arith, (octet (total / 256), (octet total, (omega arith, (omega arith, (omega arith, (omega arith, (omega arith, (omega arith, tt)))))))))))
+    (octets-each (from ++ to) (hf0, (hf1, (hf2, (hf3, (hd0, (hd1, (hd2, (hd3, tt))))))))) refl in
     let whole : take (word (len / 256 % 256) (len % 256)) body ≡ body = take_all _ body (omega arith) in
     let before : List ℕ = f0 ∷ (f1 ∷ (f2 ∷ (f3 ∷ (d0 ∷ (d1 ∷ (d2 ∷ (d3 ∷ (0 ∷ (17 ∷ ((len / 256 % 256) ∷ ((len % 256)
     ∷ ((from_port / 256 % 256) ∷ ((from_port % 256) ∷ ((to_port / 256 % 256) ∷ ((to_port % 256) ∷ ((len / 256 % 256) ∷ ((len % 256) ∷ []))))))))))))))))) in
     let data_right : is_right (covered from to 17 body) ≡ true =
     right_with_sent 9 before payload data_sum refl
-      (octets-each before (hf0, (hf1, (hf2, (hf3, (hd0, (hd1, (hd2, (hd3, (omega arith, (omega arith, (octet (len / 256), (octet len,
-        (octet (from_port / 256), (octet from_port, (octet (to_port / 256), (octet to_port, (octet (len / 256), (octet len, tt))))))))))))))))))) hp refl in
+    (octets-each before (
+      hf0,
+      (
+        hf1,
+        (
+          hf2,
+          (
+            hf3,
+            (
+              hd0,
+              (
+                hd1,
+                (
+                  hd2,
+                  (
+                    hd3,
+                    (
+                      omega arith,
+                      (
+                        omega arith,
+                        (
+                          octet (len / 256),
+                          (
+                            octet len,
+                            (octet (from_port / 256), (octet from_port, (octet (to_port / 256), (octet to_port, (octet (len / 256), (octet len, tt)))))),
+                          ),
+                        ),
+                      ),
+                    ),
+                  ),
+                ),
+              ),
+            ),
+          ),
+        ),
+      ),
+    )) hp refl in
     let sum_right : is_sum_right from to 17 (octets_of (packet_with from to header body)) ≡ true =
     ap (is_sum_right from to 17) whole ∙ ap (λ b. nat_eq (word_at body 6) 0 || b) data_right ∙ or_true (nat_eq (word_at body 6) 0) in
     ap datagram_in read
@@ -142,13 +177,13 @@ pub part_back : (from to : List ℕ) (from_port to_port : ℕ) (payload : List �
     → datagram_in (packet_of (ip_part (datagram_with from to from_port to_port payload))) ≡ Ok (datagram_with from to from_port to_port payload)
 part_back from to from_port to_port payload hf ht hfp htp hp most =
     four_elim (λ f. ((i : ℕ) → get_or f i 0 < 256)
-        → datagram_in (packet_of (ip_part (datagram_with f to from_port to_port payload))) ≡ Ok (datagram_with f to from_port to_port payload))
-      (λ f0 f1 f2 f3 small. four_elim (λ t. ((i : ℕ) → get_or t i 0 < 256)
-          → datagram_in (packet_of (ip_part (datagram_with (f0 ∷ (f1 ∷ (f2 ∷ (f3 ∷ [])))) t from_port to_port payload)))
-          ≡ Ok (datagram_with (f0 ∷ (f1 ∷ (f2 ∷ (f3 ∷ [])))) t from_port to_port payload))
-        (λ d0 d1 d2 d3 below. part_read f0 f1 f2 f3 d0 d1 d2 d3 from_port to_port payload (small 0) (small 1) (small 2) (small 3)
-          (below 0) (below 1) (below 2) (below 3) hfp htp hp most) to ht.four ht.octets)
-      from hf.four hf.octets
+    → datagram_in (packet_of (ip_part (datagram_with f to from_port to_port payload))) ≡ Ok (datagram_with f to from_port to_port payload))
+    (λ f0 f1 f2 f3 small. four_elim (λ t. ((i : ℕ) → get_or t i 0 < 256)
+    → datagram_in (packet_of (ip_part (datagram_with (f0 ∷ (f1 ∷ (f2 ∷ (f3 ∷ [])))) t from_port to_port payload)))
+    ≡ Ok (datagram_with (f0 ∷ (f1 ∷ (f2 ∷ (f3 ∷ [])))) t from_port to_port payload))
+    (λ d0 d1 d2 d3 below. part_read f0 f1 f2 f3 d0 d1 d2 d3 from_port to_port payload (small 0) (small 1) (small 2) (small 3)
+    (below 0) (below 1) (below 2) (below 3) hfp htp hp most) to ht.four ht.octets)
+    from hf.four hf.octets
 
 pub target_is : (own : Own) (d : Datagram) → length own.gateway ≡ 6 → target_of (frame_of own d) ≡ own.gateway
 target_is own d six = ap (λ n. take n (frame_of own d)) (sym six) ∙ take-append_seam own.gateway (own.mac ++ ((8 ∷ (0 ∷ [])) ++ ip_part d))

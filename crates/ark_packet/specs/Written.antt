@@ -34,7 +34,7 @@ udp_sum from to header payload = sent (checksum (covered from to 17 (header ++ p
 abbrev pub right_udp_header : Datagram → List ℕ
 right_udp_header d =
     udp_header d.from_port d.to_port (8 + length d.payload)
-      (udp_sum d.from d.to (udp_header d.from_port d.to_port (8 + length d.payload) 0) d.payload)
+    (udp_sum d.from d.to (udp_header d.from_port d.to_port (8 + length d.payload) 0) d.payload)
 
 -- the datagram's IPv4 part
 abbrev pub ip_part : Datagram → List ℕ

@@ -5,7 +5,13 @@ ghost use Rattle.ark_packet.specs.Udp.{covered};
 use crate::sum::add_octets;
 
 // The one's complement sum over what the checksum of a datagram covers.
-pub(crate) fn covered_sum(from: &[u8; 4], to: &[u8; 4], protocol: u8, header: &[u8], payload: &[u8]) -> u16
+pub(crate) fn covered_sum(
+    from: &[u8; 4],
+    to: &[u8; 4],
+    protocol: u8,
+    header: &[u8],
+    payload: &[u8],
+) -> u16
     requires { length header.now ≡ 8 }
     ensures { result ≡ ones_sum (covered from.now to.now protocol (header.now ++ payload.now)) }
 {

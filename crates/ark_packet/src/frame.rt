@@ -36,6 +36,7 @@ pub struct Frame<'a> {
 }
 
 const TYPE_OF_IPV4: u16 = 0x0800;
+
 const LEAST_HEADER: usize = 20;
 
 // Whether an IPv4 header says that more fragments follow, or that this one has an offset.

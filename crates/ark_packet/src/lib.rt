@@ -5,13 +5,13 @@ mod cover;
 mod frame;
 mod own;
 mod sum;
+#[cfg(test)]
+mod tests;
 mod udp;
 mod wire;
 mod write;
-#[cfg(test)]
-mod tests;
 
-pub use frame::{read_frame, Frame, Ip};
+pub use frame::{Frame, Ip, read_frame};
 pub use own::Own;
-pub use udp::{read_udp, Bad, Udp};
+pub use udp::{Bad, Udp, read_udp};
 pub use write::write_udp;

@@ -38,6 +38,7 @@ pub struct Udp<'a> {
 }
 
 const PROTOCOL_OF_UDP: u8 = 17;
+
 const HEADER: usize = 8;
 
 // The header and the data of a datagram, as its length field says.

@@ -9,6 +9,7 @@ use crate::own::Own;
 use crate::sum::checksum;
 
 const PROTOCOL_OF_UDP: u8 = 17;
+
 const ALL_ONES: u16 = 0xffff;
 
 // Writes the bytes from a place on, and gives the place after them.
@@ -32,8 +33,26 @@ fn ip_header(total: u16, sum: u16, from: &[u8; 4], to: &[u8; 4]) -> [u8; 20]
     let [from_0, from_1, from_2, from_3] = *from;
     let [to_0, to_1, to_2, to_3] = *to;
     [
-        0x45, 0, length_high, length_low, 0, 0, 0, 0, 64, PROTOCOL_OF_UDP, sum_high, sum_low, from_0, from_1, from_2, from_3, to_0,
-        to_1, to_2, to_3,
+        0x45,
+        0,
+        length_high,
+        length_low,
+        0,
+        0,
+        0,
+        0,
+        64,
+        PROTOCOL_OF_UDP,
+        sum_high,
+        sum_low,
+        from_0,
+        from_1,
+        from_2,
+        from_3,
+        to_0,
+        to_1,
+        to_2,
+        to_3,
     ]
 }
 
@@ -53,7 +72,16 @@ fn udp_header(from_port: u16, to_port: u16, length: u16, sum: u16) -> [u8; 8]
     let [to_high, to_low] = to_port.to_be_bytes();
     let [length_high, length_low] = length.to_be_bytes();
     let [sum_high, sum_low] = sum.to_be_bytes();
-    [from_high, from_low, to_high, to_low, length_high, length_low, sum_high, sum_low]
+    [
+        from_high,
+        from_low,
+        to_high,
+        to_low,
+        length_high,
+        length_low,
+        sum_high,
+        sum_low,
+    ]
 }
 
 // The checksum of a datagram with this header, whose own field is zero.
@@ -63,11 +91,7 @@ fn udp_sum(from: &[u8; 4], to: &[u8; 4], header: &[u8; 8], payload: &[u8]) -> u1
     ensures to { IsAddress to.now }
 {
     let sum = ALL_ONES - covered_sum(from, to, PROTOCOL_OF_UDP, header, payload);
-    if sum == 0 {
-        ALL_ONES
-    } else {
-        sum
-    }
+    if sum == 0 { ALL_ONES } else { sum }
 }
 
 // The two MAC addresses and the type of a frame to the gateway.
@@ -85,7 +109,14 @@ fn link_header(gateway: &[u8; 6], mac: &[u8; 6]) -> [u8; 14]
 /// own address to `to`, by the gateway: an Ethernet header, an IPv4 header of 20 bytes with time to live 64, no options and
 /// the right checksum (RFC 791, section 3.1), a UDP header with the right checksum, where a computed zero is sent as `0xffff`
 /// (RFC 768), and the payload. The rest of `out` stays.
-pub fn write_udp(out: &mut [u8], own: &Own, from_port: u16, to: [u8; 4], to_port: u16, payload: &[u8]) -> usize
+pub fn write_udp(
+    out: &mut [u8],
+    own: &Own,
+    from_port: u16,
+    to: [u8; 4],
+    to_port: u16,
+    payload: &[u8],
+) -> usize
     requires room { 42 + length payload.now ≤ length out.old }
     requires at_most { length payload.now ≤ 1472 }
     ensures end { result ≡ 42 + length payload.now }
