@@ -1,0 +1,8 @@
+//! Which frames a card of an application may take and send.
+#![tactic(auto)]
+
+mod filter;
+mod matching;
+
+pub use filter::{Direction, Filter, Peers, Proto, Services};
+pub use matching::matches;
