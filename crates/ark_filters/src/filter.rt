@@ -44,9 +44,13 @@ pub struct Services {
 /// A filter: which frames a card takes, or sends.
 #[derive(Clone, Copy, Debug)]
 pub struct Filter {
+    /// Whether it looks at frames that come in or at those that go out.
     pub direction: Direction,
+    /// What it looks for in a frame.
     pub proto: Proto,
+    /// Which other sides it lets through.
     pub peers: Peers,
+    /// Which services it lets through.
     pub services: Services,
 }
 

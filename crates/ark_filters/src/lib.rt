@@ -3,6 +3,8 @@
 
 mod filter;
 mod matching;
+#[cfg(test)]
+mod tests;
 
 pub use filter::{Direction, Filter, Peers, Proto, Services};
 pub use matching::matches;

@@ -1,6 +1,4 @@
-ghost use Rattle.std.specs.Prelude.{◌≡◌, List, ℕ};
-ghost use Rattle.std.specs.Prelude.{◌≤◌};
-ghost use Rattle.ark_packet.specs.Wire.{word};
+ghost use Rattle.std.specs.Prelude.{◌≡◌, ◌≤◌, List, ℕ};
 ghost use Rattle.ark_packet.specs.Ip.{plain, seen};
 ghost use Rattle.ark_packet.specs.Frame.{Says};
 ghost use Rattle.ark_filters.specs.Filter.{Counted};
@@ -40,17 +38,10 @@ fn ports_match(filter: &Filter, ip: &Ip<'_>, protocol: u8, header: usize) -> boo
         return false;
     }
     let port = match filter.direction {
-        Direction::Rx => word_of(ip.payload[2], ip.payload[3]),
-        Direction::Tx => word_of(ip.payload[0], ip.payload[1]),
+        Direction::Rx => u16::from_be_bytes([ip.payload[2], ip.payload[3]]),
+        Direction::Tx => u16::from_be_bytes([ip.payload[0], ip.payload[1]]),
     };
     filter.services.hold(port)
-}
-
-// The number that two octets stand for, the high one first.
-fn word_of(high: u8, low: u8) -> u16
-    ensures { result ≡ word high low }
-{
-    u16::from(high) * 256 + u16::from(low)
 }
 
 // Whether an IPv4 part is what a filter looks for.

@@ -1,12 +1,11 @@
-ghost use Rattle.std.specs.Prelude.{◌≡◌, ◌+◌, ◌≤◌, slice_range};
-ghost use Rattle.std.specs.Prelude.{length};
+ghost use Rattle.std.specs.Prelude.{◌≡◌, ◌+◌, ◌≤◌, length, slice_range};
 ghost use Rattle.ark_packet.specs.Wire.{word, word_at};
 
 // The number that two octets stand for, the high one first.
 pub(crate) fn word_of(high: u8, low: u8) -> u16
     ensures { result ≡ word high low }
 {
-    u16::from(high) * 256 + u16::from(low)
+    u16::from_be_bytes([high, low])
 }
 
 // The number in the two octets from a place on.
