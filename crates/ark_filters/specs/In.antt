@@ -1,0 +1,59 @@
+-- Which frames match a filter.
+use Rattle.std.specs.Prelude.{ℕ, List, [], ◌∷◌, ◌++◌, length, Bool, not, false, ◌&&◌, nat_eq, nat_le, bytes_eq, Option, Some, None}
+use Rattle.ark_packet.specs.Wire.{word_at}
+use Rattle.ark_packet.specs.Ip.{Packet}
+use Rattle.ark_packet.specs.Frame.{target_of, source_of, proto_of, packet_in}
+use Rattle.ark_packet.specs.declared.own.Own.{Own}
+use Rattle.ark_filters.specs.declared.filter.Filter.{Filter}
+use Rattle.ark_filters.specs.declared.filter.Direction.{Direction}
+use Rattle.ark_filters.specs.declared.filter.Direction.TheVariants.{Rx, Tx}
+use Rattle.ark_filters.specs.declared.filter.Proto.{Proto}
+use Rattle.ark_filters.specs.declared.filter.Proto.TheVariants.{Eth, Ip, Udp, Tcp}
+use Rattle.ark_filters.specs.Filter.{is_peer, is_service}
+
+-- The own side of a frame that comes in is its destination, of one that goes out its source. The peer is the other side.
+abbrev pub own_side : {A : Type 0} → Direction → A → A → A
+own_side Rx from to = to
+own_side Tx from to = from
+
+abbrev pub peer_side : {A : Type 0} → Direction → A → A → A
+peer_side Rx from to = from
+peer_side Tx from to = to
+
+-- the own side's address is the own one, and the peer's is one of the peers
+abbrev pub addresses_match : Filter → Packet → Own → Bool
+addresses_match f p own =
+    bytes_eq (own_side f.direction p.from p.to) own.ip && is_peer f.peers (peer_side f.direction p.from p.to ++ (0 ∷ (0 ∷ [])))
+
+-- of this protocol, whole, with its header, and the own side's port is one of the services
+abbrev pub ports_match : Filter → Packet → ℕ → ℕ → Bool
+ports_match f p protocol header =
+    nat_eq p.protocol protocol
+    && (not p.fragment
+    && (nat_le header (length p.payload)
+    && is_service f.services (own_side f.direction (word_at p.payload 0) (word_at p.payload 2))))
+
+abbrev pub packet_matches : Filter → Proto → Packet → Own → Bool
+packet_matches f Eth p own = false
+packet_matches f Ip p own = addresses_match f p own && is_service f.services p.protocol
+packet_matches f Udp p own = addresses_match f p own && ports_match f p 17 8
+packet_matches f Tcp p own = addresses_match f p own && ports_match f p 6 20
+
+abbrev pub some_packet_matches : Filter → Option Packet → Own → Bool
+some_packet_matches f None own = false
+some_packet_matches f (Some p) own = packet_matches f f.proto p own
+
+-- what a filter looks for beside the own MAC address
+abbrev pub rest_matches : Filter → Proto → List ℕ → ℕ → Option Packet → Own → Bool
+rest_matches f Eth peer type packet own = is_peer f.peers peer && is_service f.services type
+rest_matches f Ip peer type packet own = some_packet_matches f packet own
+rest_matches f Udp peer type packet own = some_packet_matches f packet own
+rest_matches f Tcp peer type packet own = some_packet_matches f packet own
+
+abbrev pub parts_match : Filter → List ℕ → List ℕ → ℕ → Option Packet → Own → Bool
+parts_match f from to type packet own =
+    bytes_eq (own_side f.direction from to) own.mac && rest_matches f f.proto (peer_side f.direction from to) type packet own
+
+-- The frame of these bytes matches the filter.
+abbrev pub is_in : Filter → List ℕ → Own → Bool
+is_in f bytes own = parts_match f (source_of bytes) (target_of bytes) (proto_of bytes) (packet_in bytes) own

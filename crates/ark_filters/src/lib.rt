@@ -1,0 +1,10 @@
+//! Which frames a card of an application may take and send.
+#![tactic(auto)]
+
+mod filter;
+mod matching;
+#[cfg(test)]
+mod tests;
+
+pub use filter::{Direction, Filter, Peers, Proto, Services};
+pub use matching::matches;

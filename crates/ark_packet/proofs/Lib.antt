@@ -1,0 +1,7 @@
+pub mod Sums
+pub mod Frames
+pub mod Covering
+pub mod Heads
+pub mod Worked
+pub mod Reading
+pub mod Laying

@@ -1,0 +1,36 @@
+-- A frame of Ethernet: destination (6 octets), source (6), type (2), and the rest.
+use Rattle.std.specs.Prelude.{◌≡◌, ℕ, ◌≤◌, List, length, drop, slice_range, if◌then◌else◌, nat_eq, Option, None}
+use Rattle.ark_packet.specs.Wire.{word_at}
+use Rattle.ark_packet.specs.Ip.{Packet, packet_of, seen}
+use Rattle.ark_packet.specs.declared.frame.Frame.{Frame}
+
+abbrev pub target_of : List ℕ → List ℕ
+target_of bytes = slice_range bytes 0 6
+
+abbrev pub source_of : List ℕ → List ℕ
+source_of bytes = slice_range bytes 6 12
+
+abbrev pub proto_of : List ℕ → ℕ
+proto_of bytes = word_at bytes 12
+
+-- the IPv4 part in what follows this type: there is none where the type is not 0800
+abbrev pub packet_under : ℕ → List ℕ → Option Packet
+packet_under proto rest = if nat_eq proto 2048 then packet_of rest else None
+
+-- the IPv4 part of a frame
+abbrev pub packet_in : List ℕ → Option Packet
+packet_in bytes = packet_under (proto_of bytes) (drop 14 bytes)
+
+-- The frame is what these bytes say.
+pub record Says (bytes : List ℕ) (frame : Frame) : Type 0 where
+  pub to : frame.to ≡ target_of bytes
+  pub from : frame.from ≡ source_of bytes
+  pub proto : frame.proto ≡ proto_of bytes
+  pub ip : seen frame.ip ≡ packet_in bytes
+
+-- The frame is what some 14 to 1,514 bytes say.
+pub record IsFrame (frame : Frame) : Type 0 where
+  pub bytes : List ℕ
+  pub at_least : 14 ≤ length bytes
+  pub at_most : length bytes ≤ 1514
+  pub says : Says bytes frame
