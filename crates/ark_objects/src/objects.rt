@@ -32,7 +32,8 @@ impl<T> Model for Objects<T> {
 impl<T> Objects<T> {
     ghost use Rattle.ark_objects.specs.Lending.{LendsObject};
 
-    /// No objects, with room for 64. It fails for want of memory alone.
+    /// No objects, with room for 64. `Memory` comes for want of memory, and where the slab comes with more than 4,096 slots,
+    /// whose keys might not fit.
     pub fn new(alloc: Global) -> Result<Objects<T>, Memory>
     where
         T: Drop,

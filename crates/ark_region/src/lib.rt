@@ -2,11 +2,13 @@
 #![tactic(auto)]
 
 mod buf;
+mod laws;
 mod place;
 mod region;
 mod two;
 
 pub use buf::{Buf, Place};
+pub use laws::region_laws;
 pub use region::Region;
 pub use two::two_of;
 

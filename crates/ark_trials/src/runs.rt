@@ -7,7 +7,7 @@ use std::alloc::Global;
 use std::test::Fail as Failure;
 
 /// `words`, as the command line gives them.
-pub fn words_of(alloc: Global, words: &[&str]) -> Result<Vec<String>, Failure> {
+pub(crate) fn words_of(alloc: Global, words: &[&str]) -> Result<Vec<String>, Failure> {
     let mut list = Vec::new(alloc);
     for word in words {
         list.push(String::from_str(alloc, word)?)?;
@@ -17,13 +17,13 @@ pub fn words_of(alloc: Global, words: &[&str]) -> Result<Vec<String>, Failure> {
 
 /// What came of a run.
 #[derive(Drop)]
-pub struct Finished {
-    pub status: Status,
-    pub world: MemoryWorld,
+pub(crate) struct Finished {
+    pub(crate) status: Status,
+    pub(crate) world: MemoryWorld,
 }
 
 /// `run --new 200 d` on this script, with ample room and these failures.
-pub fn run(alloc: Global, script: &[u8], plan: &[Fail]) -> Result<Finished, Failure> {
+pub(crate) fn run(alloc: Global, script: &[u8], plan: &[Fail]) -> Result<Finished, Failure> {
     let words = words_of(alloc, &["run", "--new", "200", "d"])?;
     let mut world = MemoryWorld::new(alloc, b"", 400, script, plan, 100, 2000)?;
     let status = arrakis(alloc, &words, &mut world);
