@@ -4,17 +4,8 @@ use Rattle.ark_base.specs.Name.{is_name}
 use Rattle.ark_base.specs.declared.refusal.Refusal.{Refusal}
 use Rattle.ark_base.specs.declared.refusal.Refusal.TheVariants.{Syntax, UnknownWord, TooLong}
 use Rattle.ark_script.specs.Text.{no_newline}
-use Rattle.ark_script.specs.declared.step.Step.{Step}
-use Rattle.ark_script.specs.declared.step.Step.TheVariants as step
-
--- What a line asks for: its word and its arguments, as plain data.
-pub data Line : Type 0 where
-  -- the application, and the frames of its memory where they are given
-  app : List ℕ → Option ℕ → Line
-
--- a step of the program as plain data
-abbrev pub line_of : Step → Line
-line_of (step.App a frames) = app a frames
+use Rattle.ark_script.specs.Line as w
+use Rattle.ark_script.specs.Line.{Line}
 
 -- a byte before the lines of the rest: it begins the first of them
 abbrev pub begin_first : ℕ → List (List ℕ) → List (List ℕ)
@@ -55,8 +46,8 @@ IsKnown line = HasWord (codes "app") line
 
 -- The line is of this form: words with one space between them. A number of frames is not read yet.
 abbrev pub IsForm : Line → List ℕ → Type 0
-IsForm (app a None) line = (is_name a ≡ true) × (line ≡ codes "app" ++ 32 ∷ a)
-IsForm (app a (Some frames)) line = ⊥
+IsForm (w.app a None) line = (is_name a ≡ true) × (line ≡ codes "app" ++ 32 ∷ a)
+IsForm _ line = ⊥
 
 -- what a line means: what it asks for, or why it is refused at sight
 abbrev pub Meaning : Type 0

@@ -9,4 +9,4 @@ mod step;
 pub use printing::{TEXT_ROOM, print};
 pub use reading::{MAX_LINE, read_line};
 pub use said::Said;
-pub use step::Step;
+pub use step::{Hex, Side, Step};
