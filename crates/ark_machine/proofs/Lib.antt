@@ -1,3 +1,3 @@
-pub mod Runs
-pub mod Confining
-pub mod Rows
+pub mod Playing
+pub mod Scripts
+pub mod Areas

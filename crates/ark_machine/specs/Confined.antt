@@ -1,21 +1,62 @@
 -- Which blocks a line may touch, by the grants that are held before it.
-use Rattle.std.specs.Prelude.{◌≡◌, ◌⊎◌, ℕ, Bool, false, List, [], ◌∷◌, length, drop, Ok, Err, Contains, IsTrue}
+use Rattle.std.specs.Prelude.{◌≡◌, ◌⊎◌, ℕ, Bool, true, false, List, [], ◌∷◌, ◌++◌, length, drop, map, filter as select, option_map, unwrap_or, Ok, Err, Contains, IsTrue}
+use Rattle.std.specs.List.{flat_map}
 use Rattle.ark_media.specs.Journal.{Event, Read, Write, Sync, Out, has_succeeded, device_events}
-use Rattle.ark_script.specs.Lines as w
-use Rattle.ark_script.specs.Lines.{Line, Meaning, Says, FirstSay}
-use Rattle.ark_machine.specs.System.{System}
+use Rattle.ark_script.specs.Line as w
+use Rattle.ark_script.specs.Line.{Line}
+use Rattle.ark_script.specs.Lines.{Meaning, Says, FirstSay}
+use Rattle.ark_machine.specs.Machine.{Machine, vsic_at, label_numbered}
+use Rattle.ark_machine.specs.Control.{is_open_on}
+use Rattle.ark_machine.specs.Plane.{blocks_at, granted}
+use Rattle.ark_machine.specs.System.{System, machine_of}
+use Rattle.ark_machine.specs.Follow.{slot_index}
 use Rattle.ark_machine.specs.Replies.{turn_for, system_after}
+
+-- the areas that a card reaches, by the numbers of their objects: those bound to it, and the log that is open on it
+abbrev pub bound_to : Machine → List ℕ → List ℕ
+bound_to m v = unwrap_or (option_map (λ x. x.bound) (vsic_at m v)) []
+
+abbrev pub logs_on : Machine → List ℕ → List ℕ
+logs_on m v = map (λ h. h.serial) (select (λ h. is_open_on v h.object) m.held)
+
+-- the blocks of the areas of these numbers
+abbrev pub areas_of : System → List ℕ → List ℕ → List ℕ
+areas_of s a ns = flat_map (λ n. blocks_at s.plane a (label_numbered (machine_of s a) n)) ns
+
+abbrev pub reach : System → List ℕ → List ℕ → List ℕ
+reach s a v = areas_of s a (bound_to (machine_of s a) v ++ logs_on (machine_of s a) v)
 
 -- the blocks that a line may read
 abbrev pub readable : System → Line → List ℕ
-readable s (w.app a frames) = []
+readable s (w.peek a l off) = blocks_at s.plane a l
+readable s (w.walk a l n) = blocks_at s.plane a l
+readable s (w.log a l v) = blocks_at s.plane a l
+readable s (w.queue a l v) = blocks_at s.plane a l
+readable s (w.settle a l) = blocks_at s.plane a l
+readable s (w.dev a v) = reach s a v
+readable s _ = []
 
--- the blocks that a line may write
+-- the blocks that a line may write: of an area that is held, or new ones, with the slot
 abbrev pub writable : System → Line → List ℕ
-writable s (w.app a frames) = []
+writable s (w.poke a l off bytes) = blocks_at s.plane a l
+writable s (w.log a l v) = blocks_at s.plane a l
+writable s (w.queue a l v) = blocks_at s.plane a l
+writable s (w.settle a l) = blocks_at s.plane a l
+writable s (w.dev a v) = reach s a v
+writable s (w.vsa a l n k) = slot_index s.plane a (w.vsa a l n k) ∷ granted s.plane (w.vsa a l n k)
+writable s (w.grow a l n) = slot_index s.plane a (w.grow a l n) ∷ granted s.plane (w.grow a l n)
+writable s (w.drop a x) = slot_index s.plane a (w.drop a x) ∷ []
+writable s _ = []
 
 abbrev pub may_sync : Line → Bool
-may_sync (w.app a frames) = false
+may_sync (w.log a l v) = true
+may_sync (w.queue a l v) = true
+may_sync (w.settle a l) = true
+may_sync (w.dev a v) = true
+may_sync (w.vsa a l n k) = true
+may_sync (w.grow a l n) = true
+may_sync (w.drop a x) = true
+may_sync _ = false
 
 abbrev pub IsAllowed : System → Line → Event → Type 0
 IsAllowed s line (Read n ok) = Contains (readable s line) n

@@ -1,10 +1,15 @@
 -- How device events follow a line's calls.
-use Rattle.std.specs.Prelude.{◌≡◌, ℕ, Bool, true, false, List, [], ◌∷◌, map, Option, Some, None, slice_get, Ok, Err, Contains}
-use Rattle.ark_media.specs.Journal.{Event, Read, Write, Sync, Out, has_succeeded}
+use Rattle.std.specs.Prelude.{◌≡◌, ℕ, Bool, true, false, List, [], ◌∷◌, drop, map, Option, Some, None, option_map, slice_get, unwrap_or, Ok, Err, Contains}
+use Rattle.ark_media.specs.Journal.{Event, Read, Write, Sync, Out, zero_block, has_succeeded}
+use Rattle.ark_table.specs.Slots.{Slot, slot_bytes}
+use Rattle.ark_caladan.specs.Chain.{reading, writing, syncing}
+use Rattle.ark_script.specs.Line as w
+use Rattle.ark_script.specs.Line.{Line}
 use Rattle.ark_script.specs.Lines.{Meaning}
 use Rattle.ark_machine.specs.Row
-use Rattle.ark_machine.specs.Row.{Call, Ended, reading, writing, syncing}
-use Rattle.ark_machine.specs.Plane.{blocks_at}
+use Rattle.ark_machine.specs.Row.{Call, Ended}
+use Rattle.ark_machine.specs.Plane.{Plane, blocks_at, granted, slot_of, free_slot}
+use Rattle.ark_machine.specs.Granting.{new_slot, with_more}
 use Rattle.ark_machine.specs.System.{System, owner}
 
 abbrev pub ReadsAt : Option ℕ → Event → Type 0
@@ -19,28 +24,60 @@ abbrev pub ReadsIn : List ℕ → Event → Type 0
 ReadsIn area (Read n ok) = Contains area n
 ReadsIn area _ = ⊥
 
+abbrev pub WritesIn : List ℕ → Event → Type 0
+WritesIn area (Write n content took ok) = Contains area n
+WritesIn area _ = ⊥
+
+abbrev pub ZeroesIn : List ℕ → Event → Type 0
+ZeroesIn area (Write n content took ok) = Contains area n × (content ≡ zero_block)
+ZeroesIn area _ = ⊥
+
 abbrev pub IsSync : Event → Type 0
 IsSync (Sync ok) = Unit {0}
 IsSync _ = ⊥
 
--- the event is what came of this call of application a
-abbrev pub Makes : System → List ℕ → Call → Event → Type 0
-Makes s a (Row.reads l k) e = ReadsAt (slice_get (blocks_at s.plane a l) k) e
-Makes s a (Row.writes l k content) e = WritesAt (slice_get (blocks_at s.plane a l) k) content e
-Makes s a Row.syncs e = IsSync e
-Makes s a (Row.reads_some l) e = ReadsIn (blocks_at s.plane a l) e
+-- the slot that a line writes: the area's own, or the least free one
+abbrev pub index_of : Option Slot → ℕ
+index_of slot = unwrap_or (option_map (λ t. t.index) slot) 0
+
+abbrev pub slot_index : Plane → List ℕ → Line → ℕ
+slot_index p a (w.drop b x) = index_of (slot_of p a x)
+slot_index p a (w.grow b s n) = index_of (slot_of p a s)
+slot_index p a _ = free_slot p
+
+-- what it writes there
+abbrev pub grown_content : Option Slot → List ℕ → List ℕ
+grown_content slot more = unwrap_or (option_map (λ t. slot_bytes (with_more t more)) slot) zero_block
+
+abbrev pub slot_content : Plane → List ℕ → Line → List ℕ
+slot_content p a (w.vsa b s n k) = slot_bytes (new_slot p a s k n)
+slot_content p a (w.grow b s n) = grown_content (slot_of p a s) (granted p (w.grow b s n))
+slot_content p a _ = zero_block
+
+-- the event is what came of this call, in a line of application a
+abbrev pub Makes : System → List ℕ → Line → Call → Event → Type 0
+Makes s a line (Row.reads l k) e = ReadsAt (slice_get (blocks_at s.plane a l) k) e
+Makes s a line (Row.writes l k content) e = WritesAt (slice_get (blocks_at s.plane a l) k) content e
+Makes s a line Row.syncs e = IsSync e
+Makes s a line (Row.reads_in l) e = ReadsIn (blocks_at s.plane a l) e
+Makes s a line (Row.writes_in l) e = WritesIn (blocks_at s.plane a l) e
+Makes s a line (Row.reads_some l) e = ReadsIn (blocks_at s.plane a l) e
+Makes s a line (Row.zeroes_some l) e = ZeroesIn (drop 1 (blocks_at s.plane a l)) e
+Makes s a line (Row.zeroes_new k) e = WritesAt (slice_get (granted s.plane line) k) zero_block e
+Makes s a line Row.writes_slot e = WritesAt (Some (slot_index s.plane a line)) (slot_content s.plane a line) e
 
 abbrev pub is_repeated : Call → Bool
 is_repeated (Row.reads_some l) = true
+is_repeated (Row.zeroes_some l) = true
 is_repeated _ = false
 
 -- The events make the calls, up to and with the first that fails. A repeated call is made any number of times.
-pub data Follow (s : System) (a : List ℕ) : List Call → List Event → Type 0 where
-  ended : Follow s a [] []
-  fails : {c : Call} {cs : List Call} {e : Event} → Makes s a c e → has_succeeded e ≡ false → Follow s a (c ∷ cs) (e ∷ [])
-  goes_on : {c : Call} {cs : List Call} {e : Event} {es : List Event} → Makes s a c e → has_succeeded e ≡ true → is_repeated c ≡ false → Follow s a cs es → Follow s a (c ∷ cs) (e ∷ es)
-  again : {c : Call} {cs : List Call} {e : Event} {es : List Event} → Makes s a c e → has_succeeded e ≡ true → is_repeated c ≡ true → Follow s a (c ∷ cs) es → Follow s a (c ∷ cs) (e ∷ es)
-  passes : {c : Call} {cs : List Call} {es : List Event} → is_repeated c ≡ true → Follow s a cs es → Follow s a (c ∷ cs) es
+pub data Follow (s : System) (a : List ℕ) (line : Line) : List Call → List Event → Type 0 where
+  ended : Follow s a line [] []
+  fails : {c : Call} {cs : List Call} {e : Event} → Makes s a line c e → has_succeeded e ≡ false → Follow s a line (c ∷ cs) (e ∷ [])
+  goes_on : {c : Call} {cs : List Call} {e : Event} {es : List Event} → Makes s a line c e → has_succeeded e ≡ true → is_repeated c ≡ false → Follow s a line cs es → Follow s a line (c ∷ cs) (e ∷ es)
+  again : {c : Call} {cs : List Call} {e : Event} {es : List Event} → Makes s a line c e → has_succeeded e ≡ true → is_repeated c ≡ true → Follow s a line (c ∷ cs) es → Follow s a line (c ∷ cs) (e ∷ es)
+  passes : {c : Call} {cs : List Call} {es : List Event} → is_repeated c ≡ true → Follow s a line cs es → Follow s a line (c ∷ cs) es
 
 -- how a device event ended, with its kind
 abbrev pub end_of : Event → Ended
@@ -52,11 +89,11 @@ end_of (Out bytes) = record { verb = syncing; ok = true; took = true }
 abbrev pub ends_of : List Event → List Ended
 ends_of es = map end_of es
 
-abbrev pub PerformsFor : System → List Call → List Event → Option (List ℕ) → Type 0
-PerformsFor s calls es (Some a) = Follow s a calls es
-PerformsFor s calls es None = es ≡ []
+abbrev pub PerformsFor : System → Line → List Call → List Event → Option (List ℕ) → Type 0
+PerformsFor s line calls es (Some a) = Follow s a line calls es
+PerformsFor s line calls es None = es ≡ []
 
 -- the device events are those of the line's calls; a line of no application, and one that is refused at sight, has none
 abbrev pub Performs : System → Meaning → List Call → List Event → Type 0
-Performs s (Ok line) calls es = PerformsFor s calls es (owner line)
+Performs s (Ok line) calls es = PerformsFor s line calls es (owner line)
 Performs s (Err refusal) calls es = es ≡ []

@@ -2,11 +2,13 @@
 use Rattle.std.specs.Prelude.{◌≡◌, ◌⊎◌, ℕ, Bool, true, false, List, [], ◌∷◌, ◌++◌, length, drop, bytes_eq, Ok, Err, IsTrue}
 use Rattle.ark_base.specs.declared.refusal.Refusal.TheVariants as r
 use Rattle.ark_media.specs.Journal.{Event, output_of, device_events}
-use Rattle.ark_script.specs.Lines as w
-use Rattle.ark_script.specs.Lines.{Line, Meaning, Says, FirstSay}
+use Rattle.ark_script.specs.Line as w
+use Rattle.ark_script.specs.Line.{Line}
+use Rattle.ark_script.specs.Lines.{Meaning, Says, FirstSay}
 use Rattle.ark_script.specs.Text.{text}
 use Rattle.ark_script.specs.declared.said.Said.TheVariants as said
-use Rattle.ark_machine.specs.System.{System, Turn, turn}
+use Rattle.ark_machine.specs.System.{System, Turn}
+use Rattle.ark_machine.specs.Built.{turn}
 use Rattle.ark_machine.specs.Follow.{Performs, ends_of}
 
 -- whether the part is that of a line that found no memory
@@ -16,6 +18,13 @@ has_lacked part = bytes_eq (output_of part) (text (said.Refused r.NoMemory) [])
 -- which words may find no memory
 abbrev pub may_lack : Line → Bool
 may_lack (w.app a frames) = true
+may_lack (w.vsic a v size) = true
+may_lack (w.vnic a v rx tx) = true
+may_lack (w.filter a f rule) = true
+may_lack (w.sock a k v port) = true
+may_lack (w.log a s v) = true
+may_lack (w.queue a s v) = true
+may_lack _ = false
 
 abbrev pub MayLack : Meaning → Bool → Type 0
 MayLack (Ok line) true = IsTrue (may_lack line)

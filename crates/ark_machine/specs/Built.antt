@@ -1,0 +1,20 @@
+-- The words that the program runs so far. This stands beside the rows, which are whole, and goes when every word is built.
+use Rattle.std.specs.Prelude.{Bool, true, false, List, if◌then◌else◌, Ok, Err}
+use Rattle.ark_base.specs.declared.refusal.Refusal.TheVariants as r
+use Rattle.ark_script.specs.Line as w
+use Rattle.ark_script.specs.Line.{Line}
+use Rattle.ark_script.specs.Lines.{Meaning}
+use Rattle.ark_script.specs.declared.said.Said.TheVariants as said
+use Rattle.ark_machine.specs.Row.{Ended}
+use Rattle.ark_machine.specs.System.{System, Turn, quiet_turn, line_turn}
+
+-- a line of any other word is refused as unknown
+abbrev pub is_built : Line → Bool
+is_built (w.app a frames) = true
+is_built (w.tick n) = true
+is_built _ = false
+
+-- what a line of the program's script does, with how its device calls ended and whether it found no memory
+abbrev pub turn : System → Meaning → List Ended → Bool → Turn
+turn s (Ok line) ends memory = if is_built line then line_turn s line ends memory else quiet_turn s (said.Refused r.UnknownWord)
+turn s (Err refusal) ends memory = quiet_turn s (said.Refused refusal)
