@@ -1,1 +1,4 @@
 mod Worked
+mod Headers
+mod Emptiness
+mod Entries

@@ -1,5 +1,5 @@
 -- One entry of a log or queue: how it is written, and what is an entry at a place of the ring.
-use Rattle.std.specs.Prelude.{ℕ, zero, suc, ◌+◌, ◌-◌, ◌*◌, ◌/◌, ◌%◌, ◌^◌, List, [], ◌++◌, length, take, drop, replicate, slice_range, codes, Bool, true, false, ◌&&◌, ◌==◌, nat_le, bytes_eq, Option, Some, None}
+use Rattle.std.specs.Prelude.{◌≡◌, ◌<◌, ℕ, zero, suc, ◌+◌, ◌-◌, ◌*◌, ◌/◌, ◌%◌, ◌^◌, List, [], ◌++◌, length, take, drop, replicate, slice_range, codes, Bool, true, false, ◌&&◌, ◌==◌, nat_le, bytes_eq, Option, Some, None}
 use Rattle.std.specs.Int.{w32, w64, to_be_bytes, from_be_bytes}
 use Rattle.ark_media.specs.Journal.{block}
 
@@ -27,6 +27,10 @@ marked bytes = take (length bytes - 8) bytes ++ marker
 abbrev pub ring_bytes : List (List ℕ) → ℕ → ℕ → List ℕ
 ring_bytes ring p zero = []
 ring_bytes ring p (suc n) = block ring (p % length ring) ++ ring_bytes ring (p + 1) n
+
+-- each block of the ring has 512 bytes
+abbrev pub AreWhole : List (List ℕ) → Type 0
+AreWhole ring = (u : ℕ) → u < length ring → length (block ring u) ≡ 512
 
 -- the length that the first block of an entry says
 abbrev pub length_in : List ℕ → ℕ

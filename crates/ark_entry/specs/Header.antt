@@ -1,5 +1,5 @@
 -- The header of a log or queue, both ways. The blocks behind it are the ring.
-use Rattle.std.specs.Prelude.{ℕ, ◌+◌, ◌^◌, List, ◌∷◌, ◌++◌, replicate, slice_range, codes, Bool, ◌&&◌, ◌==◌, nat_le, nat_lt, bytes_eq, Option, Some, None, if◌then◌else◌}
+use Rattle.std.specs.Prelude.{ℕ, ◌<◌, ◌≤◌, ◌+◌, ◌^◌, List, ◌∷◌, ◌++◌, replicate, slice_range, codes, Bool, ◌&&◌, ◌==◌, nat_le, nat_lt, bytes_eq, Option, Some, None, if◌then◌else◌}
 use Rattle.std.specs.Int.{w16, w32, w64, to_be_bytes, from_be_bytes}
 use Rattle.std.specs.List.{list_all}
 use Rattle.ark_base.specs.declared.kind.Kind.{Kind}
@@ -37,6 +37,14 @@ header_in block = record {
 -- the fields are right for a ring of so many blocks
 abbrev pub is_header : ℕ → Header → Bool
 is_header ring h = nat_le 1 h.first && (nat_lt h.start ring && (nat_le h.count ring && (nat_lt h.end ring && nat_le (h.first + h.count) (2 ^ 62 + 1))))
+
+-- the same in words
+pub record IsHeader (ring : ℕ) (h : Header) : Type 0 where
+  pub some : 1 ≤ h.first
+  pub start : h.start < ring
+  pub count : h.count ≤ ring
+  pub end : h.end < ring
+  pub last : h.first + h.count ≤ 2 ^ 62 + 1
 
 -- a header of zeros
 abbrev pub empty : Header
