@@ -1,1 +1,3 @@
 pub mod Superblock
+pub mod Area
+pub mod Slots

@@ -1,0 +1,4 @@
+mod Worked
+mod Headers
+mod Emptiness
+mod Entries

@@ -1,0 +1,7 @@
+//! The blocks of a log or a queue: its header, its entries, and the list that is found in them. These are definitions for
+//! contracts, and laws of them.
+#![tactic(auto)]
+
+mod laws;
+
+pub use laws::{empty_laws, entry_laws, header_laws};
