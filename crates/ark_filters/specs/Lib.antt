@@ -1,2 +1,4 @@
 pub mod Filter
 pub mod In
+pub mod Overlap
+pub mod Rule
