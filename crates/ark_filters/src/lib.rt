@@ -3,8 +3,10 @@
 
 mod filter;
 mod matching;
+mod overlap;
 #[cfg(test)]
 mod tests;
 
 pub use filter::{Direction, Filter, Peers, Proto, Services};
 pub use matching::matches;
+pub use overlap::overlaps;
