@@ -5,4 +5,5 @@ pub mod Passing
 pub mod Matched
 pub mod Padded
 pub mod Overlapping
+pub mod Together
 pub mod Worked

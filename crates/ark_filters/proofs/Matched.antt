@@ -1,5 +1,5 @@
 -- What a frame that matches a receive filter has.
-use Rattle.std.proofs.Common.{◌≡◌, ℕ, List, [], ◌∷◌, ◌++◌, length, drop, Bool, true, false, not, ◌&&◌, nat_eq, nat_le, bytes_eq, Option, Some, None, if◌then◌else◌, refl}
+use Rattle.std.proofs.Common.{◌≡◌, ℕ, List, [], ◌∷◌, ◌++◌, length, Bool, true, false, not, ◌&&◌, nat_eq, nat_le, bytes_eq, Option, Some, None, if◌then◌else◌, refl}
 use Rattle.std.proofs.lemmas.Bool.{and_parts, eqb-true}
 use Rattle.ark_packet.specs.Wire.{word_at}
 use Rattle.ark_packet.specs.Ip.{Packet, packet_of}
@@ -10,7 +10,7 @@ use Rattle.ark_filters.specs.declared.filter.Peers.{Peers}
 use Rattle.ark_filters.specs.declared.filter.Services.{Services}
 use Rattle.ark_filters.specs.declared.filter.Proto.TheVariants.{Eth, Ip, Udp, Tcp}
 use Rattle.ark_filters.specs.Filter.{is_peer, is_service}
-use Rattle.ark_filters.specs.In.{ports_match, packet_matches, some_packet_matches, rest_matches, is_in}
+use Rattle.ark_filters.specs.In.{packet_matches, some_packet_matches, is_in}
 use Rattle.ark_filters.proofs.Receive.{receive}
 
 -- the sender's address as a peer

@@ -1,5 +1,5 @@
 -- Lists that meet have a peer or a service in common, and lists that have one meet.
-use Rattle.std.proofs.Common.{◌≡◌, ℕ, ◌<◌, ◌≤◌, ◌⊎◌, List, length, take, get_or, max, Bool, true, false, ◌||◌, nat_eq, bytes_eq, refl, sym, ap, ◌∙◌, subst, inl, inr, arith, length-take}
+use Rattle.std.proofs.Common.{◌≡◌, ℕ, ◌<◌, ◌≤◌, ◌⊎◌, List, length, take, get_or, max, Bool, true, false, ◌||◌, nat_eq, bytes_eq, refl, ap, ◌∙◌, subst, inl, inr, arith, length-take}
 use Rattle.std.specs.List.{list_any, Any, All}
 use Rattle.std.proofs.lemmas.Bool.{cases_Bool, or_left, or_right, eqb-false}
 use Rattle.std.proofs.lemmas.Bool.Decides.{nat_tests}

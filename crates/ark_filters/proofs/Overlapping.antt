@@ -1,10 +1,9 @@
 -- Two receive filters overlap exactly where their lists meet.
-use Rattle.std.proofs.Common.{◌≡◌, ℕ, ◌<◌, ◌≤◌, List, [], ◌∷◌, ◌++◌, length, get_or, take, replicate, Bool, true, false, ◌&&◌, refl, sym, ap, ◌∙◌, subst, arith}
+use Rattle.std.proofs.Common.{◌≡◌, ℕ, ◌<◌, List, [], ◌∷◌, ◌++◌, take, replicate, true, ◌&&◌, refl, sym, ap, ◌∙◌, subst, arith}
 use Rattle.std.specs.List.{All}
-use Rattle.std.proofs.lemmas.Bool.{and_parts, and_from}
+use Rattle.std.proofs.lemmas.Bool.{and_parts}
 use Rattle.std.proofs.lemmas.List.Elements.{All-weaker}
 use Rattle.ark_packet.specs.Wire.{IsAddress}
-use Rattle.ark_packet.specs.Frame.{packet_in}
 use Rattle.ark_packet.specs.declared.own.Own.{Own}
 use Rattle.ark_packet.proofs.Reading.{octets-each}
 use Rattle.ark_filters.specs.declared.filter.Filter.{Filter}

@@ -1,9 +1,9 @@
 -- A peer of IPv4 is an address and two zeros.
-use Rattle.std.proofs.Common.{◌≡◌, ℕ, ◌<◌, ◌≤◌, ◌⊎◌, inl, inr, List, [], ◌∷◌, ◌++◌, length, get_or, take, arith, refl, sym, ap, ◌∙◌, subst, length-take}
+use Rattle.std.proofs.Common.{◌≡◌, ℕ, ◌<◌, ◌≤◌, ◌⊎◌, inl, inr, List, [], ◌∷◌, ◌++◌, length, get_or, take, arith, sym, subst, length-take}
 use Rattle.std.proofs.lemmas.Bool.{cases_lt}
 use Rattle.std.proofs.lemmas.List.{get_or-take, get_or_past}
 use Rattle.ark_packet.specs.Wire.{IsAddress}
-use Rattle.ark_filters.specs.Rule.{IsMac, IsPadded}
+use Rattle.ark_filters.specs.Rule.{IsPadded}
 
 padded : (xs : List ℕ) → length xs ≡ 6 → get_or xs 4 0 ≡ 0 → get_or xs 5 0 ≡ 0 → take 4 xs ++ (0 ∷ (0 ∷ [])) ≡ xs
 padded [] h x y = absurd (omega arith)

@@ -1,5 +1,5 @@
 -- The frame that is laid out passes the tests of a receive filter whose lists let its parts through.
-use Rattle.std.proofs.Common.{◌≡◌, ℕ, ◌<◌, List, [], ◌∷◌, ◌++◌, length, Bool, true, false, ◌&&◌, bytes_eq, Option, Some, None, refl, ap, ◌∙◌, arith}
+use Rattle.std.proofs.Common.{◌≡◌, ℕ, ◌<◌, List, [], ◌∷◌, ◌++◌, length, Bool, true, ◌&&◌, bytes_eq, Option, Some, refl, ap, ◌∙◌}
 use Rattle.std.proofs.lemmas.Bool.{and_from}
 use Rattle.ark_packet.specs.Wire.{word_at}
 use Rattle.ark_packet.specs.Ip.{Packet}
@@ -10,7 +10,7 @@ use Rattle.ark_filters.specs.declared.filter.Peers.{Peers}
 use Rattle.ark_filters.specs.declared.filter.Services.{Services}
 use Rattle.ark_filters.specs.declared.filter.Proto.TheVariants.{Eth, Ip, Udp, Tcp}
 use Rattle.ark_filters.specs.Filter.{is_peer, is_service}
-use Rattle.ark_filters.specs.In.{packet_matches, rest_matches, parts_match, is_in}
+use Rattle.ark_filters.specs.In.{packet_matches, parts_match, is_in}
 use Rattle.ark_filters.specs.Rule.{IsOwn}
 use Rattle.ark_filters.proofs.Meeting.{same_bytes}
 use Rattle.ark_filters.proofs.Receive.{receive}

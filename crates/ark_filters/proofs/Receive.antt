@@ -3,7 +3,6 @@ use Rattle.std.proofs.Common.{◌≡◌, sym, ap}
 use Rattle.ark_filters.specs.declared.filter.Filter.{Filter}
 use Rattle.ark_filters.specs.declared.filter.Peers.{Peers}
 use Rattle.ark_filters.specs.declared.filter.Services.{Services}
-use Rattle.ark_filters.specs.declared.filter.Direction.{Direction}
 use Rattle.ark_filters.specs.declared.filter.Direction.TheVariants.{Rx}
 use Rattle.ark_filters.specs.declared.filter.Proto.{Proto}
 

@@ -1,13 +1,10 @@
 -- A frame for each pair of sides: destination, source and type, a header of IPv4 with two addresses, and a payload of 20 octets with the port.
-use Rattle.std.proofs.Common.{◌≡◌, ℕ, ◌<◌, ◌≤◌, ◌/◌, ◌%◌, List, [], ◌∷◌, ◌++◌, length, get_or, take, drop, replicate, Bool, true, false, ◌&&◌, nat_eq, bytes_eq, Some, None, refl, sym, ap, ◌∙◌, arith, append-nil}
-use Rattle.std.proofs.lemmas.Bool.{and_from}
-use Rattle.ark_packet.specs.Wire.{word, word_at, IsAddress}
+use Rattle.std.proofs.Common.{◌≡◌, ℕ, ◌<◌, ◌/◌, ◌%◌, List, [], ◌∷◌, length, get_or, take, replicate, false, Some, refl, ap, ◌∙◌, arith, append-nil}
+use Rattle.ark_packet.specs.Wire.{word_at}
 use Rattle.ark_packet.specs.Ip.{Packet, packet_of}
-use Rattle.ark_packet.specs.Frame.{target_of, source_of, proto_of, packet_under, packet_in}
-use Rattle.ark_packet.specs.declared.own.Own.{Own}
+use Rattle.ark_packet.specs.Frame.{target_of, source_of, proto_of, packet_in}
 use Rattle.ark_packet.proofs.Heads.{four_before, six_before}
-use Rattle.ark_packet.proofs.Reading.{EachOctet, octets-each, word_back}
-use Rattle.ark_filters.specs.Rule.{IsMac, IsOwn}
+use Rattle.ark_packet.proofs.Reading.{octets-each, word_back}
 
 -- from byte 14 on: a header with no options, and 20 octets that begin with a port of 0 and the port
 abbrev pub ip_part : ℕ → List ℕ → List ℕ → ℕ → List ℕ
