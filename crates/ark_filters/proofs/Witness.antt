@@ -72,8 +72,118 @@ pub octets_are : (target source from to : List ℕ) (type protocol port : ℕ) �
 octets_are target source from to type protocol port ht hs hf hd hp =
     let octet : (n : ℕ) → n % 256 < 256 = λ n. omega arith in
     let zero' : 0 < 256 = omega arith in
-    octets-each (witness target source type protocol from to port)
-    (ht 0, (ht 1, (ht 2, (ht 3, (ht 4, (ht 5, (hs 0, (hs 1, (hs 2, (hs 3, (hs 4, (hs 5, (octet (type / 256), (octet type,
-    (omega arith, (zero', (zero', (omega arith, (zero', (zero', (zero', (zero', (omega arith, (hp, (zero', (zero',
-    (hf 0, (hf 1, (hf 2, (hf 3, (hd 0, (hd 1, (hd 2, (hd 3, (zero', (zero', (octet (port / 256), (octet port,
-    (zero', (zero', (zero', (zero', (zero', (zero', (zero', (zero', (zero', (zero', (zero', (zero', (zero', (zero', (zero', (zero', tt))))))))))))))))))))))))))))))))))))))))))))))))))))))
+    octets-each (witness target source type protocol from to port) (
+      ht 0,
+      (
+        ht 1,
+        (
+          ht 2,
+          (
+            ht 3,
+            (
+              ht 4,
+              (
+                ht 5,
+                (
+                  hs 0,
+                  (
+                    hs 1,
+                    (
+                      hs 2,
+                      (
+                        hs 3,
+                        (
+                          hs 4,
+                          (
+                            hs 5,
+                            (
+                              octet (type / 256),
+                              (
+                                octet type,
+                                (
+                                  omega arith,
+                                  (
+                                    zero',
+                                    (
+                                      zero',
+                                      (
+                                        omega arith,
+                                        (
+                                          zero',
+                                          (
+                                            zero',
+                                            (
+                                              zero',
+                                              (
+                                                zero',
+                                                (
+                                                  omega arith,
+                                                  (
+                                                    hp,
+                                                    (
+                                                      zero',
+                                                      (
+                                                        zero',
+                                                        (
+                                                          hf 0,
+                                                          (
+                                                            hf 1,
+                                                            (
+                                                              hf 2,
+                                                              (
+                                                                hf 3,
+                                                                (
+                                                                  hd 0,
+                                                                  (
+                                                                    hd 1,
+                                                                    (
+                                                                      hd 2,
+                                                                      (
+                                                                        hd 3,
+                                                                        (
+                                                                          zero',
+                                                                          (
+                                                                            zero',
+                                                                            (
+                                                                              octet (port / 256),
+                                                                              (
+                                                                                octet port,
+                                                                                (zero', (zero', (zero', (zero', (zero', (zero', (zero', (zero', (zero', (zero', (zero', (zero', (zero', (zero', (zero', (zero', tt)))))))))))))))),
+                                                                              ),
+                                                                            ),
+                                                                          ),
+                                                                        ),
+                                                                      ),
+                                                                    ),
+                                                                  ),
+                                                                ),
+                                                              ),
+                                                            ),
+                                                          ),
+                                                        ),
+                                                      ),
+                                                    ),
+                                                  ),
+                                                ),
+                                              ),
+                                            ),
+                                          ),
+                                        ),
+                                      ),
+                                    ),
+                                  ),
+                                ),
+                              ),
+                            ),
+                          ),
+                        ),
+                      ),
+                    ),
+                  ),
+                ),
+              ),
+            ),
+          ),
+        ),
+      ),
+    )

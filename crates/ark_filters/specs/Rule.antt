@@ -4,6 +4,7 @@ use Rattle.std.specs.List.{All}
 use Rattle.ark_packet.specs.Wire.{IsAddress}
 use Rattle.ark_packet.specs.declared.own.Own.{Own}
 use Rattle.ark_filters.specs.declared.filter.Filter.{Filter}
+use Rattle.ark_filters.specs.declared.filter.Direction.TheVariants.{Rx}
 use Rattle.ark_filters.specs.declared.filter.Proto.{Proto}
 use Rattle.ark_filters.specs.declared.filter.Proto.TheVariants.{Eth, Ip, Udp, Tcp}
 
@@ -54,6 +55,11 @@ pub record IsRule (f : Filter) : Type 0 where
   pub services : All (IsServiceOf f.proto) (take f.services.count f.services.items)
   pub no_peers : drop f.peers.count f.peers.items ≡ replicate (8 - f.peers.count) (replicate 6 0)
   pub no_services : drop f.services.count f.services.items ≡ replicate (8 - f.services.count) (0, 0)
+
+-- such a filter of frames that come in
+pub record IsReceiveRule (f : Filter) : Type 0 where
+  pub rule : IsRule f
+  pub direction : f.direction ≡ Rx
 
 -- the addresses of an end
 pub record IsOwn (own : Own) : Type 0 where

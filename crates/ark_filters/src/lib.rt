@@ -2,11 +2,13 @@
 #![tactic(auto)]
 
 mod filter;
+mod laws;
 mod matching;
 mod overlap;
 #[cfg(test)]
 mod tests;
 
 pub use filter::{Direction, Filter, Peers, Proto, Services};
+pub use laws::filter_laws;
 pub use matching::matches;
 pub use overlap::overlaps;

@@ -1,6 +1,8 @@
-ghost use Rattle.std.specs.Prelude.{◌≡◌};
+ghost use Rattle.std.specs.Prelude.{◌≡◌, ◌↔◌, IsTrue};
+ghost use Rattle.ark_packet.specs.declared.own.Own.{Own};
 ghost use Rattle.ark_filters.specs.Filter.{Counted};
-ghost use Rattle.ark_filters.specs.Overlap.{meets, both_meet, protocol_meets};
+ghost use Rattle.ark_filters.specs.Overlap.{Overlaps, meets, both_meet, protocol_meets};
+ghost use Rattle.ark_filters.specs.Rule.{IsReceiveRule, IsOwn};
 
 use crate::filter::{Filter, Proto};
 
@@ -28,11 +30,11 @@ fn takes_protocol(a: &Filter, b: &Filter, protocol: u16) -> bool
     a.peers.meet(&b.peers) && a.services.hold(protocol)
 }
 
-/// Whether some frame matches both of two receive filters.
-pub fn overlaps(a: &Filter, b: &Filter) -> bool
+// Whether the lists of two receive filters meet.
+fn filters_meet(a: &Filter, b: &Filter) -> bool
     requires first { Counted a.now }
     requires second { Counted b.now }
-    ensures lists { result ≡ meets a.now b.now }
+    ensures met { result ≡ meets a.now b.now }
 {
     match (a.proto, b.proto) {
         (Proto::Eth, Proto::Eth) => lists_meet(a, b),
@@ -46,4 +48,16 @@ pub fn overlaps(a: &Filter, b: &Filter) -> bool
         (Proto::Udp, Proto::Udp) | (Proto::Tcp, Proto::Tcp) => lists_meet(a, b),
         (Proto::Udp, Proto::Tcp) | (Proto::Tcp, Proto::Udp) => false,
     }
+}
+
+/// Whether two receive filters overlap: some frame matches both, whatever the addresses of this end. It compares the lists of
+/// peers and services, and makes no frame.
+pub fn overlaps(a: &Filter, b: &Filter) -> bool
+    requires first { Counted a.now }
+    requires second { Counted b.now }
+    ensures lists { result ≡ meets a.now b.now }
+    // For filters that a line can give, the lists tell of frames.
+    ensures frames { (own : Own) → IsReceiveRule a.now → IsReceiveRule b.now → IsOwn own → IsTrue result ↔ Overlaps a.now b.now own }
+{
+    filters_meet(a, b)
 }
