@@ -7,3 +7,4 @@ pub mod Padded
 pub mod Overlapping
 pub mod Together
 pub mod Worked
+pub mod WorkedOverlaps
