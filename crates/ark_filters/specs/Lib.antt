@@ -2,3 +2,4 @@ pub mod Filter
 pub mod In
 pub mod Overlap
 pub mod Rule
+pub mod Rules

@@ -3,6 +3,7 @@
 
 mod filter;
 mod laws;
+mod live;
 mod matching;
 mod overlap;
 #[cfg(test)]
@@ -10,5 +11,6 @@ mod tests;
 
 pub use filter::{Direction, Filter, Peers, Proto, Services};
 pub use laws::filter_laws;
+pub use live::Live;
 pub use matching::matches;
 pub use overlap::overlaps;

@@ -97,6 +97,7 @@ fn parts_match(filter: &Filter, frame: &Frame<'_>, own: &Own) -> bool
 pub fn matches(filter: &Filter, frame: &Frame<'_>, own: &Own) -> bool
     requires counted { Counted filter.now }
     ensures matched { (bytes : List ℕ) → Says bytes frame.now → result ≡ spec.is_in filter.now bytes own.now }
+    ensures read { result ≡ spec.frame_matches filter.now frame.now own.now }
 {
     parts_match(filter, frame, own)
 }
