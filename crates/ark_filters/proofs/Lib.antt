@@ -1,1 +1,10 @@
+pub mod Meeting
+pub mod Receive
+pub mod Witness
+pub mod Passing
+pub mod Matched
+pub mod Padded
+pub mod Overlapping
+pub mod Together
 pub mod Worked
+pub mod WorkedOverlaps

@@ -1,8 +1,9 @@
 -- Which frames match a filter.
 use Rattle.std.specs.Prelude.{ℕ, List, [], ◌∷◌, ◌++◌, length, Bool, not, false, ◌&&◌, nat_eq, nat_le, bytes_eq, Option, Some, None}
 use Rattle.ark_packet.specs.Wire.{word_at}
-use Rattle.ark_packet.specs.Ip.{Packet}
+use Rattle.ark_packet.specs.Ip.{Packet, seen}
 use Rattle.ark_packet.specs.Frame.{target_of, source_of, proto_of, packet_in}
+use Rattle.ark_packet.specs.declared.frame.Frame.{Frame}
 use Rattle.ark_packet.specs.declared.own.Own.{Own}
 use Rattle.ark_filters.specs.declared.filter.Filter.{Filter}
 use Rattle.ark_filters.specs.declared.filter.Direction.{Direction}
@@ -53,6 +54,10 @@ rest_matches f Tcp peer type packet own = some_packet_matches f packet own
 abbrev pub parts_match : Filter → List ℕ → List ℕ → ℕ → Option Packet → Own → Bool
 parts_match f from to type packet own =
     bytes_eq (own_side f.direction from to) own.mac && rest_matches f f.proto (peer_side f.direction from to) type packet own
+
+-- the frame, as it was read, matches the filter
+abbrev pub frame_matches : Filter → Frame → Own → Bool
+frame_matches f frame own = parts_match f frame.from frame.to frame.proto (seen frame.ip) own
 
 -- The frame of these bytes matches the filter.
 abbrev pub is_in : Filter → List ℕ → Own → Bool

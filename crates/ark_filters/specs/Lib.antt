@@ -1,2 +1,5 @@
 pub mod Filter
 pub mod In
+pub mod Overlap
+pub mod Rule
+pub mod Rules

@@ -1,5 +1,6 @@
 ghost use Rattle.std.specs.Prelude.{◌≡◌, ◌≤◌};
 ghost use Rattle.ark_filters.specs.Filter as spec;
+ghost use Rattle.ark_filters.specs.Overlap.{peers_meet, ranges_meet, range_meets, services_meet};
 
 /// Which frames a filter looks at.
 #[derive(Clone, Copy, Debug, PartialEq, Eq)]
@@ -57,8 +58,8 @@ pub struct Filter {
 impl Peers {
     // Whether a peer is one of these.
     pub(crate) fn hold(&self, peer: &[u8; 6]) -> bool
-        requires { self.now.count ≤ 8 }
-        ensures { result ≡ spec.is_peer self.now peer.now }
+        requires count { self.now.count ≤ 8 }
+        ensures held { result ≡ spec.is_peer self.now peer.now }
     {
         if self.count == 0 {
             return true;
@@ -70,19 +71,76 @@ impl Peers {
         }
         false
     }
+
+    // Whether some peer is one of these and one of the others.
+    pub(crate) fn meet(&self, others: &Peers) -> bool
+        requires count { self.now.count ≤ 8 }
+        requires others { others.now.count ≤ 8 }
+        ensures met { result ≡ peers_meet self.now others.now }
+    {
+        if self.count == 0 {
+            return true;
+        }
+        for item in &self.items[..usize::from(self.count)] {
+            if others.hold(item) {
+                return true;
+            }
+        }
+        false
+    }
+}
+
+// Whether two ranges have a number in common.
+fn share(a: (u16, u16), b: (u16, u16)) -> bool
+    ensures met { result ≡ ranges_meet a b }
+{
+    a.0 <= b.1 && b.0 <= a.1
 }
 
 impl Services {
     // Whether a number is in one of these.
     pub(crate) fn hold(&self, number: u16) -> bool
-        requires { self.now.count ≤ 8 }
-        ensures { result ≡ spec.is_service self.now number }
+        requires count { self.now.count ≤ 8 }
+        ensures held { result ≡ spec.is_service self.now number }
     {
         if self.count == 0 {
             return true;
         }
         for item in &self.items[..usize::from(self.count)] {
             if item.0 <= number && number <= item.1 {
+                return true;
+            }
+        }
+        false
+    }
+
+    // Whether some number of a range is in one of these.
+    fn touch(&self, range: (u16, u16)) -> bool
+        requires count { self.now.count ≤ 8 }
+        ensures met { result ≡ range_meets self.now range }
+    {
+        if self.count == 0 {
+            return true;
+        }
+        for item in &self.items[..usize::from(self.count)] {
+            if share(*item, range) {
+                return true;
+            }
+        }
+        false
+    }
+
+    // Whether some service is in one of these and in one of the others.
+    pub(crate) fn meet(&self, others: &Services) -> bool
+        requires count { self.now.count ≤ 8 }
+        requires others { others.now.count ≤ 8 }
+        ensures met { result ≡ services_meet self.now others.now }
+    {
+        if self.count == 0 {
+            return true;
+        }
+        for item in &self.items[..usize::from(self.count)] {
+            if others.touch(*item) {
                 return true;
             }
         }

@@ -17,8 +17,8 @@ const HEADER_OF_UDP: usize = 8;
 
 // Whether the own side's address is the own one, and the peer's is one of the peers.
 fn addresses_match(filter: &Filter, ip: &Ip<'_>, own: &Own) -> bool
-    requires { Counted filter.now }
-    ensures { result ≡ spec.addresses_match filter.now (plain ip.now) own.now }
+    requires counted { Counted filter.now }
+    ensures matched { result ≡ spec.addresses_match filter.now (plain ip.now) own.now }
 {
     let (own_side, peer) = match filter.direction {
         Direction::Rx => (ip.to, ip.from),
@@ -30,9 +30,9 @@ fn addresses_match(filter: &Filter, ip: &Ip<'_>, own: &Own) -> bool
 
 // Whether the datagram is whole, of this protocol, with its header, and the own side's port is one of the services.
 fn ports_match(filter: &Filter, ip: &Ip<'_>, protocol: u8, header: usize) -> bool
-    requires filter { Counted filter.now }
+    requires counted { Counted filter.now }
     requires header { 4 ≤ header }
-    ensures { result ≡ spec.ports_match filter.now (plain ip.now) protocol header }
+    ensures matched { result ≡ spec.ports_match filter.now (plain ip.now) protocol header }
 {
     if ip.protocol != protocol || ip.fragment || ip.payload.len() < header {
         return false;
@@ -46,8 +46,8 @@ fn ports_match(filter: &Filter, ip: &Ip<'_>, protocol: u8, header: usize) -> boo
 
 // Whether an IPv4 part is what a filter looks for.
 fn ip_matches(filter: &Filter, ip: &Ip<'_>, own: &Own) -> bool
-    requires { Counted filter.now }
-    ensures { result ≡ spec.packet_matches filter.now filter.now.proto (plain ip.now) own.now }
+    requires counted { Counted filter.now }
+    ensures matched { result ≡ spec.packet_matches filter.now filter.now.proto (plain ip.now) own.now }
 {
     match filter.proto {
         Proto::Eth => false,
@@ -62,8 +62,8 @@ fn ip_matches(filter: &Filter, ip: &Ip<'_>, own: &Own) -> bool
 
 // Whether there is an IPv4 part, and it is what a filter looks for.
 fn has_match(filter: &Filter, ip: &Option<Ip<'_>>, own: &Own) -> bool
-    requires { Counted filter.now }
-    ensures { result ≡ spec.some_packet_matches filter.now (seen ip.now) own.now }
+    requires counted { Counted filter.now }
+    ensures matched { result ≡ spec.some_packet_matches filter.now (seen ip.now) own.now }
 {
     match ip {
         Some(ip) => ip_matches(filter, ip, own),
@@ -73,8 +73,8 @@ fn has_match(filter: &Filter, ip: &Option<Ip<'_>>, own: &Own) -> bool
 
 // Whether a frame's parts are what a filter looks for.
 fn parts_match(filter: &Filter, frame: &Frame<'_>, own: &Own) -> bool
-    requires { Counted filter.now }
-    ensures { result ≡ spec.parts_match filter.now frame.now.from frame.now.to frame.now.proto (seen frame.now.ip) own.now }
+    requires counted { Counted filter.now }
+    ensures matched { result ≡ spec.parts_match filter.now frame.now.from frame.now.to frame.now.proto (seen frame.now.ip) own.now }
 {
     let (own_side, peer) = match filter.direction {
         Direction::Rx => (frame.to, frame.from),
@@ -95,8 +95,9 @@ fn parts_match(filter: &Filter, frame: &Frame<'_>, own: &Own) -> bool
 /// the peers; under `Ip` the protocol is one of the services; under `Udp` and `Tcp` the protocol is 17 or 6, it is no fragment,
 /// the payload has 8 or 20 bytes at least, and the own side's port is one of the services. Checksums are not looked at.
 pub fn matches(filter: &Filter, frame: &Frame<'_>, own: &Own) -> bool
-    requires { Counted filter.now }
-    ensures { (bytes : List ℕ) → Says bytes frame.now → result ≡ spec.is_in filter.now bytes own.now }
+    requires counted { Counted filter.now }
+    ensures matched { (bytes : List ℕ) → Says bytes frame.now → result ≡ spec.is_in filter.now bytes own.now }
+    ensures read { result ≡ spec.frame_matches filter.now frame.now own.now }
 {
     parts_match(filter, frame, own)
 }
