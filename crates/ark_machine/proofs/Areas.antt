@@ -1,10 +1,9 @@
 -- Worked scripts on areas of blocks, evaluated.
-use Rattle.std.proofs.Common.{◌≡◌, ℕ, true, false, List, [], ◌∷◌, ◌++◌, codes, refl}
+use Rattle.std.proofs.Common.{◌≡◌, ℕ, true, List, [], ◌∷◌, codes, refl}
 use Rattle.std.specs.Fmt.{digits}
-use Rattle.std.specs.Prelude.{None}
 use Rattle.hex.specs.Hex.{encode_with}
 use Rattle.ark_base.specs.declared.kind.Kind.TheVariants as kind
-use Rattle.ark_media.specs.Journal.{Event, Read, Write, Sync}
+use Rattle.ark_media.specs.Journal.{Read, Write}
 use Rattle.ark_script.specs.Line as w
 use Rattle.ark_machine.specs.Bytes.{padded}
 use Rattle.ark_machine.specs.Step.{step}

@@ -194,7 +194,7 @@ by_end : {s : System} {a : List ℕ} {line : Line} (c : Call) (cs : List Call) (
     → ((ds : List Call) → next ds ≡ true → Follow s a line ds es) → Makes s a line c e
     → (ok : Bool) → has_succeeded e ≡ ok → (if ok then next (after_call cs c) else is_none_left es) ≡ true → Follow s a line (c ∷ cs) (e ∷ es)
 by_end c cs e es next sound made true is h = goes_after c cs e es (is_repeated c) refl made is (sound (after_call cs c) h)
-by_end {s = s} {a = a} {line = line} c cs e es next sound made false is h = rw none_left es h (fails made is)
+by_end {s = s} {a = a} {line = line} c cs e es next sound made false is h = rw (none_left es h) (fails made is)
 
 first_follows : {s : System} {a : List ℕ} {line : Line} (e : Event) (es : List Event) (next : List Call → Bool)
     → ((ds : List Call) → next ds ≡ true → Follow s a line ds es) → (cs : List Call) → made_first s a line e es next cs ≡ true → Follow s a line cs (e ∷ es)

@@ -1,9 +1,9 @@
 -- What worked scripts are made of: names, areas, and the device events of lines.
-use Rattle.std.proofs.Common.{ℕ, true, false, List, [], ◌∷◌, ◌++◌, codes, replicate}
+use Rattle.std.proofs.Common.{ℕ, true, List, [], ◌∷◌, ◌++◌}
 use Rattle.std.specs.Prelude.{map, None}
 use Rattle.std.specs.List.{range_with_len}
 use Rattle.ark_base.specs.declared.kind.Kind.{Kind}
-use Rattle.ark_media.specs.Journal.{Event, Read, Write, Sync, zero_block}
+use Rattle.ark_media.specs.Journal.{Event, Write, Sync, zero_block}
 use Rattle.ark_table.specs.Slots.{Slot, slot_bytes}
 use Rattle.ark_script.specs.Line as w
 use Rattle.ark_script.specs.Line.{Line}

@@ -1,5 +1,5 @@
 -- The rows of the words on areas of blocks: `vsa`, `grow`, `peek`, `poke`.
-use Rattle.std.specs.Prelude.{ℕ, ◌+◌, Bool, true, false, not, ◌||◌, List, [], ◌∷◌, ◌++◌, length, map, replicate, slice_index_or, slice_set, nat_le, if◌then◌else◌, Option, Some, None, is_some, is_none, option_map, unwrap_or}
+use Rattle.std.specs.Prelude.{ℕ, Bool, not, ◌||◌, List, [], ◌∷◌, ◌++◌, length, map, replicate, slice_index_or, slice_set, nat_le, if◌then◌else◌, None, is_some, is_none, option_map, unwrap_or}
 use Rattle.std.specs.List.{range_with_len}
 use Rattle.ark_base.specs.Conditions.{none}
 use Rattle.ark_base.specs.declared.kind.Kind.{Kind}
@@ -11,7 +11,7 @@ use Rattle.ark_machine.specs.Bytes.{padded, trimmed}
 use Rattle.ark_machine.specs.Objects
 use Rattle.ark_machine.specs.Objects.{Object, Raw, is_vsa}
 use Rattle.ark_machine.specs.Machine.{Machine, at, raw_at, missing, is_full, count_of, with_object, with_new}
-use Rattle.ark_machine.specs.Row.{Row, Given, Ended, Call, reads, writes, syncs, zeroes_new, writes_slot, says, answer, has_fault, synced_by}
+use Rattle.ark_machine.specs.Row.{Row, Given, Ended, Call, reads, writes, syncs, zeroes_new, writes_slot, answer, has_fault, synced_by}
 
 -- no application has more areas than these
 abbrev pub max_areas : ℕ

@@ -4,7 +4,7 @@ use Rattle.ark_base.specs.Conditions.{none}
 use Rattle.ark_script.specs.declared.said.Said.TheVariants as said
 use Rattle.ark_machine.specs.Objects
 use Rattle.ark_machine.specs.Objects.{Object, Paced, held_in, is_vsa, is_buffer}
-use Rattle.ark_machine.specs.Machine.{Machine, at, object_at, serial_at, is_so, holds_any, missing, each_object, without}
+use Rattle.ark_machine.specs.Machine.{Machine, object_at, serial_at, is_so, holds_any, missing, each_object, without}
 use Rattle.ark_machine.specs.Row.{Row, Given, writes_slot, syncs, says, answer, has_fault, synced_by}
 
 -- `app A F`: makes the application, with F frames of memory. It holds what was stored for it.

@@ -1,11 +1,10 @@
 -- `dev`: one move of a card.
-use Rattle.std.specs.Prelude.{ℕ, Bool, true, false, not, ◌&&◌, List, [], ◌∷◌, Option, Some, None, is_none, if◌then◌else◌, option_map, unwrap_or}
+use Rattle.std.specs.Prelude.{ℕ, not, ◌&&◌, List, [], ◌∷◌, Option, Some, None, is_none}
 use Rattle.ark_base.specs.Conditions.{none}
-use Rattle.ark_script.specs.declared.said.Said.TheVariants as said
 use Rattle.ark_machine.specs.Objects.{Vnic}
 use Rattle.ark_machine.specs.Machine.{Machine, vsic_at, vnic_at, missing}
 use Rattle.ark_machine.specs.Row.{Row, Given, answer}
-use Rattle.ark_machine.specs.Moves.{Move, moves, move, first_end, row_of}
+use Rattle.ark_machine.specs.Moves.{Move, move, first_end, row_of}
 use Rattle.ark_machine.specs.Network.{tx_moves}
 
 -- the move of the card at a label: of a network card that of its transmit ring

@@ -76,8 +76,8 @@ abbrev pub found_entries : Machine → List ℕ → Entries
 found_entries m s = entries (found_in (log_at m s))
 
 -- `log A s v` and `queue A s v`: opens the log or queue on the card, and binds it there
-abbrev pub open : Kind → Machine → List ℕ → List ℕ → Given → Row
-open k m s v g =
+abbrev pub open_row : Kind → Machine → List ℕ → List ℕ → Given → Row
+open_row k m s v g =
     answer m
     (record none {
       no_application = not m.made;

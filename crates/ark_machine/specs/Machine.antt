@@ -1,5 +1,5 @@
 -- What one application knows of itself: its private machine.
-use Rattle.std.specs.Prelude.{ℕ, ◌+◌, Bool, true, false, not, ◌&&◌, List, [], ◌∷◌, ◌++◌, length, map, nat_le, ◌==◌, if◌then◌else◌, Option, Some, None, is_none, option_map, option_and_then, find, filter as select, unwrap_or, bytes_eq}
+use Rattle.std.specs.Prelude.{ℕ, ◌+◌, Bool, false, not, List, [], ◌∷◌, ◌++◌, length, map, nat_le, ◌==◌, if◌then◌else◌, Option, Some, None, is_none, option_map, option_and_then, find, filter as select, unwrap_or, bytes_eq}
 use Rattle.std.specs.List.{list_any, flat_map}
 use Rattle.ark_filters.specs.declared.filter.Filter.{Filter}
 use Rattle.ark_vic.specs.declared.door.Counts.{Counts}

@@ -1,10 +1,10 @@
 -- The move of a storage card: its oldest posted descriptor makes its next device call.
-use Rattle.std.specs.Prelude.{ℕ, suc, ◌+◌, ◌*◌, Bool, true, false, not, ◌&&◌, List, [], ◌∷◌, ◌++◌, nat_lt, ◌==◌, if◌then◌else◌, Option, Some, None, is_some, option_map, option_and_then, find, unwrap_or, slice_index_or, bytes_eq}
+use Rattle.std.specs.Prelude.{ℕ, ◌+◌, ◌*◌, Bool, true, false, not, ◌&&◌, List, [], ◌∷◌, ◌++◌, nat_lt, ◌==◌, if◌then◌else◌, Option, Some, None, is_some, option_map, option_and_then, find, unwrap_or, slice_index_or, bytes_eq}
 use Rattle.std.specs.List.{list_any}
 use Rattle.ark_base.specs.declared.kind.Outcome.{Outcome}
 use Rattle.ark_base.specs.declared.kind.Outcome.TheVariants as outcome
 use Rattle.ark_vic.specs.declared.door.Bell.TheVariants as bell
-use Rattle.ark_caladan.specs.Chain.{Log, Opened, Phase, Verb, reading, writing, syncing}
+use Rattle.ark_caladan.specs.Chain.{Opened, Phase, Verb, reading, writing, syncing}
 use Rattle.ark_script.specs.declared.said.Said.{Said}
 use Rattle.ark_script.specs.declared.said.Said.TheVariants as said
 use Rattle.ark_machine.specs.Bytes.{block_of}

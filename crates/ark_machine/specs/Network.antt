@@ -1,5 +1,5 @@
 -- Network cards: `vnic`, `filter`, `use`, `post`, `send`, `take`, a frame that goes out, and one that arrives.
-use Rattle.std.specs.Prelude.{ℕ, ◌+◌, Bool, true, false, not, ◌&&◌, ◌||◌, List, [], ◌∷◌, ◌++◌, length, take, drop, nat_le, nat_lt, if◌then◌else◌, Option, Some, None, is_some, is_none, option_map, unwrap_or, bytes_eq}
+use Rattle.std.specs.Prelude.{ℕ, Bool, true, false, not, ◌&&◌, ◌||◌, List, [], ◌∷◌, ◌++◌, length, take, nat_le, nat_lt, if◌then◌else◌, Option, Some, None, is_some, is_none, option_map, unwrap_or, bytes_eq}
 use Rattle.ark_base.specs.Conditions.{none}
 use Rattle.ark_base.specs.declared.kind.Outcome.{Outcome}
 use Rattle.ark_base.specs.declared.kind.Outcome.TheVariants as outcome
@@ -9,7 +9,6 @@ use Rattle.ark_filters.specs.declared.filter.Direction.{Direction}
 use Rattle.ark_filters.specs.declared.filter.Direction.TheVariants as direction
 use Rattle.ark_filters.specs.declared.filter.Filter.{Filter}
 use Rattle.ark_vic.specs.declared.door.Bell.TheVariants as bell
-use Rattle.ark_script.specs.declared.said.Said.{Said}
 use Rattle.ark_script.specs.declared.said.Said.TheVariants as said
 use Rattle.ark_machine.specs.Bytes.{written}
 use Rattle.ark_machine.specs.Objects

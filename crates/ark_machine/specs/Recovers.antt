@@ -1,5 +1,5 @@
 -- What a stop leaves of every grant: the table, each log and queue, and each block of a raw area.
-use Rattle.std.specs.Prelude.{◌≡◌, ◌⊎◌, ℕ, Bool, true, false, ◌||◌, List, [], ◌∷◌, ◌++◌, slice_get, slice_index_or, ◌==◌, if◌then◌else◌, Option, Some, None, option_map, option_and_then, unwrap_or, Result, Ok, Err, Contains, Any}
+use Rattle.std.specs.Prelude.{◌≡◌, ◌⊎◌, ℕ, Bool, false, ◌||◌, List, [], ◌∷◌, ◌++◌, slice_get, slice_index_or, ◌==◌, if◌then◌else◌, Option, Some, None, option_map, option_and_then, unwrap_or, Ok, Err, Contains, Any}
 use Rattle.std.specs.List.{list_any}
 use Rattle.ark_base.specs.declared.kind.Kind.{Kind}
 use Rattle.ark_base.specs.declared.kind.Kind.TheVariants as kind
@@ -40,7 +40,7 @@ added_to t _ = []
 
 -- the slot is found as it is held, or with the new blocks behind its own
 abbrev pub IsFound : Slot → Option Change → Slot → Type 0
-IsFound t c found = (found ≡ t) ⊎ (found ≡ with_more t (added_to t c))
+IsFound t c seen = (seen ≡ t) ⊎ (seen ≡ with_more t (added_to t c))
 
 abbrev pub IsDropped : Slot → Option Change → Type 0
 IsDropped t (Some (drops u o)) = u ≡ t

@@ -1,6 +1,5 @@
 -- How a run starts on a device: from the slots of its image.
-use Rattle.std.specs.Prelude.{ℕ, Bool, false, ◌+◌, List, [], ◌∷◌, ◌++◌, length, map, Option, None, Result, Ok, Err, if◌then◌else◌, bytes_eq}
-use Rattle.std.specs.List.{list_any}
+use Rattle.std.specs.Prelude.{ℕ, false, List, [], ◌∷◌, length, map, None, if◌then◌else◌, bytes_eq}
 use Rattle.ark_base.specs.declared.kind.Kind.{Kind}
 use Rattle.ark_base.specs.declared.kind.Kind.TheVariants as kind
 use Rattle.ark_media.specs.Journal.{block}
@@ -9,7 +8,6 @@ use Rattle.ark_entry.specs.Found.{found_of}
 use Rattle.ark_machine.specs.Objects
 use Rattle.ark_machine.specs.Objects.{Object}
 use Rattle.ark_machine.specs.Machine.{Machine, unmade, with_new}
-use Rattle.ark_machine.specs.Plane.{Plane, empty_plane}
 use Rattle.ark_machine.specs.System.{System}
 
 -- the blocks of an image at these numbers, in their order

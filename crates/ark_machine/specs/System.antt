@@ -1,17 +1,14 @@
 -- The control plane with the machines of all applications, and what one line does to them.
-use Rattle.std.specs.Prelude.{ℕ, ◌+◌, Bool, false, ◌&&◌, List, [], ◌∷◌, map, Option, Some, None, is_some, option_map, find, unwrap_or, if◌then◌else◌, bytes_eq, Ok, Err}
-use Rattle.ark_base.specs.Conditions.{none}
-use Rattle.ark_base.specs.declared.refusal.Refusal.{Refusal}
+use Rattle.std.specs.Prelude.{ℕ, ◌+◌, Bool, ◌&&◌, List, [], ◌∷◌, map, Option, Some, None, is_some, option_map, find, unwrap_or, if◌then◌else◌, bytes_eq}
 use Rattle.ark_base.specs.declared.refusal.Refusal.TheVariants as r
 use Rattle.ark_packet.specs.declared.own.Own.{Own}
 use Rattle.ark_filters.specs.In.{is_in}
 use Rattle.ark_script.specs.Line as w
 use Rattle.ark_script.specs.Line.{Line}
-use Rattle.ark_script.specs.Lines.{Meaning}
 use Rattle.ark_script.specs.declared.said.Said.{Said}
 use Rattle.ark_script.specs.declared.said.Said.TheVariants as said
 use Rattle.ark_machine.specs.Machine.{Machine, unmade}
-use Rattle.ark_machine.specs.Row.{Row, Call, Ended, says, answer}
+use Rattle.ark_machine.specs.Row.{Row, Call, Ended}
 use Rattle.ark_machine.specs.Network.{arrive}
 use Rattle.ark_machine.specs.Step.{step, ticked}
 use Rattle.ark_machine.specs.Plane.{Plane, LiveFilter, empty_plane, is_receive, recorded}
