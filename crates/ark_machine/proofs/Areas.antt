@@ -6,6 +6,7 @@ use Rattle.ark_base.specs.declared.kind.Kind.TheVariants as kind
 use Rattle.ark_media.specs.Journal.{Read, Write}
 use Rattle.ark_script.specs.Line as w
 use Rattle.ark_machine.specs.Bytes.{padded}
+use Rattle.ark_machine.specs.Row.{answer}
 use Rattle.ark_machine.specs.Step.{step}
 use Rattle.ark_machine.specs.System.{fresh_system}
 use Rattle.ark_machine.proofs.Playing.{Played, replies, performed}
@@ -35,9 +36,9 @@ own_blocks =
 
 pub own_blocks-replies : replies (fresh_system 200) own_blocks
     ≡ codes "ok" ∷ codes "ok" ∷ codes "ok" ∷ codes "ok 0aff" ∷ codes "ok -" ∷ codes "refused 9 out of range" ∷ codes "ok" ∷ codes "refused 5 no grant s" ∷ []
-unfolding step encode_with digits
+unfolding step answer encode_with digits
 own_blocks-replies = refl
 
 pub own_blocks-performed : performed (fresh_system 200) own_blocks ≡ true
-unfolding step
+unfolding step answer
 own_blocks-performed = refl

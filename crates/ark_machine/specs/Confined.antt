@@ -1,30 +1,31 @@
 -- Which blocks a line may touch, by the grants that are held before it.
-use Rattle.std.specs.Prelude.{◌≡◌, ◌⊎◌, ℕ, Bool, true, false, List, [], ◌∷◌, ◌++◌, length, drop, map, filter as select, option_map, unwrap_or, Ok, Err, Contains, IsTrue}
+use Rattle.std.specs.Prelude.{◌≡◌, ◌⊎◌, ℕ, Bool, true, false, List, [], ◌∷◌, ◌++◌, length, drop, if◌then◌else◌, option_map, unwrap_or, Ok, Err, Contains, IsTrue}
 use Rattle.std.specs.List.{flat_map}
 use Rattle.ark_media.specs.Journal.{Event, Read, Write, Sync, Out, has_succeeded, device_events}
 use Rattle.ark_script.specs.Line as w
 use Rattle.ark_script.specs.Line.{Line}
 use Rattle.ark_script.specs.Lines.{Meaning, Says, FirstSay}
-use Rattle.ark_machine.specs.Machine.{Machine, vsic_at, label_numbered}
+use Rattle.ark_machine.specs.Machine.{Machine, Held, vsic_at, label_numbered}
 use Rattle.ark_machine.specs.Control.{is_open_on}
 use Rattle.ark_machine.specs.Plane.{blocks_at, granted}
 use Rattle.ark_machine.specs.System.{System, machine_of}
 use Rattle.ark_machine.specs.Follow.{slot_index}
 use Rattle.ark_machine.specs.Replies.{turn_for, system_after}
 
--- the areas that a card reaches, by the numbers of their objects: those bound to it, and the log that is open on it
+-- what a card reaches: the areas that are bound to it, by the numbers of their objects, and the log that is open on it
 abbrev pub bound_to : Machine → List ℕ → List ℕ
 bound_to m v = unwrap_or (option_map (λ x. x.bound) (vsic_at m v)) []
 
-abbrev pub logs_on : Machine → List ℕ → List ℕ
-logs_on m v = map (λ h. h.serial) (select (λ h. is_open_on v h.object) m.held)
+abbrev pub blocks_numbered : System → List ℕ → Machine → ℕ → List ℕ
+blocks_numbered s a m n = blocks_at s.plane a (label_numbered m n)
 
--- the blocks of the areas of these numbers
-abbrev pub areas_of : System → List ℕ → List ℕ → List ℕ
-areas_of s a ns = flat_map (λ n. blocks_at s.plane a (label_numbered (machine_of s a) n)) ns
+abbrev pub open_blocks : System → List ℕ → List ℕ → Held → List ℕ
+open_blocks s a v h = if is_open_on v h.object then blocks_at s.plane a h.label else []
 
 abbrev pub reach : System → List ℕ → List ℕ → List ℕ
-reach s a v = areas_of s a (bound_to (machine_of s a) v ++ logs_on (machine_of s a) v)
+reach s a v =
+    flat_map (λ n. blocks_numbered s a (machine_of s a) n) (bound_to (machine_of s a) v)
+    ++ flat_map (λ h. open_blocks s a v h) (machine_of s a).held
 
 -- the blocks that a line may read
 abbrev pub readable : System → Line → List ℕ

@@ -89,8 +89,9 @@ transfer_call m t k =
 
 -- Phases of the log that is open on the card.
 
-abbrev pub log_label : Machine → List ℕ → List ℕ
-log_label m v = unwrap_or (option_map (λ h. h.label) (find (λ h. is_open_on v h.object) m.held)) []
+-- the label of the log that is open on the card
+abbrev pub log_on : Machine → List ℕ → Option (List ℕ)
+log_on m v = option_map (λ h. h.label) (find (λ h. is_open_on v h.object) m.held)
 
 abbrev pub decided_on : List ℕ → Bool → Opened → Opened
 decided_on v took o = if bytes_eq v o.card then record o { decided = took } else o
@@ -103,11 +104,16 @@ deciding_tried v took o = o
 abbrev pub phase_written : Machine → List ℕ → Phase → Ended → Machine
 phase_written m v p e = if p.decides then each_object (deciding_tried v e.took) m else m
 
--- one device call of a phase, by its kind
-abbrev pub phase_moves : Verb → Machine → List ℕ → Vsic → Phase → List Job → Ended → Move
-phase_moves syncing m v x p js e = ends (synced e.ok m) v x (phase p) js (outcome_of e.ok) (syncs ∷ [])
-phase_moves reading m v x p js e = gated m v x (phase p) js true (tried e.ok p.count m v x (phase p) js (reads_in (log_label m v) ∷ []))
-phase_moves writing m v x p js e = gated m v x (phase p) js true (tried e.ok p.count (phase_written m v p e) v x (phase p) js (writes_in (log_label m v) ∷ []))
+-- one device call of a phase of the log at label l, by its kind
+abbrev pub phase_moves : Verb → List ℕ → Machine → List ℕ → Vsic → Phase → List Job → Ended → Move
+phase_moves syncing l m v x p js e = ends (synced e.ok m) v x (phase p) js (outcome_of e.ok) (syncs ∷ [])
+phase_moves reading l m v x p js e = gated m v x (phase p) js true (tried e.ok p.count m v x (phase p) js (reads_in l ∷ []))
+phase_moves writing l m v x p js e = gated m v x (phase p) js true (tried e.ok p.count (phase_written m v p e) v x (phase p) js (writes_in l ∷ []))
+
+-- a phase is of the log that is open on the card
+abbrev pub phase_moves_on : Option (List ℕ) → Machine → List ℕ → Vsic → Phase → List Job → Ended → Move
+phase_moves_on None m v x p js e = moves m said.Idle []
+phase_moves_on (Some l) m v x p js e = phase_moves p.verb l m v x p js e
 
 -- the move, by what is posted
 abbrev pub moved : Machine → List ℕ → Vsic → List Job → Ended → Move
@@ -116,11 +122,19 @@ moved m v x (flush ∷ js) e = ends (synced e.ok m) v x flush js (outcome_of e.o
 moved m v x (transfer t ∷ js) e =
     gated m v x (transfer t) js (is_granted m x t.vsa)
     (tried e.ok t.count (transferred m t x.queue.moved e (raw_numbered m t.vsa)) v x (transfer t) js (transfer_call m t x.queue.moved ∷ []))
-moved m v x (phase p ∷ js) e = phase_moves p.verb m v x p js e
+moved m v x (phase p ∷ js) e = phase_moves_on (log_on m v) m v x p js e
 
 -- a move of the storage card at a label, whose device call, if it makes one, ends so
 abbrev pub move : Machine → List ℕ → Ended → Move
 move m v e = unwrap_or (option_map (λ x. moved m v x x.queue.posted e) (vsic_at m v)) (moves m said.Idle [])
+
+-- the move of the phase that is posted for the log at label s, on the card of that label
+abbrev pub log_moved : List ℕ → Machine → List ℕ → Vsic → List Job → Ended → Move
+log_moved s m v x (phase p ∷ js) e = phase_moves p.verb s m v x p js e
+log_moved s m v x _ e = moves m said.Idle []
+
+abbrev pub log_move : List ℕ → Machine → List ℕ → Ended → Move
+log_move s m v e = unwrap_or (option_map (λ x. log_moved s m v x x.queue.posted e) (vsic_at m v)) (moves m said.Idle [])
 
 -- how the first device call ended; a move that makes no call does not ask
 abbrev pub first_end : List Ended → Ended

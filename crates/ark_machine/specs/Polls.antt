@@ -14,7 +14,7 @@ use Rattle.ark_machine.specs.Objects.{Vsic, Job, phase, no_queue}
 use Rattle.ark_machine.specs.Machine.{Machine, log_at, vsic_at, missing, with_object, with_vsic}
 use Rattle.ark_machine.specs.Row.{Row, Given, Ended, Call, says, answer}
 use Rattle.ark_machine.specs.Cards.{posting}
-use Rattle.ark_machine.specs.Moves.{Move, move, first_end, row_of}
+use Rattle.ark_machine.specs.Moves.{Move, log_move, first_end, row_of}
 use Rattle.ark_machine.specs.Logs.{opened_of, has_failed, with_opened, card_of}
 
 -- One poll.
@@ -124,6 +124,10 @@ abbrev pub is_held : Said → Bool
 is_held said.Held = true
 is_held _ = false
 
+-- a move of the log's own phase
+abbrev pub settle_move : Machine → List ℕ → Ended → Move
+settle_move m s e = log_move s m (card_of m s) e
+
 -- what settling comes to before its next device call: it stops with a row, or the card makes the call from this machine
 pub data Next : Type 0 where
   stops : Row → Next
@@ -141,7 +145,7 @@ abbrev pub due_move : List ℕ → Machine → Move → Next
 due_move s m x = by_calls s m x x.calls
 
 abbrev pub next_of : List ℕ → Polled → Next
-next_of s p = if p.due then due_move s p.row.machine (move p.row.machine (card_of p.row.machine s) (first_end [])) else stops p.row
+next_of s p = if p.due then due_move s p.row.machine (settle_move p.row.machine s (first_end [])) else stops p.row
 
 abbrev pub next_call : Machine → List ℕ → Next
 next_call m s = next_of s (polled m s)
@@ -149,13 +153,13 @@ next_call m s = next_of s (polled m s)
 -- with no further outcome, the next call is the last that is known
 abbrev pub settle_end : List ℕ → Next → Row
 settle_end s (stops row) = row
-settle_end s (calls_on m) = row_of (move m (card_of m s) (first_end []))
+settle_end s (calls_on m) = row_of (settle_move m s (first_end []))
 
 -- one outcome for each device call, in order
 abbrev pub settling : List Ended → List ℕ → Next → Row
 settling [] s n = settle_end s n
 settling (e ∷ es) s (stops row) = row
-settling (e ∷ es) s (calls_on m) = with_calls (move m (card_of m s) e).calls (settling es s (next_call (move m (card_of m s) e).machine s))
+settling (e ∷ es) s (calls_on m) = with_calls (settle_move m s e).calls (settling es s (next_call (settle_move m s e).machine s))
 
 -- `settle A s`
 abbrev pub settle : Machine → List ℕ → Given → Row

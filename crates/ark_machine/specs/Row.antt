@@ -96,5 +96,5 @@ unless_refused None None m row = row
 
 -- The row where no condition holds, else the first refusal. One that comes before any device call leaves the machine;
 -- one that only device calls tell leaves the row's machine and calls.
-abbrev pub answer : Machine → Conditions → Row → Row
+unfoldable pub answer : Machine → Conditions → Row → Row
 answer m c row = unless_refused (early c) (late c) m row
