@@ -5,3 +5,5 @@ pub mod Confining
 pub mod Playing
 pub mod Scripts
 pub mod Areas
+pub mod Cards
+pub mod Logs
