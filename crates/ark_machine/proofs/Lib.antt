@@ -7,3 +7,4 @@ pub mod Scripts
 pub mod Areas
 pub mod Cards
 pub mod Logs
+pub mod Images
