@@ -112,7 +112,7 @@ unfolding step answer
 scattered-performed = refl
 
 -- the last sync of a grant fails: nothing is granted, and the table has failed
-abbrev failed_grant : List Event
+abbrev pub failed_grant : List Event
 failed_grant = zeroed (129 ∷ 130 ∷ []) ++ Sync true ∷ Write 1 (slot_bytes (area 1 a s kind.Raw 129 2)) true true ∷ Sync false ∷ []
 
 abbrev pub table_failed : List Played

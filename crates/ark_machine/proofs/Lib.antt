@@ -8,3 +8,5 @@ pub mod Areas
 pub mod Cards
 pub mod Logs
 pub mod Images
+pub mod Stops
+pub mod FailedGrant
