@@ -24,7 +24,7 @@ use Rattle.ark_machine.specs.Row.{Row, Call, Ended, Given, says, unless_refused,
 use Rattle.ark_machine.specs.Control.{is_open_on}
 use Rattle.ark_machine.specs.Areas.{grant_calls}
 use Rattle.ark_machine.specs.Bytes.{block_of}
-use Rattle.ark_machine.specs.Rates.{is_over_burst, may_pass}
+use Rattle.ark_machine.specs.Rates.{is_over_burst, may_pass, passed}
 use Rattle.ark_machine.specs.Cards.{reap_oldest}
 use Rattle.ark_machine.specs.Moves.{Move, moves, move, moved, gated, tried, ends, is_granted, transfer_call, transferred, raw_numbered, phase_moves, phase_moves_on, phase_written, log_on, log_moved, log_move, first_end, row_of, block_passed, block_moved, outcome_of}
 use Rattle.ark_machine.specs.Machine.{with_vsic}
@@ -158,10 +158,10 @@ gated_calls P m v x j js true move some =
       | false ↦ elim (not (may_pass x.pace m.now 512)) as (λ b. AllByRecursion P (cond b held move).calls) [ true ↦ tt | false ↦ some refl ]
     ]
 
-pub tried_calls : (P : Call → Type 0) (ok : Bool) (count : ℕ) (m : Machine) (v : List ℕ) (x : Vsic) (j : Job) (js : List Job) (calls : List Call) → AllByRecursion P calls → AllByRecursion P (tried ok count m v x j js calls).calls
-tried_calls P ok count m v x j js calls h =
-    let going : Move = moves (with_vsic (with_vsic m v (block_passed m.now)) v block_moved) said.Moved calls in
-    let ending : Move = ends (with_vsic m v (block_passed m.now)) v x j js (outcome_of ok) calls in
+pub tried_calls : (P : Call → Type 0) (now : ℕ) (ok : Bool) (count : ℕ) (m : Machine) (v : List ℕ) (x : Vsic) (j : Job) (js : List Job) (calls : List Call) → AllByRecursion P calls → AllByRecursion P (tried now ok count m v x j js calls).calls
+tried_calls P now ok count m v x j js calls h =
+    let going : Move = moves (with_vsic m v (block_moved (passed now 512 x.pace))) said.Moved calls in
+    let ending : Move = ends (with_vsic m v (block_passed (passed now 512 x.pace))) v x j js (outcome_of ok) calls in
     elim (ok && nat_lt (x.queue.moved + 1) count) as (λ b. AllByRecursion P (cond b going ending).calls) [ true ↦ h | false ↦ h ]
 
 -- a phase of the log at label l
@@ -170,10 +170,10 @@ pub phase_calls : (s : System) (a : List ℕ) (line : Line) (l : List ℕ) (verb
     → AllowsAll s a line (phase_moves verb l m v x p js e).calls
 phase_calls s a line l syncing m v x p js e r w' may = (syncs s a line may, tt)
 phase_calls s a line l reading m v x p js e r w' may =
-    gated_calls (AllowsCall s a line) m v x (phase p) js true (tried e.ok p.count m v x (phase p) js (Row.reads_in l ∷ [])) (λ g. tried_calls (AllowsCall s a line) e.ok p.count m v x (phase p) js (Row.reads_in l ∷ []) (reads_in s a line l r, tt))
+    gated_calls (AllowsCall s a line) m v x (phase p) js true (tried m.now e.ok p.count m v x (phase p) js (Row.reads_in l ∷ [])) (λ g. tried_calls (AllowsCall s a line) m.now e.ok p.count m v x (phase p) js (Row.reads_in l ∷ []) (reads_in s a line l r, tt))
 phase_calls s a line l writing m v x p js e r w' may =
-    gated_calls (AllowsCall s a line) m v x (phase p) js true (tried e.ok p.count (phase_written m v p e) v x (phase p) js (Row.writes_in l ∷ []))
-    (λ g. tried_calls (AllowsCall s a line) e.ok p.count (phase_written m v p e) v x (phase p) js (Row.writes_in l ∷ []) (writes_in s a line l w', tt))
+    gated_calls (AllowsCall s a line) m v x (phase p) js true (tried m.now e.ok p.count (phase_written m v p e) v x (phase p) js (Row.writes_in l ∷ []))
+    (λ g. tried_calls (AllowsCall s a line) m.now e.ok p.count (phase_written m v p e) v x (phase p) js (Row.writes_in l ∷ []) (writes_in s a line l w', tt))
 
 -- `settle`
 

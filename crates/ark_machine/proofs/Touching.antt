@@ -24,7 +24,7 @@ use Rattle.ark_machine.specs.Row.{Row, Call, Ended, Given, says, unless_refused,
 use Rattle.ark_machine.specs.Control.{is_open_on}
 use Rattle.ark_machine.specs.Areas.{grant_calls}
 use Rattle.ark_machine.specs.Bytes.{block_of}
-use Rattle.ark_machine.specs.Rates.{is_over_burst, may_pass}
+use Rattle.ark_machine.specs.Rates.{is_over_burst, may_pass, passed}
 use Rattle.ark_machine.specs.Cards.{reap_oldest}
 use Rattle.ark_machine.specs.Moves.{Move, moves, move, moved, gated, tried, ends, is_granted, transfer_call, transferred, raw_numbered, phase_moves, phase_moves_on, phase_written, log_on, log_moved, log_move, first_end, row_of, block_passed, block_moved, outcome_of}
 use Rattle.ark_machine.specs.Machine.{with_vsic}
@@ -162,8 +162,8 @@ moves_in s a v x (transfer t ∷ js) e at =
     let m : Machine = machine_of s a in
     let after : Machine = transferred m t x.queue.moved e (raw_numbered m t.vsa) in
     let calls : List Call = transfer_call m t x.queue.moved ∷ [] in
-    gated_calls (AllowsCall s a (w.dev a v)) m v x (transfer t) js (is_granted m x t.vsa) (tried e.ok t.count after v x (transfer t) js calls)
-    (λ g. tried_calls (AllowsCall s a (w.dev a v)) e.ok t.count after v x (transfer t) js calls
+    gated_calls (AllowsCall s a (w.dev a v)) m v x (transfer t) js (is_granted m x t.vsa) (tried m.now e.ok t.count after v x (transfer t) js calls)
+    (λ g. tried_calls (AllowsCall s a (w.dev a v)) m.now e.ok t.count after v x (transfer t) js calls
         (transfer_calls s a v t x.queue.moved (reaches_bound s a v x t.vsa at (and_parts (list_any (λ b. b == t.vsa) x.bound) (is_some (at_serial m t.vsa)) g).0)))
 
 card_moves_in : (s : System) (a v : List ℕ) (e : Ended) (o : Option Vsic) → vsic_at (machine_of s a) v ≡ o
@@ -178,7 +178,7 @@ frame_quiet P m v x own p len ps frame =
     let unfit : Move = moves (tx_ended m v x p ps outcome.NoFilter) (said.Done outcome.NoFilter) [] in
     let over : Move = moves (tx_ended m v x p ps outcome.OverBurst) (said.Done outcome.OverBurst) [] in
     let held : Move = moves m said.Held [] in
-    let sent : Move = record { machine = tx_ended (with_vnic m v (tx_passed m.now len)) v x p ps outcome.Ok; said = said.Sent; bytes = frame; calls = [] } in
+    let sent : Move = record { machine = tx_ended (with_vnic m v (tx_passed (passed m.now len x.tx_pace))) v x p ps outcome.Ok; said = said.Sent; bytes = frame; calls = [] } in
     elim (not (is_let_out m v own frame)) as (λ b. AllByRecursion P (cond b unfit (cond (is_over_burst x.tx_pace len) over (cond (not (may_pass x.tx_pace m.now len)) held sent))).calls) [
       | true ↦ tt
       | false ↦ elim (is_over_burst x.tx_pace len) as (λ b. AllByRecursion P (cond b over (cond (not (may_pass x.tx_pace m.now len)) held sent)).calls) [

@@ -9,7 +9,7 @@ use Rattle.ark_script.specs.declared.said.Said.{Said}
 use Rattle.ark_script.specs.declared.said.Said.TheVariants as said
 use Rattle.ark_machine.specs.Bytes.{block_of}
 use Rattle.ark_machine.specs.Objects
-use Rattle.ark_machine.specs.Objects.{Object, Raw, Vsic, Job, Transfer, transfer, flush, phase, as_raw}
+use Rattle.ark_machine.specs.Objects.{Object, Raw, Vsic, Paced, Job, Transfer, transfer, flush, phase, as_raw}
 use Rattle.ark_machine.specs.Machine.{Machine, at_serial, vsic_at, label_numbered, bytes_at, with_vsic, each_object}
 use Rattle.ark_machine.specs.Row.{Row, Ended, Call, reads, writes, syncs, reads_in, writes_in, synced}
 use Rattle.ark_machine.specs.Control.{is_open_on}
@@ -42,20 +42,20 @@ abbrev pub outcome_of : Bool → Outcome
 outcome_of true = outcome.Ok
 outcome_of false = outcome.DeviceFault
 
--- a block passes the card's rate
-abbrev pub block_passed : ℕ → Vsic → Vsic
-block_passed now v = record v { pace = passed now 512 v.pace }
+-- a block has passed: with this pace, and where another is due with one more moved
+abbrev pub block_passed : Option Paced → Vsic → Vsic
+block_passed pace v = record v { pace = pace }
 
-abbrev pub block_moved : Vsic → Vsic
-block_moved v = record v { queue = record v.queue { moved = v.queue.moved + 1 } }
+abbrev pub block_moved : Option Paced → Vsic → Vsic
+block_moved pace v = record v { pace = pace; queue = record v.queue { moved = v.queue.moved + 1 } }
 
--- A block of the descriptor was tried, of count in all. It has passed the rate. The next one is due where it succeeded; else,
--- and at the last, the descriptor has ended.
-abbrev pub tried : Bool → ℕ → Machine → List ℕ → Vsic → Job → List Job → List Call → Move
-tried ok count m v x j js calls =
+-- A block of the descriptor was tried at tick `now`, of count in all. It has passed the card's rate. The next one is due where
+-- it succeeded; else, and at the last, the descriptor has ended. x is the card as it was.
+abbrev pub tried : ℕ → Bool → ℕ → Machine → List ℕ → Vsic → Job → List Job → List Call → Move
+tried now ok count m v x j js calls =
     if ok && nat_lt (x.queue.moved + 1) count
-    then moves (with_vsic (with_vsic m v (block_passed m.now)) v block_moved) said.Moved calls
-    else ends (with_vsic m v (block_passed m.now)) v x j js (outcome_of ok) calls
+    then moves (with_vsic m v (block_moved (passed now 512 x.pace))) said.Moved calls
+    else ends (with_vsic m v (block_passed (passed now 512 x.pace))) v x j js (outcome_of ok) calls
 
 -- the first of these that applies to the next block, before it is tried
 abbrev pub gated : Machine → List ℕ → Vsic → Job → List Job → Bool → Move → Move
@@ -107,8 +107,8 @@ phase_written m v p e = if p.decides then each_object (deciding_tried v e.took) 
 -- one device call of a phase of the log at label l, by its kind
 abbrev pub phase_moves : Verb → List ℕ → Machine → List ℕ → Vsic → Phase → List Job → Ended → Move
 phase_moves syncing l m v x p js e = ends (synced e.ok m) v x (phase p) js (outcome_of e.ok) (syncs ∷ [])
-phase_moves reading l m v x p js e = gated m v x (phase p) js true (tried e.ok p.count m v x (phase p) js (reads_in l ∷ []))
-phase_moves writing l m v x p js e = gated m v x (phase p) js true (tried e.ok p.count (phase_written m v p e) v x (phase p) js (writes_in l ∷ []))
+phase_moves reading l m v x p js e = gated m v x (phase p) js true (tried m.now e.ok p.count m v x (phase p) js (reads_in l ∷ []))
+phase_moves writing l m v x p js e = gated m v x (phase p) js true (tried m.now e.ok p.count (phase_written m v p e) v x (phase p) js (writes_in l ∷ []))
 
 -- a phase is of the log that is open on the card
 abbrev pub phase_moves_on : Option (List ℕ) → Machine → List ℕ → Vsic → Phase → List Job → Ended → Move
@@ -121,7 +121,7 @@ moved m v x [] e = moves m said.Idle []
 moved m v x (flush ∷ js) e = ends (synced e.ok m) v x flush js (outcome_of e.ok) (syncs ∷ [])
 moved m v x (transfer t ∷ js) e =
     gated m v x (transfer t) js (is_granted m x t.vsa)
-    (tried e.ok t.count (transferred m t x.queue.moved e (raw_numbered m t.vsa)) v x (transfer t) js (transfer_call m t x.queue.moved ∷ []))
+    (tried m.now e.ok t.count (transferred m t x.queue.moved e (raw_numbered m t.vsa)) v x (transfer t) js (transfer_call m t x.queue.moved ∷ []))
 moved m v x (phase p ∷ js) e = phase_moves_on (log_on m v) m v x p js e
 
 -- a move of the storage card at a label, whose device call, if it makes one, ends so

@@ -12,7 +12,7 @@ use Rattle.ark_vic.specs.declared.door.Bell.TheVariants as bell
 use Rattle.ark_script.specs.declared.said.Said.TheVariants as said
 use Rattle.ark_machine.specs.Bytes.{written}
 use Rattle.ark_machine.specs.Objects
-use Rattle.ark_machine.specs.Objects.{Object, Vnic, Place, named, taken, Buffer, held_in, no_queue, is_filter}
+use Rattle.ark_machine.specs.Objects.{Object, Paced, Vnic, Place, named, taken, Buffer, held_in, no_queue, is_filter}
 use Rattle.ark_machine.specs.Machine.{Machine, at, vnic_at, filter_at, buffer_at, missing, is_full, count_of, holds_any, with_new, with_object, with_vnic, bytes_at}
 use Rattle.ark_machine.specs.Row.{Row, Given, says, answer}
 use Rattle.ark_machine.specs.Buffers.{is_lent, with_bytes}
@@ -184,8 +184,8 @@ tx_ending p ps o v = record v { tx = record { posted = ps; moved = 0; unreaped =
 abbrev pub tx_ended : Machine → List ℕ → Vnic → Place → List (Place × ℕ) → Outcome → Machine
 tx_ended m v x p ps o = rung (with_vnic m v (tx_ending p ps o)) x.tx_door bell.Tx
 
-abbrev pub tx_passed : ℕ → ℕ → Vnic → Vnic
-tx_passed now len v = record v { tx_pace = passed now len v.tx_pace }
+abbrev pub tx_passed : Option Paced → Vnic → Vnic
+tx_passed pace v = record v { tx_pace = pace }
 
 -- the first of these that applies, else the frame goes out
 abbrev pub frame_moves : Machine → List ℕ → Vnic → Option Own → Place → ℕ → List (Place × ℕ) → List ℕ → Move
@@ -193,7 +193,7 @@ frame_moves m v x own p len ps frame =
     if not (is_let_out m v own frame) then moves (tx_ended m v x p ps outcome.NoFilter) (said.Done outcome.NoFilter) []
     else if is_over_burst x.tx_pace len then moves (tx_ended m v x p ps outcome.OverBurst) (said.Done outcome.OverBurst) []
     else if not (may_pass x.tx_pace m.now len) then moves m said.Held []
-    else record { machine = tx_ended (with_vnic m v (tx_passed m.now len)) v x p ps outcome.Ok; said = said.Sent; bytes = frame; calls = [] }
+    else record { machine = tx_ended (with_vnic m v (tx_passed (passed m.now len x.tx_pace))) v x p ps outcome.Ok; said = said.Sent; bytes = frame; calls = [] }
 
 abbrev pub tx_moves : Machine → List ℕ → Vnic → Option Own → List (Place × ℕ) → Move
 tx_moves m v x own [] = moves m said.Idle []
@@ -213,13 +213,13 @@ filled (taken b) frame = taken (record b { bytes = written b.bytes 0 frame })
 abbrev pub rx_ending : Place → List Place → ℕ → Vnic → Vnic
 rx_ending p ps len v = record v { rx = record { posted = ps; moved = 0; unreaped = v.rx.unreaped ++ (p, len) ∷ [] } }
 
-abbrev pub rx_passed : ℕ → ℕ → Vnic → Vnic
-rx_passed now len v = record v { rx_pace = passed now len v.rx_pace }
+abbrev pub rx_passed : Option Paced → Vnic → Vnic
+rx_passed pace v = record v { rx_pace = pace }
 
 -- the frame stands in the buffer of the oldest posted descriptor, which has ended, and the doorbell rings
 abbrev pub received : Machine → List ℕ → Vnic → Place → List Place → List ℕ → Machine
 received m v x p ps frame =
-    rung (with_vnic (with_vnic (with_frame m p frame) v (rx_passed m.now (length frame))) v (rx_ending (filled p frame) ps (length frame))) x.rx_door bell.Rx
+    rung (with_vnic (with_vnic (with_frame m p frame) v (rx_passed (passed m.now (length frame) x.rx_pace))) v (rx_ending (filled p frame) ps (length frame))) x.rx_door bell.Rx
 
 abbrev pub arrival : List ℕ → Machine → List ℕ → Vnic → List Place → List ℕ → Row
 arrival a m v x [] frame = says m (said.DroppedNoBuffer a v)
