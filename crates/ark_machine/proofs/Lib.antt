@@ -1,6 +1,7 @@
 pub mod Runs
 pub mod Reaching
 pub mod Touching
+pub mod Sent
 pub mod Confining
 pub mod Playing
 pub mod Scripts

@@ -1,7 +1,7 @@
--- Which blocks a line may touch, by the grants that are held before it.
+-- Which blocks a line may touch and which frames it may send, by the grants that are held before it.
 use Rattle.std.specs.Prelude.{◌≡◌, ◌⊎◌, ℕ, Bool, true, false, List, [], ◌∷◌, ◌++◌, length, drop, if◌then◌else◌, option_map, unwrap_or, Ok, Err, Contains, IsTrue}
 use Rattle.std.specs.List.{flat_map}
-use Rattle.ark_media.specs.Journal.{Event, Read, Write, Sync, Out, has_succeeded, device_events}
+use Rattle.ark_media.specs.Journal.{Event, Read, Write, Sync, Out, has_succeeded, device_events, output_of}
 use Rattle.ark_script.specs.Line as w
 use Rattle.ark_script.specs.Line.{Line}
 use Rattle.ark_script.specs.Lines.{Meaning, Says, FirstSay}
@@ -10,6 +10,7 @@ use Rattle.ark_machine.specs.Control.{is_open_on}
 use Rattle.ark_machine.specs.Plane.{blocks_at, granted}
 use Rattle.ark_machine.specs.System.{System, machine_of}
 use Rattle.ark_machine.specs.Follow.{slot_index}
+use Rattle.ark_machine.specs.Sending.{SendsWithin, AllKeep}
 use Rattle.ark_machine.specs.Replies.{turn_for, system_after}
 
 -- what a card reaches: the areas that are bound to it, by the numbers of their objects, and the log that is open on it
@@ -80,17 +81,24 @@ abbrev pub IsConfined : System → Meaning → List Event → Type 0
 IsConfined s (Ok line) es = AllAllowed s line es × EndsAtFailure es
 IsConfined s (Err refusal) es = es ≡ []
 
+-- each whole part: what was done to the device, the frame that went out, and the rates afterwards
+pub record IsPartConfined (s : System) (m : Meaning) (part : List Event) : Type 0 where
+  pub device : IsConfined s m (device_events part)
+  pub sends : SendsWithin s m (output_of part)
+  pub rates : AllKeep (turn_for s m part).after
+
 abbrev pub EachConfined : System → List Meaning → List (List Event) → Type 0
 EachConfined s [] parts = Unit {0}
 EachConfined s (m ∷ ms) [] = Unit {0}
-EachConfined s (m ∷ ms) (part ∷ parts) = IsConfined s m (device_events part) × EachConfined (turn_for s m part).after ms parts
+EachConfined s (m ∷ ms) (part ∷ parts) = IsPartConfined s m part × EachConfined (turn_for s m part).after ms parts
 
 -- the part that is not whole, of the next of the lines
 abbrev pub BeginsConfined : System → List (List ℕ) → List Event → Type 0
 BeginsConfined s [] es = es ≡ []
 BeginsConfined s (line ∷ lines) es = (es ≡ []) ⊎ ((m : Meaning) × Says line m × IsConfined s m es)
 
--- From a system on, every part touches only what its line may touch, with the system as it is before the line.
+-- From a system on, every part touches only what its line may touch and sends only what a filter lets out, with the system as
+-- it is before the line, and no queue goes past its rate.
 pub record Confined (s : System) (lines : List (List ℕ)) (whole : List (List Event)) (unfinished : List Event) : Type 0 where
   pub meanings : List Meaning
   pub say : FirstSay lines meanings

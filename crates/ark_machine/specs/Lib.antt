@@ -20,6 +20,7 @@ pub mod System
 pub mod Built
 pub mod Follow
 pub mod Replies
+pub mod Sending
 pub mod Confined
 pub mod Start
 pub mod Recovers

@@ -1,0 +1,46 @@
+-- Frames that go out, and the rates that queues keep.
+use Rattle.std.specs.Prelude.{◌≡◌, ℕ, List, IsTrue, Option, Some, None, Ok}
+use Rattle.std.specs.List.{AllByRecursion}
+use Rattle.ark_vic.specs.Pace.{Keeps}
+use Rattle.ark_script.specs.Line as w
+use Rattle.ark_script.specs.Lines.{Meaning}
+use Rattle.ark_script.specs.Text.{text}
+use Rattle.ark_script.specs.declared.said.Said.TheVariants as said
+use Rattle.ark_machine.specs.Objects
+use Rattle.ark_machine.specs.Objects.{Object, Paced}
+use Rattle.ark_machine.specs.Machine.{Machine, Held}
+use Rattle.ark_machine.specs.Network.{is_let_out}
+use Rattle.ark_machine.specs.System.{System, machine_of}
+
+-- the line moves a card, and a transmit filter that is assigned to the card takes the frame
+abbrev pub IsLetOut : System → Meaning → List ℕ → Type 0
+IsLetOut s (Ok (w.dev a v)) frame = IsTrue (is_let_out (machine_of s a) v s.plane.own frame)
+IsLetOut s _ frame = ⊥
+
+-- what was put out for a line: where it shows a frame that went out, that frame was let out
+abbrev pub SendsWithin : System → Meaning → List ℕ → Type 0
+SendsWithin s m output = (frame : List ℕ) → output ≡ text said.Sent frame → (sent : List ℕ) × (output ≡ text said.Sent sent) × IsLetOut s m sent
+
+-- the passes of a queue keep the law of its rate
+abbrev pub KeepsRate : Option Paced → Type 0
+KeepsRate None = Unit {0}
+KeepsRate (Some p) = Keeps p.q p.burst p.passes
+
+-- a card's queues do
+abbrev pub KeepsRates : Object → Type 0
+KeepsRates (Objects.vsic v) = KeepsRate v.pace
+KeepsRates (Objects.vnic v) = KeepsRate v.rx_pace × KeepsRate v.tx_pace
+KeepsRates _ = Unit {0}
+
+abbrev pub HeldKeeps : Held → Type 0
+HeldKeeps h = KeepsRates h.object
+
+abbrev pub MachineKeeps : Machine → Type 0
+MachineKeeps m = AllByRecursion HeldKeeps m.held
+
+abbrev pub ListedKeeps : List ℕ × Machine → Type 0
+ListedKeeps p = MachineKeeps p.1
+
+-- every queue of every application does
+abbrev pub AllKeep : System → Type 0
+AllKeep s = AllByRecursion ListedKeeps s.machines
