@@ -1,3 +1,4 @@
 pub mod Lining
 pub mod Limits
 pub mod Clean
+pub mod Showing
