@@ -13,3 +13,6 @@ pub use reading::{MAX_LINE, read_line};
 pub use reply::{MAX_SHOWN, Reply};
 pub use said::Said;
 pub use step::{Hex, Side, Step};
+
+#[cfg(test)]
+mod printed;
