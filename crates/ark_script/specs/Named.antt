@@ -1,4 +1,4 @@
--- What a reply or a refusal names behind its first words.
+-- What a reply or a refusal says behind its first words.
 use Rattle.std.specs.Prelude.{ℕ, List, [], ◌++◌, codes, decimal}
 use Rattle.ark_base.specs.declared.refusal.Refusal.{Refusal}
 use Rattle.ark_base.specs.declared.refusal.Refusal.TheVariants as r
@@ -7,12 +7,14 @@ use Rattle.ark_script.specs.Text.{spaced, dotted, shown, outcome_words}
 use Rattle.ark_script.specs.declared.said.Said.{Said}
 use Rattle.ark_script.specs.declared.said.Said.TheVariants as said
 
+-- what a refusal names
 abbrev pub named_of : Refusal → List ℕ
 named_of (r.NoGrant label) = label
 named_of (r.Overlap app label) = app ++ (codes " " ++ label)
 named_of (r.Damaged entry) = decimal entry
 named_of _ = []
 
+-- what a reply names, counts or shows
 abbrev pub values_of : Said → List ℕ → List ℕ
 values_of (said.Ready blocks slots) bytes = spaced (decimal blocks) (decimal slots)
 values_of (said.Num n) bytes = decimal n

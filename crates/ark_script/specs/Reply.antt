@@ -9,5 +9,5 @@ pub record Answer : Type 0 where
   pub buffer : List ℕ
 
 -- the bytes that it shows
-abbrev pub bytes_of : Answer → List ℕ
-bytes_of reply = take reply.len reply.buffer
+abbrev pub bytes_shown : Answer → List ℕ
+bytes_shown reply = take reply.len reply.buffer

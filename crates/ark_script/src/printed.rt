@@ -1,6 +1,6 @@
 // Each reply as it is printed.
 ghost use Rattle.std.specs.Prelude.{◌≡◌, ◌≤◌, length};
-ghost use Rattle.ark_script.specs.Reply.{bytes_of};
+ghost use Rattle.ark_script.specs.Reply.{bytes_shown};
 
 use crate::printing::{TEXT_ROOM, print};
 use crate::putting::put;
@@ -14,7 +14,7 @@ use std::alloc::Global;
 fn show(reply: &mut Reply, said: Said, bytes: &[u8])
     requires short { length bytes.now ≤ 32768 }
     ensures said { reply.new.said ≡ said }
-    ensures shown { bytes_of reply.new ≡ bytes.now }
+    ensures shown { bytes_shown reply.new ≡ bytes.now }
 {
     let len = put(reply.room(), 0, bytes);
     reply.say(said, len as u32);

@@ -1,24 +1,24 @@
-ghost use Rattle.std.specs.Prelude.{◌≡◌, ◌+◌, ◌≤◌, ◌++◌, ℕ, List, true, length, take};
+ghost use Rattle.std.specs.Prelude.{◌≡◌, ◌+◌, ◌<◌, ◌≤◌, ◌++◌, ℕ, List, true, length, take};
 ghost use Rattle.ark_base.specs.Name.{is_name};
 ghost use Rattle.ark_base.specs.Refusal.{words_of};
 ghost use Rattle.ark_script.specs.Text.{IsNamed, IsSaid, outcome_words, reply_words, spaced, text};
 ghost use Rattle.ark_script.specs.Named.{named_of, values_of};
-ghost use Rattle.ark_script.specs.Reply.{bytes_of};
+ghost use Rattle.ark_script.specs.Reply.{bytes_shown};
 
 use crate::putting::{put, put_address, put_hex, put_names, put_number, put_numbered, put_numbers};
 use crate::reply::Reply;
 use crate::said::Said;
 use ark_base::{Label, Outcome, Refusal};
 
-/// Every reply has at most so many bytes, its newline included.
+/// Every reply has fewer bytes than this, its newline included.
 pub const TEXT_ROOM: usize = 66_000;
 
 /// Writes the line of a reply at the start of `out`, its newline included, and gives the number of its bytes.
 pub fn print(reply: &Reply, out: &mut [u8]) -> usize
     requires room { TEXT_ROOM ≤ length out.old }
     ensures fits { result ≤ length out.new }
-    ensures short { result ≤ TEXT_ROOM }
-    ensures text { take result out.new ≡ text reply.now.said (bytes_of reply.now) }
+    ensures short { result < TEXT_ROOM }
+    ensures text { take result out.new ≡ text reply.now.said (bytes_shown reply.now) }
     ensures named { IsSaid reply.now.said }
 {
     let at = put_words(out, reply.said(), reply.bytes());
@@ -29,7 +29,7 @@ pub fn print(reply: &Reply, out: &mut [u8]) -> usize
 fn put_words(out: &mut [u8], said: &Said, bytes: &[u8]) -> usize
     requires bytes { length bytes.now ≤ 32768 }
     requires room { TEXT_ROOM ≤ length out.old }
-    ensures short { result + 1 ≤ TEXT_ROOM }
+    ensures short { result + 1 < TEXT_ROOM }
     ensures words { take result out.new ≡ reply_words said.now bytes.now }
     ensures named { IsSaid said.now }
 {

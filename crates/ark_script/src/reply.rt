@@ -1,6 +1,6 @@
 ghost use Rattle.std.specs.Prelude.{◌≡◌, ◌≤◌, [], length, IfOk};
 ghost use Rattle.std.specs.Borrow.{sem};
-ghost use Rattle.ark_script.specs.Reply.{bytes_of};
+ghost use Rattle.ark_script.specs.Reply.{bytes_shown};
 ghost use Rattle.ark_script.specs.declared.said.Said.TheVariants as said;
 
 use crate::said::Said;
@@ -37,7 +37,7 @@ impl Reply {
     pub fn new(alloc: Global) -> Result<Reply, Memory>
         ensures said { IfOk result (λ r. r.said ≡ said.Ok) }
         ensures len { IfOk result (λ r. r.len ≡ 0) }
-        ensures shown { IfOk result (λ r. bytes_of r ≡ []) }
+        ensures shown { IfOk result (λ r. bytes_shown r ≡ []) }
     {
         match vec![in alloc; 0u8; MAX_SHOWN] {
             Ok(buffer) => Ok(Reply {
@@ -58,7 +58,7 @@ impl Reply {
 
     /// The bytes that it shows.
     pub fn bytes(&self) -> &[u8]
-        ensures value { result.now ≡ bytes_of self.now }
+        ensures value { result.now ≡ bytes_shown self.now }
         ensures len { length result.now ≡ self.now.len }
         ensures short { self.now.len ≤ 32768 }
     {
