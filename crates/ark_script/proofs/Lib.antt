@@ -1,1 +1,4 @@
 pub mod Lining
+pub mod Limits
+pub mod Clean
+pub mod Showing

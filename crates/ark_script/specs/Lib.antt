@@ -1,4 +1,6 @@
 pub mod Line
 pub mod Lines
+pub mod Reply
+pub mod Lending
 pub mod Named
 pub mod Text

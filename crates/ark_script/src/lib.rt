@@ -2,11 +2,17 @@
 #![tactic(auto)]
 
 mod printing;
+mod putting;
 mod reading;
+mod reply;
 mod said;
 mod step;
 
 pub use printing::{TEXT_ROOM, print};
 pub use reading::{MAX_LINE, read_line};
+pub use reply::{MAX_SHOWN, Reply};
 pub use said::Said;
 pub use step::{Hex, Side, Step};
+
+#[cfg(test)]
+mod printed;
