@@ -1,3 +1,1 @@
 pub mod Lining
-pub mod Limits
-pub mod Clean
