@@ -1,1 +1,4 @@
+pub mod Digits
 pub mod Lining
+pub mod Numbers
+pub mod Parts

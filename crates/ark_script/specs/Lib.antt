@@ -1,4 +1,9 @@
+pub mod Arguments
+pub mod Form
 pub mod Line
 pub mod Lines
+pub mod Lists
 pub mod Named
+pub mod Reading
 pub mod Text
+pub mod Words
