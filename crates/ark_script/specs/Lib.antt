@@ -6,4 +6,5 @@ pub mod Lists
 pub mod Named
 pub mod Reading
 pub mod Text
+pub mod Word
 pub mod Words
