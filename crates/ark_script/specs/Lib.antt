@@ -2,9 +2,12 @@ pub mod Arguments
 pub mod Form
 pub mod Line
 pub mod Lines
+pub mod Listed
 pub mod Lists
 pub mod Named
 pub mod Reading
+pub mod Sentence
+pub mod Shape
 pub mod Text
 pub mod Word
 pub mod Words

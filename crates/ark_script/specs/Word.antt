@@ -5,7 +5,7 @@ use Rattle.ark_script.specs.declared.reading.word.Word.{Word}
 use Rattle.ark_script.specs.declared.reading.word.Word.TheVariants as word
 use Rattle.ark_script.specs.declared.reading.word.PairWord.TheVariants as pair
 use Rattle.ark_script.specs.declared.reading.word.TripleWord.TheVariants as triple
-use Rattle.ark_script.specs.declared.reading.word.NumberWord.TheVariants as number
+use Rattle.ark_script.specs.declared.reading.word.CountWord.TheVariants as count
 use Rattle.ark_script.specs.declared.reading.word.LengthWord.TheVariants as length
 use Rattle.ark_script.specs.declared.reading.word.RangeWord.TheVariants as range
 use Rattle.ark_script.specs.declared.reading.word.TurnWord.TheVariants as turn
@@ -20,7 +20,7 @@ table =
     (codes "vsic", word.Vsic) ∷
     (codes "vnic", word.Vnic) ∷
     (codes "vsa", word.Vsa) ∷
-    (codes "grow", (word.Number number.Grow)) ∷
+    (codes "grow", (word.Count count.Grow)) ∷
     (codes "bind", (word.Triple triple.Bind)) ∷
     (codes "unbind", (word.Triple triple.Unbind)) ∷
     (codes "filter", word.Filter) ∷
@@ -30,12 +30,12 @@ table =
     (codes "door", (word.Pair pair.Door)) ∷
     (codes "watch", (word.Turn turn.Watch)) ∷
     (codes "drop", (word.Pair pair.Drop)) ∷
-    (codes "buf", (word.Number number.Buf)) ∷
+    (codes "buf", (word.Count count.Buf)) ∷
     (codes "fill", (word.Write write.Fill)) ∷
     (codes "show", (word.Range range.Show)) ∷
     (codes "copy", (word.Length length.Copy)) ∷
     (codes "free", (word.Pair pair.Free)) ∷
-    (codes "peek", (word.Number number.Peek)) ∷
+    (codes "peek", (word.Count count.Peek)) ∷
     (codes "poke", (word.Write write.Poke)) ∷
     (codes "get", (word.Transfer transfer.Get)) ∷
     (codes "put", (word.Transfer transfer.Put)) ∷
@@ -52,9 +52,9 @@ table =
     (codes "queue", (word.Triple triple.Queue)) ∷
     (codes "append", (word.Entry entry.Append)) ∷
     (codes "push", (word.Entry entry.Push)) ∷
-    (codes "trim", (word.Number number.Trim)) ∷
+    (codes "trim", (word.Count count.Trim)) ∷
     (codes "pop", (word.Pair pair.Pop)) ∷
-    (codes "walk", (word.Number number.Walk)) ∷
+    (codes "walk", (word.Count count.Walk)) ∷
     (codes "poll", (word.Pair pair.Poll)) ∷
     (codes "settle", (word.Pair pair.Settle)) ∷
     (codes "close", (word.Pair pair.Close)) ∷

@@ -1,6 +1,8 @@
 mod argument;
 mod digits;
 mod number;
+mod shape;
+mod single;
 mod split;
 mod word;
 

@@ -33,7 +33,7 @@ pub(super) enum TripleWord {
 
 // Words with a name, a label and a number: `A x N`.
 #[derive(Clone, Copy)]
-pub(super) enum NumberWord {
+pub(super) enum CountWord {
     Grow,
     Buf,
     Peek,
@@ -89,7 +89,7 @@ pub(super) enum WriteWord {
 pub(super) enum Word {
     Pair(PairWord),
     Triple(TripleWord),
-    Number(NumberWord),
+    Count(CountWord),
     Length(LengthWord),
     Range(RangeWord),
     Turn(TurnWord),
@@ -119,7 +119,7 @@ pub(super) fn read_word(word: &[u8]) -> Option<Word>
         b"vsic" => Some(Word::Vsic),
         b"vnic" => Some(Word::Vnic),
         b"vsa" => Some(Word::Vsa),
-        b"grow" => Some(Word::Number(NumberWord::Grow)),
+        b"grow" => Some(Word::Count(CountWord::Grow)),
         b"bind" => Some(Word::Triple(TripleWord::Bind)),
         b"unbind" => Some(Word::Triple(TripleWord::Unbind)),
         b"filter" => Some(Word::Filter),
@@ -129,12 +129,12 @@ pub(super) fn read_word(word: &[u8]) -> Option<Word>
         b"door" => Some(Word::Pair(PairWord::Door)),
         b"watch" => Some(Word::Turn(TurnWord::Watch)),
         b"drop" => Some(Word::Pair(PairWord::Drop)),
-        b"buf" => Some(Word::Number(NumberWord::Buf)),
+        b"buf" => Some(Word::Count(CountWord::Buf)),
         b"fill" => Some(Word::Write(WriteWord::Fill)),
         b"show" => Some(Word::Range(RangeWord::Show)),
         b"copy" => Some(Word::Length(LengthWord::Copy)),
         b"free" => Some(Word::Pair(PairWord::Free)),
-        b"peek" => Some(Word::Number(NumberWord::Peek)),
+        b"peek" => Some(Word::Count(CountWord::Peek)),
         b"poke" => Some(Word::Write(WriteWord::Poke)),
         b"get" => Some(Word::Transfer(TransferWord::Get)),
         b"put" => Some(Word::Transfer(TransferWord::Put)),
@@ -151,9 +151,9 @@ pub(super) fn read_word(word: &[u8]) -> Option<Word>
         b"queue" => Some(Word::Triple(TripleWord::Queue)),
         b"append" => Some(Word::Entry(EntryWord::Append)),
         b"push" => Some(Word::Entry(EntryWord::Push)),
-        b"trim" => Some(Word::Number(NumberWord::Trim)),
+        b"trim" => Some(Word::Count(CountWord::Trim)),
         b"pop" => Some(Word::Pair(PairWord::Pop)),
-        b"walk" => Some(Word::Number(NumberWord::Walk)),
+        b"walk" => Some(Word::Count(CountWord::Walk)),
         b"poll" => Some(Word::Pair(PairWord::Poll)),
         b"settle" => Some(Word::Pair(PairWord::Settle)),
         b"close" => Some(Word::Pair(PairWord::Close)),
