@@ -1,4 +1,5 @@
 pub mod Digits
 pub mod Lining
+pub mod Listing
 pub mod Numbers
 pub mod Parts

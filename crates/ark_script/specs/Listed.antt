@@ -1,6 +1,6 @@
 -- What a word gives when it is read as one of the two lists of a filter.
 use Rattle.std.specs.Prelude.{ℕ, zero, suc, nat_le, bytes_eq, if◌then◌else◌, List, [], ◌∷◌, ◌++◌, length, codes, Option, Some, None}
-use Rattle.std.specs.Option.{option_or}
+use Rattle.std.specs.Option.{option_map, option_or}
 use Rattle.ark_filters.specs.declared.filter.Peers.{Peers}
 use Rattle.ark_filters.specs.declared.filter.Services.{Services}
 use Rattle.ark_filters.specs.declared.filter.Proto.{Proto}
@@ -24,7 +24,7 @@ peer_of proto.Tcp word = ip_of word >>= λ ip. Some (ip ++ (0 ∷ (0 ∷ [])))
 unfoldable pub peers_of : Proto → List ℕ → Option Peers
 peers_of p word =
     if bytes_eq word (codes "*") then Some (peers_are [])
-    else each_of (peer_of p) 8 (parts_of 44 word) >>= λ items. Some (peers_are items)
+    else option_map peers_are (each_of (peer_of p) 8 (parts_of 44 word))
 
 -- one port
 unfoldable pub port_of : List ℕ → Option (ℕ × ℕ)
@@ -43,4 +43,4 @@ service_of proto.Tcp word = option_or (port_of word) (range_of word)
 unfoldable pub services_of : Proto → List ℕ → Option Services
 services_of p word =
     if bytes_eq word (codes "*") then Some (services_are [])
-    else each_of (service_of p) 8 (parts_of 44 word) >>= λ items. Some (services_are items)
+    else option_map services_are (each_of (service_of p) 8 (parts_of 44 word))

@@ -1,5 +1,6 @@
 mod argument;
 mod digits;
+mod filter;
 mod number;
 mod shape;
 mod single;
