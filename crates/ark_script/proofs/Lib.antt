@@ -1,5 +1,13 @@
+pub mod Addressing
+pub mod Arguing
+pub mod Choosing
 pub mod Digits
+pub mod Grammar
 pub mod Lining
 pub mod Listing
 pub mod Numbers
 pub mod Parts
+pub mod Readers
+pub mod Serving
+pub mod Wording
+pub mod Shaping

@@ -6,6 +6,7 @@ pub mod Listed
 pub mod Lists
 pub mod Named
 pub mod Reading
+pub mod Reply
 pub mod Sentence
 pub mod Shape
 pub mod Text
