@@ -1,6 +1,7 @@
 pub mod Addressing
 pub mod Arguing
 pub mod Choosing
+pub mod Completing
 pub mod Digits
 pub mod Grammar
 pub mod Lining
@@ -9,5 +10,7 @@ pub mod Numbers
 pub mod Parts
 pub mod Readers
 pub mod Serving
-pub mod Wording
 pub mod Shaping
+pub mod Singling
+pub mod Sounding
+pub mod Wording
