@@ -1,6 +1,5 @@
 -- IPv4 addresses and peers are read just where a word spells them.
-use Rattle.std.proofs.Common.{◌≡◌, ℕ, ◌≤◌, suc, zero, bytes_eq, true, false, List, [], ◌∷◌, ◌++◌, length, codes, Option, Some, None, refl, sym, ap, ◌∙◌, subst, inl, inr, arith}
-use Rattle.std.specs.Fmt.{digits}
+use Rattle.std.proofs.Common.{◌≡◌, ℕ, ◌≤◌, suc, zero, bytes_eq, List, [], ◌∷◌, ◌++◌, length, codes, Option, Some, None, refl, sym, ap, subst, inl, inr, arith}
 use Rattle.std.specs.Option.{option_map}
 use Rattle.std.proofs.lemmas.Bool.{cases_Bool}
 use Rattle.std.proofs.lemmas.Option.{same_Some}
@@ -25,6 +24,7 @@ octets_reads = record { sound = sound; complete = complete }
   where
     octet : Reads (number_of 0 255) (IsNumber 0 255)
     octet = number_reads 0 255 (omega arith)
+
     sound : (words : List (List ℕ)) (ip : List ℕ) → octets_of words ≡ Some ip → AreOctets ip words
     sound [] ip h = cc
     sound (w ∷ []) ip h = cc
@@ -38,6 +38,7 @@ octets_reads = record { sound = sound; complete = complete }
         subst (λ (o : List ℕ). AreOctets o (w ∷ x ∷ y ∷ z ∷ [])) (same_Some _ _ s3.2)
         (octet.sound w s0.0 s0.1, octet.sound x s1.0 s1.1, octet.sound y s2.0 s2.1, octet.sound z s3.0 s3.1)
     sound (w ∷ x ∷ y ∷ z ∷ v ∷ vs) ip h = cc
+
     complete : (words : List (List ℕ)) (ip : List ℕ) → AreOctets ip words → octets_of words ≡ Some ip
     complete (w ∷ x ∷ y ∷ z ∷ []) (a ∷ b ∷ c ∷ d ∷ []) h =
         rw (octet.complete w a h.0, octet.complete x b h.1, octet.complete y c h.2, octet.complete z d h.3) refl
@@ -119,6 +120,7 @@ peers_reads p = record { sound = sound; complete = complete }
               let each = each_sound (peer_of p) (IsPeer p) (peer_reads p) 8 (parts_of 44 word) m.0 m.1 in
               inr (m.0, each.0, each.1, m.2)
         ]
+
     complete : (word : List ℕ) (peers : Peers) → ArePeers p peers word → peers_of p word ≡ Some peers
     complete word peers (inl all) = rw all.0 (ap Some (sym all.1))
     complete word peers (inr some) =

@@ -1,14 +1,14 @@
 -- Each argument is read just where a word spells it.
-use Rattle.std.proofs.Common.{◌≡◌, ◌⊎◌, ℕ, ◌+◌, ◌*◌, ◌/◌, ◌%◌, ◌<◌, ◌≤◌, ◌^◌, ◌==◌, Bool, true, false, ◌&&◌, nat_le, bytes_eq, cond, List, [], ◌∷◌, length, codes, decimal, Option, Some, None, refl, sym, ap, ◌∙◌, subst, inl, inr, arith}
+use Rattle.std.proofs.Common.{◌≡◌, ◌⊎◌, ℕ, ◌*◌, ◌/◌, ◌%◌, ◌<◌, ◌≤◌, ◌^◌, ◌==◌, true, false, nat_le, bytes_eq, cond, List, [], ◌∷◌, length, codes, Option, Some, None, refl, ap, subst, inl, inr, arith}
 use Rattle.std.specs.List.{list_all}
-use Rattle.std.proofs.lemmas.Bool.{and_parts, and_from, leb-true, le-leb, eqb-true, eq-eqb, cases_Bool, false_from_ne_true}
+use Rattle.std.proofs.lemmas.Bool.{and_parts, leb-true, le-leb, eqb-true, eq-eqb, cases_Bool, false_from_ne_true}
 use Rattle.std.proofs.lemmas.Option.{cond_some, same_Some}
 use Rattle.std.proofs.lemmas.Slice.Eq.{bytes_eq-Decides}
 use Rattle.hex.specs.Hex.{is_hex_digit}
 use Rattle.ark_base.specs.Name.{is_name}
-use Rattle.ark_script.specs.Arguments.{IsName, IsOptional, IsNumber, IsSize, is_size, IsHex, IsHex0}
+use Rattle.ark_script.specs.Arguments.{IsName, IsOptional, IsNumber, IsSize, IsHex, IsHex0}
 use Rattle.ark_script.specs.Line.{spelled}
-use Rattle.ark_script.specs.Reading.{◌>>=◌, name_of, optional_of, number_of, size_of, is_hex, hex_of, hex0_of}
+use Rattle.ark_script.specs.Reading.{name_of, optional_of, number_of, size_of, hex_of, hex0_of}
 use Rattle.ark_script.proofs.Digits.{length-spelled}
 use Rattle.ark_script.proofs.Numbers.{number_read, number_gives}
 use Rattle.ark_script.proofs.Readers.{Reads, bind_some}
@@ -36,6 +36,7 @@ name_reads = record { sound = sound; complete = complete }
   where
     sound : (word name : List ℕ) → name_of word ≡ Some name → IsName name word
     sound word name h = let found = cond_some _ _ _ h in (found.1, rw (← found.1) found.0)
+
     complete : (word name : List ℕ) → IsName name word → name_of word ≡ Some name
     complete word name h = rw (h.0, h.1) refl
 
@@ -54,6 +55,7 @@ optional_reads = record { sound = sound; complete = complete }
               let found = bind_some (name_of word) _ name some.1 in
               subst (λ (o : Option (List ℕ)). IsOptional o word) (same_Some _ _ found.2) (name_reads.sound word found.0 found.1)
         ]
+
     complete : (word : List ℕ) (name : Option (List ℕ)) → IsOptional name word → optional_of word ≡ Some name
     complete word None h = rw h refl
     complete word (Some name) h =
@@ -69,6 +71,7 @@ size_reads = record { sound = sound; complete = complete }
         let found = bind_some (number_of 2 256 word) _ n h in
         let size = cond_some _ _ _ found.2 in
         subst (λ (m : ℕ). IsSize m word) size.1 (number_read 2 256 word found.0 found.1, size.0)
+
     complete : (word : List ℕ) (n : ℕ) → IsSize n word → size_of word ≡ Some n
     complete word n h = rw (number_gives 2 256 word n (omega arith) h.0, h.1) refl
 
@@ -87,6 +90,7 @@ hex_reads fewest most = record { sound = sound; complete = complete }
         let greatest : length word / 2 ≤ most = leb-true _ _ high.1 in
         let len : length (spelled word) ≡ length word / 2 = length-spelled word (length word / 2) (omega arith) in
         subst (λ (xs : List ℕ). IsHex fewest most xs word) found.1 (digits.1, omega (arith, len), refl, omega (arith, len), omega (arith, len))
+
     complete : (word bytes : List ℕ) → IsHex fewest most bytes word → hex_of fewest most word ≡ Some bytes
     complete word bytes h =
         let even : (length word % 2 == 0) ≡ true = eq-eqb _ _ (omega (arith, h.1)) in
@@ -101,12 +105,14 @@ hex0_reads most = record { sound = sound; complete = complete }
     some : (word bytes : List ℕ) → IsHex 1 most bytes word → IsHex0 most bytes word
     some word [] h = absurd (omega (arith, h.3))
     some word (b ∷ bs) h = h
+
     sound : (word bytes : List ℕ) → hex0_of most word ≡ Some bytes → IsHex0 most bytes word
     sound word bytes h =
         elim (chosen word (codes "-") [] bytes _ h) [
           | inl none ↦ subst (λ (xs : List ℕ). IsHex0 most xs word) none.1 none.0
           | inr more ↦ some word bytes ((hex_reads 1 most).sound word bytes more.1)
         ]
+
     complete : (word bytes : List ℕ) → IsHex0 most bytes word → hex0_of most word ≡ Some bytes
     complete word [] h = rw h refl
     complete word (b ∷ bs) h =

@@ -1,5 +1,5 @@
 -- Each word of a choice is read just where it stands.
-use Rattle.std.proofs.Common.{◌≡◌, ℕ, List, codes, Option, Some, refl, subst, inl, inr}
+use Rattle.std.proofs.Common.{◌≡◌, ℕ, List, codes, Some, refl, subst, inl, inr}
 use Rattle.ark_base.specs.declared.kind.Kind.{Kind}
 use Rattle.ark_base.specs.declared.kind.Kind.TheVariants as kind
 use Rattle.ark_filters.specs.declared.filter.Direction.{Direction}
@@ -31,6 +31,7 @@ kind_reads = record { sound = sound; complete = complete }
                     ]
               ]
         ]
+
     complete : (word : List ℕ) (x : Kind) → IsKind x word → kind_of word ≡ Some x
     complete word kind.Raw h = rw h refl
     complete word kind.Log h = rw h refl
@@ -54,6 +55,7 @@ side_reads = record { sound = sound; complete = complete }
                     ]
               ]
         ]
+
     complete : (word : List ℕ) (x : Side) → IsSide x word → side_of word ≡ Some x
     complete word side.Rx h = rw h refl
     complete word side.Tx h = rw h refl
@@ -73,6 +75,7 @@ direction_reads = record { sound = sound; complete = complete }
                 | inr more ↦ cc (more.1)
               ]
         ]
+
     complete : (word : List ℕ) (x : Direction) → IsDirection x word → direction_of word ≡ Some x
     complete word direction.Rx h = rw h refl
     complete word direction.Tx h = rw h refl
@@ -99,6 +102,7 @@ proto_reads = record { sound = sound; complete = complete }
                     ]
               ]
         ]
+
     complete : (word : List ℕ) (x : Proto) → IsProto x word → proto_of word ≡ Some x
     complete word proto.Eth h = rw h refl
     complete word proto.Ip h = rw h refl

@@ -1,5 +1,5 @@
 -- What is of the form of a word is read.
-use Rattle.std.proofs.Common.{◌≡◌, ℕ, List, [], Option, Some, None, refl}
+use Rattle.std.proofs.Common.{◌≡◌, ℕ, List, Some, None, refl}
 use Rattle.ark_script.specs.Arguments.{IsName, IsNumber}
 use Rattle.ark_script.specs.Form.{AreArguments}
 use Rattle.ark_script.specs.Line as w

@@ -1,5 +1,5 @@
 -- A line means what its words mean when they are read from left to right.
-use Rattle.std.proofs.Common.{◌≡◌, ℕ, ◌≤◌, true, bytes_eq, List, ◌∷◌, length, Option, Some, None, Result, Ok, Err, refl, sym, ap, ◌∙◌, subst}
+use Rattle.std.proofs.Common.{◌≡◌, ℕ, ◌≤◌, bytes_eq, List, ◌∷◌, length, Option, Some, None, Result, Ok, Err, refl, sym, ap, ◌∙◌, subst}
 use Rattle.std.specs.Prelude.{MatchResult}
 use Rattle.std.specs.List.{list_any}
 use Rattle.std.specs.Option.{is_some}
@@ -10,11 +10,11 @@ use Rattle.ark_script.specs.declared.reading.word.Word.{Word}
 use Rattle.ark_script.specs.declared.step.Step.{Step}
 use Rattle.ark_script.specs.Form.{IsForm, Sentence, AreArguments, word_of}
 use Rattle.ark_script.specs.Line.{Line, line_of}
-use Rattle.ark_script.specs.Lines.{Meaning, Says, max_line}
+use Rattle.ark_script.specs.Lines.{Says, max_line}
 use Rattle.ark_script.specs.Reply.{Means, meaning_of, word_meaning, or_syntax}
 use Rattle.ark_script.specs.Shape.{line_read}
 use Rattle.ark_script.specs.Word.{word_at}
-use Rattle.ark_script.specs.Words.{IsKnown, first_word, known_words, words_of}
+use Rattle.ark_script.specs.Words.{first_word, known_words, words_of}
 use Rattle.ark_script.proofs.Completing.{complete}
 use Rattle.ark_script.proofs.Parts.{parts_some}
 use Rattle.ark_script.proofs.Sounding.{sound}
@@ -38,12 +38,15 @@ known_says line first words k (Some asked) short e found read =
     let formed = sound k words asked read in
     let spelled : first ≡ word_of asked = word_spelled first k found ∙ ap spelling (sym formed.0) ∙ spelling_of asked in
     (short, is_form line first words asked e spelled formed.1)
-known_says line first words k None short e found read =
-    (short, known_is line first words (Some k) e found, λ asked form.
-    let parts = form_is line first words asked e form in
-    let same : kind_of_line asked ≡ k = same_Some _ _ (sym (word_at-word_of asked) ∙ ap word_at (sym parts.0) ∙ found) in
-    let given = rw same at (complete asked words parts.1) in
-    cc (read, given))
+known_says line first words k None short e found read = (
+  short,
+  known_is line first words (Some k) e found,
+  λ asked form.
+      let parts = form_is line first words asked e form in
+      let same : kind_of_line asked ≡ k = same_Some _ _ (sym (word_at-word_of asked) ∙ ap word_at (sym parts.0) ∙ found) in
+      let given = rw same at (complete asked words parts.1) in
+      cc (read, given),
+)
 
 says_word : (line first : List ℕ) (words : List (List ℕ)) (o : Option Word) → length line ≤ max_line → words_of line ≡ first ∷ words
     → word_at first ≡ o → Says line (word_meaning o words)

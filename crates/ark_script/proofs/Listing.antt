@@ -1,5 +1,5 @@
 -- Items that are read one by one into places.
-use Rattle.std.proofs.Common.{◌≡◌, ℕ, zero, suc, ◌+◌, ◌-◌, ◌<◌, ◌≤◌, List, [], ◌∷◌, ◌++◌, length, take, drop, get_or, set, replicate, Option, Some, None, refl, sym, ap, ◌∙◌, arith}
+use Rattle.std.proofs.Common.{◌≡◌, ℕ, suc, ◌+◌, ◌-◌, ◌<◌, ◌≤◌, List, [], ◌∷◌, ◌++◌, length, take, drop, get_or, set, replicate, Option, Some, None, refl, sym, ap, ◌∙◌, arith}
 use Rattle.std.proofs.lemmas.List.{append_assoc, append-nil, drop_all, drop_more, take_more_set, length-set, length-replicate, length-take-le, drop-set-lt, drop-replicate, take-append-drop}
 use Rattle.std.proofs.Math.Nat.{sub-zero}
 use Rattle.ark_script.specs.Lists.{filled}
@@ -45,8 +45,8 @@ one_read f room words none count places word x fits more is read h =
       within = omega arith;
       size = length-set places count x ∙ h.size;
       free = drop-set-lt (count + 1) places count x (omega arith)
-        ∙ ap (drop 1) (sym (drop_more places count none (let size = h.size in omega arith)) ∙ h.free)
-        ∙ drop-replicate 1 (room - count) none ∙ ap (λ (n : ℕ). replicate n none) (omega arith);
+          ∙ ap (drop 1) (sym (drop_more places count none (let size = h.size in omega arith)) ∙ h.free)
+          ∙ drop-replicate 1 (room - count) none ∙ ap (λ (n : ℕ). replicate n none) (omega arith);
     }
 
 pub bad_read : {A : Type 0} (f : List ℕ → Option A) (room : ℕ) (words : List (List ℕ)) (none : A) (count : ℕ) (places : List A) (word : List ℕ)

@@ -1,5 +1,5 @@
 -- Services are read just where a word spells them.
-use Rattle.std.proofs.Common.{◌≡◌, ℕ, ◌+◌, ◌*◌, ◌≤◌, bytes_eq, List, [], ◌∷◌, length, codes, Option, Some, None, refl, sym, ap, ◌∙◌, subst, inl, inr, arith}
+use Rattle.std.proofs.Common.{◌≡◌, ℕ, bytes_eq, List, [], ◌∷◌, codes, Option, Some, None, refl, sym, ap, ◌∙◌, subst, inl, inr, arith}
 use Rattle.std.specs.Fmt.{digits}
 use Rattle.std.specs.Option.{option_or}
 use Rattle.std.proofs.lemmas.Bool.{cases_Bool}
@@ -8,12 +8,12 @@ use Rattle.std.proofs.lemmas.Slice.Eq.{bytes_eq-Decides}
 use Rattle.ark_filters.specs.declared.filter.Services.{Services}
 use Rattle.ark_filters.specs.declared.filter.Proto.{Proto}
 use Rattle.ark_filters.specs.declared.filter.Proto.TheVariants as proto
-use Rattle.ark_script.specs.Arguments.{IsNumber, IsType, IsHex}
-use Rattle.ark_script.specs.Lists.{EachIs, ArePorts, IsService, AreServices, services_are}
+use Rattle.ark_script.specs.Arguments.{IsType, IsHex}
+use Rattle.ark_script.specs.Lists.{ArePorts, IsService, AreServices, services_are}
 use Rattle.ark_script.specs.Listed.{each_of, port_of, range_of, service_of, services_of}
 use Rattle.ark_script.specs.Words.{parts_of}
 use Rattle.ark_script.specs.Reading.{◌>>=◌, big_pair, number_of, hex_of, type_of, one_of, two_of}
-use Rattle.ark_script.proofs.Arguing.{chosen, hex_reads, number_reads}
+use Rattle.ark_script.proofs.Arguing.{chosen, hex_reads}
 use Rattle.ark_script.proofs.Addressing.{each_sound, each_complete, map_some}
 use Rattle.ark_script.proofs.Numbers.{number_read, number_gives}
 use Rattle.ark_script.proofs.Readers.{Reads, bind_some}
@@ -27,10 +27,12 @@ type_reads = record { sound = sound; complete = complete }
     pair word (a ∷ []) n h e = absurd (omega (arith, h.3))
     pair word (a ∷ b ∷ []) n h e = (a, b, h, sym e)
     pair word (a ∷ b ∷ c ∷ bytes) n h e = absurd (omega (arith, h.4))
+
     sound : (word : List ℕ) (n : ℕ) → type_of word ≡ Some n → IsType n word
     sound word n h =
         let s = bind_some (hex_of 2 2 word) _ n h in
         pair word s.0 n ((hex_reads 2 2).sound word s.0 s.1) (same_Some _ _ s.2)
+
     complete : (word : List ℕ) (n : ℕ) → IsType n word → type_of word ≡ Some n
     complete word n h = rw ((hex_reads 2 2).complete word (h.0 ∷ h.1 ∷ []) h.2) (ap Some (sym h.3))
 
@@ -105,6 +107,7 @@ services_reads p = record { sound = sound; complete = complete }
               let each = each_sound (service_of p) (IsService p) (service_reads p) 8 (parts_of 44 word) m.0 m.1 in
               inr (m.0, each.0, each.1, m.2)
         ]
+
     complete : (word : List ℕ) (services : Services) → AreServices p services word → services_of p word ≡ Some services
     complete word services (inl all) = rw all.0 (ap Some (sym all.1))
     complete word services (inr some) =

@@ -1,9 +1,8 @@
 -- What a word gives with the words behind it is of its form: the words that share one.
-use Rattle.std.proofs.Common.{◌≡◌, ℕ, ◌-◌, ◌<◌, ◌≤◌, ◌^◌, nat_le, List, [], ◌∷◌, Option, Some, None, refl, sym, ap, ◌∙◌, subst, inl, inr, arith}
-use Rattle.std.proofs.lemmas.Option.{same_Some, cond_some}
-use Rattle.ark_script.specs.Arguments.{IsName, IsOptional, IsNumber, IsSize, IsHex, IsHex0, IsMac, IsKind, fewest_blocks, IsSide, IsDirection, IsProto, IsIp}
-use Rattle.ark_script.specs.Form.{One, Two, Three, Four, Five, Six, AreArguments, most_blocks, a_billion}
-use Rattle.ark_script.specs.Line as w
+use Rattle.std.proofs.Common.{◌≡◌, ℕ, ◌-◌, ◌<◌, ◌^◌, List, Option, Some, refl, subst, arith}
+use Rattle.std.proofs.lemmas.Option.{same_Some}
+use Rattle.ark_script.specs.Arguments.{IsName, IsOptional, IsNumber, IsHex, IsHex0, IsSide}
+use Rattle.ark_script.specs.Form.{Two, Three, Four, Six, AreArguments}
 use Rattle.ark_script.specs.Line.{Line}
 use Rattle.ark_script.specs.declared.step.Side.{Side}
 use Rattle.ark_script.specs.declared.reading.word.Word.{Word}
@@ -26,14 +25,12 @@ use Rattle.ark_script.specs.declared.reading.word.EntryWord.{EntryWord}
 use Rattle.ark_script.specs.declared.reading.word.EntryWord.TheVariants as entry
 use Rattle.ark_script.specs.declared.reading.word.WriteWord.{WriteWord}
 use Rattle.ark_script.specs.declared.reading.word.WriteWord.TheVariants as write
-use Rattle.ark_script.proofs.Arguing.{name_reads, optional_reads, number_reads, size_reads, hex_reads, hex0_reads}
-use Rattle.ark_script.proofs.Choosing.{kind_reads, side_reads, direction_reads, proto_reads}
-use Rattle.ark_script.proofs.Addressing.{ip_reads, peers_reads}
-use Rattle.ark_script.proofs.Serving.{services_reads}
-use Rattle.ark_script.proofs.Readers.{Reads, bind_some, one_reads, two_reads, three_reads, four_reads, five_reads, six_reads}
+use Rattle.ark_script.proofs.Arguing.{name_reads, optional_reads, number_reads, hex_reads, hex0_reads}
+use Rattle.ark_script.proofs.Choosing.{side_reads}
+use Rattle.ark_script.proofs.Readers.{Reads, bind_some, two_reads, three_reads, four_reads, six_reads}
 use Rattle.ark_script.proofs.Wording.{kind_of_line}
-use Rattle.ark_script.specs.Reading.{◌>>=◌, name_of, optional_of, number_of, size_of, hex_of, hex0_of, kind_of, side_of, direction_of, proto_of, ip_of}
-use Rattle.ark_script.specs.Sentence.{one_read, two_read, three_read, four_read, five_read, six_read}
+use Rattle.ark_script.specs.Reading.{name_of, optional_of, number_of, hex_of, hex0_of, side_of}
+use Rattle.ark_script.specs.Sentence.{two_read, three_read, four_read, six_read}
 use Rattle.ark_script.specs.Shape.{count_range, length_range, range_most, write_most, pair_line, triple_line, count_line, length_line, range_line, turn_line, transfer_line, entry_line, write_line, read_pair, read_triple, read_count, read_length, read_range, read_turn, read_transfer, read_entry, read_write}
 
 -- the line is of this word, and the words behind it are its arguments

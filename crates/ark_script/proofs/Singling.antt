@@ -1,9 +1,8 @@
 -- What a word gives with the words behind it is of its form: the words with a form of their own.
-use Rattle.std.proofs.Common.{◌≡◌, ◌⊎◌, ℕ, ◌-◌, ◌<◌, ◌≤◌, ◌^◌, nat_le, List, [], ◌∷◌, Option, Some, None, refl, sym, ap, ◌∙◌, subst, inl, inr, arith}
+use Rattle.std.proofs.Common.{◌≡◌, ◌⊎◌, ℕ, ◌≤◌, nat_le, List, [], ◌∷◌, Option, Some, None, refl, subst, inl, inr, arith}
 use Rattle.std.proofs.lemmas.Option.{same_Some, cond_some}
-use Rattle.ark_script.specs.Arguments.{IsName, IsOptional, IsNumber, IsSize, IsHex, IsHex0, IsMac, IsKind, fewest_blocks, IsSide, IsDirection, IsProto, IsIp}
-use Rattle.ark_script.specs.Form.{One, Two, Three, Four, Five, Six, AreArguments, most_blocks, a_billion}
-use Rattle.ark_packet.specs.declared.own.Own.{Own}
+use Rattle.ark_script.specs.Arguments.{IsName, IsNumber, IsSize, IsHex, IsHex0, IsKind, fewest_blocks, IsDirection, IsIp}
+use Rattle.ark_script.specs.Form.{One, Two, Three, Four, Five, AreArguments, most_blocks, a_billion}
 use Rattle.ark_base.specs.declared.kind.Kind.{Kind}
 use Rattle.ark_base.specs.declared.kind.Kind.TheVariants as kind
 use Rattle.ark_filters.specs.declared.filter.Direction.{Direction}
@@ -12,19 +11,16 @@ use Rattle.std.specs.Option.{option_or}
 use Rattle.std.proofs.lemmas.Bool.{leb-true, le-leb}
 use Rattle.ark_script.specs.Line as w
 use Rattle.ark_script.specs.Line.{Line}
-use Rattle.ark_script.specs.declared.step.Side.{Side}
-use Rattle.ark_script.specs.declared.reading.word.Word.{Word}
 use Rattle.ark_script.specs.declared.reading.word.Word.TheVariants as word
-use Rattle.ark_script.proofs.Arguing.{name_reads, optional_reads, number_reads, size_reads, hex_reads, hex0_reads}
-use Rattle.ark_script.proofs.Choosing.{kind_reads, side_reads, direction_reads, proto_reads}
+use Rattle.ark_script.proofs.Arguing.{name_reads, number_reads, size_reads, hex_reads, hex0_reads}
+use Rattle.ark_script.proofs.Choosing.{kind_reads, direction_reads, proto_reads}
 use Rattle.ark_script.proofs.Addressing.{ip_reads, peers_reads}
 use Rattle.ark_script.proofs.Serving.{services_reads}
-use Rattle.ark_script.proofs.Readers.{Reads, bind_some, one_reads, two_reads, three_reads, four_reads, five_reads, six_reads}
+use Rattle.ark_script.proofs.Readers.{Reads, bind_some, one_reads, two_reads, three_reads, four_reads, five_reads}
 use Rattle.ark_script.proofs.Shaping.{Formed}
-use Rattle.ark_script.specs.Reading.{◌>>=◌, name_of, number_of, size_of, hex_of, hex0_of, kind_of, direction_of, proto_of, ip_of, one_of, two_of, three_of, four_of, five_of, six_of}
+use Rattle.ark_script.specs.Reading.{name_of, number_of, size_of, hex_of, hex0_of, kind_of, direction_of, proto_of, ip_of, one_of, two_of, three_of, four_of, five_of, six_of}
 use Rattle.ark_script.specs.Listed.{peers_of, services_of}
-use Rattle.ark_script.specs.Lists.{ArePeers, AreServices}
-use Rattle.ark_script.specs.Sentence.{one_read, two_read, three_read, four_read, five_read, six_read}
+use Rattle.ark_script.specs.Sentence.{one_read, two_read, three_read, four_read, five_read}
 use Rattle.ark_script.specs.Shape.{read_nic, read_bare_app, read_sized_app, read_app, read_vsic, read_vnic, read_vsa, read_filter, read_take, read_sendto, read_wire, read_tick}
 
 pub nic_reads : Reads (three_read (hex_of 6 6) ip_of (hex_of 6 6)) (λ (p : List ℕ × List ℕ × List ℕ). Three (IsHex 6 6 p.0) (IsIp p.1) (IsHex 6 6 p.2))

@@ -1,7 +1,7 @@
 -- What is read is of its form, and no word stands alone.
-use Rattle.std.proofs.Common.{◌≡◌, ℕ, List, [], Option, Some, None, refl}
+use Rattle.std.proofs.Common.{◌≡◌, ℕ, List, [], Some, None, refl}
 use Rattle.ark_script.specs.Line.{Line}
-use Rattle.ark_script.specs.Reading.{◌>>=◌, one_of, two_of, three_of, four_of, five_of, six_of}
+use Rattle.ark_script.specs.Reading.{one_of, two_of, three_of, four_of, five_of, six_of}
 use Rattle.ark_script.specs.Sentence.{one_read, two_read, three_read, four_read, five_read, six_read}
 use Rattle.ark_script.specs.Shape.{line_read, read_pair, read_triple, read_count, read_length, read_range, read_turn, read_transfer, read_entry, read_write, read_nic, read_bare_app, read_sized_app, read_app, read_vsic, read_vnic, read_vsa, read_filter, read_take, read_sendto, read_wire, read_tick}
 use Rattle.ark_script.specs.declared.reading.word.Word.{Word}

@@ -1,6 +1,6 @@
 -- The words of the program are those of the language.
-use Rattle.std.proofs.Common.{◌≡◌, ℕ, Bool, true, false, ◌||◌, cond, bytes_eq, nat_eq, List, [], ◌∷◌, map, codes, Option, Some, None, refl, sym, ap, ◌∙◌, inl, inr}
-use Rattle.std.specs.List.{list_all, list_any, slice_split, onto_first}
+use Rattle.std.proofs.Common.{◌≡◌, ℕ, true, bytes_eq, nat_eq, List, [], ◌∷◌, map, codes, Some, refl, sym, ap, ◌∙◌, inl, inr}
+use Rattle.std.specs.List.{list_all, list_any, onto_first}
 use Rattle.std.specs.Option.{is_some}
 use Rattle.std.specs.Map.{lookup}
 use Rattle.std.proofs.lemmas.Bool.{cases_Bool, and_parts}

@@ -1,5 +1,5 @@
 -- Words behind the first, read one by one.
-use Rattle.std.specs.Prelude.{List, ℕ, Option, Some, None}
+use Rattle.std.specs.Prelude.{List, ℕ, Option, Some}
 use Rattle.ark_script.specs.Reading.{◌>>=◌, one_of, two_of, three_of, four_of, five_of, six_of}
 
 unfoldable pub one_read : {A : Type 0} → (List ℕ → Option A) → List (List ℕ) → Option A

@@ -11,7 +11,7 @@ use crate::reading::digits::{hex, hex0};
 use crate::reading::number::number;
 use crate::reading::split::{four, six, three, two};
 use crate::reading::word::{
-    EntryWord, LengthWord, CountWord, PairWord, RangeWord, TransferWord, TripleWord, TurnWord,
+    CountWord, EntryWord, LengthWord, PairWord, RangeWord, TransferWord, TripleWord, TurnWord,
     WriteWord,
 };
 use crate::step::Step;

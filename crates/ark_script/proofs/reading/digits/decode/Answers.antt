@@ -1,4 +1,3 @@
-use Rattle.std.proofs.Common.{◌≡◌, length}
 use Rattle.ark_script.proofs.Digits.{sized_spelled}
 use Rattle.ark_script.proofs.reading.digits.decode.Goals as goal
 

@@ -1,5 +1,4 @@
 use Rattle.std.proofs.Common.{◌≡◌, length}
-
 use Rattle.ark_script.specs.Listed.{service_of}
 use Rattle.ark_script.specs.Words.{parts_of}
 use Rattle.ark_script.proofs.Listing.{Read}

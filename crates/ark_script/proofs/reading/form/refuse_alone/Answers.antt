@@ -1,5 +1,5 @@
-use Rattle.std.proofs.Common.{ap, ◌∙◌, []}
-use Rattle.ark_script.specs.Reply.{or_syntax, word_meaning}
+use Rattle.std.proofs.Common.{ap}
+use Rattle.ark_script.specs.Reply.{or_syntax}
 use Rattle.ark_script.proofs.Sounding.{none_alone}
 use Rattle.ark_script.proofs.reading.form.refuse_alone.Goals as goal
 

@@ -1,4 +1,4 @@
-use Rattle.std.proofs.Common.{◌≡◌, ℕ, ◌<◌, ◌≤◌, ◌^◌, List, length, get_or, slice_index, arith, refl, sym, ap, inl, inr, ◌∙◌, subst, decimal}
+use Rattle.std.proofs.Common.{◌≡◌, ℕ, ◌<◌, ◌^◌, List, length, get_or, slice_index, arith, refl, sym, ap, inl, inr, subst, decimal}
 use Rattle.std.specs.Prelude.{Option, IfSome, IfNone, Result, Ok, Err}
 use Rattle.std.specs.Int.{IsInRange}
 use Rattle.std.specs.Result.{result_ok}
@@ -19,11 +19,13 @@ Begins text = IsInRange 48 57 (slice_index text 0) × (slice_index text 0 ≡ 48
 begins_decimal : (n : ℕ) → n < 2 ^ 64 → Begins (decimal n)
 begins_decimal n small =
     let numeral = (decimal_is_IsNumeral n small).0 in
-    let digit : IsInRange 48 57 (get_or (decimal n) 0 0) = digit_at (decimal n) 0 numeral.1 numeral.0 in
-    (digit, λ zero_first. elim (cases_eq n 0) [
-      | inl none ↦ rw none (ap length (decimal_digit 0 (omega arith)))
-      | inr some ↦ let low : 48 < get_or (decimal n) 0 0 = first_decimal n (omega arith) small in absurd (omega arith)
-    ])
+    let digit : IsInRange 48 57 (get_or (decimal n) 0 0) = digit_at (decimal n) 0 numeral.1 numeral.0 in (
+      digit,
+      λ zero_first. elim (cases_eq n 0) [
+        | inl none ↦ rw none (ap length (decimal_digit 0 (omega arith)))
+        | inr some ↦ let low : 48 < get_or (decimal n) 0 0 = first_decimal n (omega arith) small in absurd (omega arith)
+      ],
+    )
 
 begins : (text : List ℕ) (n : ℕ) → n < 2 ^ 64 → text ≡ decimal n → Begins text
 begins text n small is = rw is (begins_decimal n small)
