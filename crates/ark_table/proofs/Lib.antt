@@ -1,2 +1,3 @@
 pub mod Laying
 mod Worked
+mod Spelling

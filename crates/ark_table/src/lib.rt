@@ -1,6 +1,8 @@
 //! The table of grants on a device: its superblock, and how a new device is formatted.
 #![tactic(auto)]
 
+mod laws;
 mod superblock;
 
+pub use laws::slot_laws;
 pub use superblock::format;
