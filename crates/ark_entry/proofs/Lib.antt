@@ -2,3 +2,4 @@ mod Worked
 mod Headers
 mod Emptiness
 mod Entries
+mod Readings

@@ -4,7 +4,8 @@ ghost use Rattle.ark_base.specs.declared.kind.Kind.{Kind};
 ghost use Rattle.ark_media.specs.Journal.{block, zero_block};
 ghost use Rattle.ark_entry.specs.Header.{Header, IsHeader, header_of, bytes_of, is_zero, empty};
 ghost use Rattle.ark_entry.specs.Entry.{AreWhole, entry_blocks, entry_bytes, marked, ring_bytes, entry_at};
-ghost use Rattle.ark_entry.specs.Found.{found, found_of};
+ghost use Rattle.ark_entry.specs.Found.{Entries, found, damaged, found_of};
+ghost use Rattle.ark_entry.specs.Reading.{HasList, IsDamaged};
 
 /// A right header is read again as what was written. A block that is read as a header is zeros, or the one spelling of a right
 /// header.
@@ -26,4 +27,15 @@ pub fn entry_laws()
 pub fn empty_laws()
     ensures zeros_are_empty { (kind : Kind) (ring : List (List ℕ)) → (0 < length ring → block ring 0 ≡ zero_block)
         → found_of kind (zero_block ∷ ring) ≡ found (record { first = 1; payloads = [] }) }
+{}
+
+/// What is found is the list that stands in the ring, and there is no other; where it is damaged, the header is wrong, or counts
+/// more entries than stand there.
+pub fn found_laws()
+    ensures found_stands { (kind : Kind) (header : List ℕ) (ring : List (List ℕ)) → AreWhole ring → 0 < length ring → (l : Entries)
+        → found_of kind (header ∷ ring) ≡ found l → HasList kind header ring l }
+    ensures stands_is_list { (kind : Kind) (header : List ℕ) (ring : List (List ℕ)) → AreWhole ring → 0 < length ring → (l : Entries)
+        → HasList kind header ring l → found_of kind (header ∷ ring) ≡ found l }
+    ensures damaged_means { (kind : Kind) (header : List ℕ) (ring : List (List ℕ)) → AreWhole ring → 0 < length ring → (n : ℕ)
+        → found_of kind (header ∷ ring) ≡ damaged n → IsDamaged kind header ring n }
 {}
