@@ -3,3 +3,7 @@ mod Headers
 mod Emptiness
 mod Entries
 mod Readings
+mod Standing
+mod Drafts
+mod Appending
+mod Dropping

@@ -2,3 +2,4 @@ pub mod Header
 pub mod Entry
 pub mod Found
 pub mod Reading
+pub mod Writing

@@ -1,11 +1,12 @@
 // Laws of the definitions, each the contract of a function that does nothing.
-ghost use Rattle.std.specs.Prelude.{◌≡◌, ◌<◌, ◌≤◌, ◌^◌, ◌⊎◌, ◌%◌, ◌+◌, ℕ, List, ◌∷◌, [], Some, true, length};
+ghost use Rattle.std.specs.Prelude.{◌++◌, ◌≡◌, ◌<◌, ◌≤◌, ◌^◌, ◌⊎◌, ◌%◌, ◌+◌, ℕ, List, ◌∷◌, [], Some, true, length};
 ghost use Rattle.ark_base.specs.declared.kind.Kind.{Kind};
 ghost use Rattle.ark_media.specs.Journal.{block, zero_block};
 ghost use Rattle.ark_entry.specs.Header.{Header, IsHeader, header_of, bytes_of, is_zero, empty};
 ghost use Rattle.ark_entry.specs.Entry.{AreWhole, entry_blocks, entry_bytes, marked, ring_bytes, entry_at};
 ghost use Rattle.ark_entry.specs.Found.{Entries, found, damaged, found_of};
-ghost use Rattle.ark_entry.specs.Reading.{HasList, IsDamaged};
+ghost use Rattle.ark_entry.specs.Reading.{reading, Finds, Stands, HasList, IsDamaged};
+ghost use Rattle.ark_entry.specs.Writing.{at, Between, Appends, drafted, finished, zeroed};
 
 /// A right header is read again as what was written. A block that is read as a header is zeros, or the one spelling of a right
 /// header.
@@ -38,4 +39,27 @@ pub fn found_laws()
         → HasList kind header ring l → found_of kind (header ∷ ring) ≡ found l }
     ensures damaged_means { (kind : Kind) (header : List ℕ) (ring : List (List ℕ)) → AreWhole ring → 0 < length ring → (n : ℕ)
         → found_of kind (header ∷ ring) ≡ damaged n → IsDamaged kind header ring n }
+{}
+
+/// What is found in a ring, place by place one of two rings. While an entry is written behind a list, it is the list; while its
+/// marker is written, the list or that with the entry; and afterwards that stands there.
+pub fn append_laws()
+    ensures idle_finds { (room start : ℕ) (stored : List (List ℕ)) (first : ℕ) (acked : List (List ℕ)) → Stands room start (at stored) 0 first acked (length stored)
+        → length stored ≤ room → (r : ℕ → List ℕ) → Between room stored stored r → Finds room start r 0 first acked }
+    ensures body_finds { (room start : ℕ) (stored : List (List ℕ)) (first : ℕ) (acked : List (List ℕ)) (payload : List ℕ) → Appends room start stored first acked payload
+        → (r : ℕ → List ℕ) → Between room stored (drafted room start stored first acked payload) r → Finds room start r 0 first acked }
+    ensures marking_finds { (room start : ℕ) (stored : List (List ℕ)) (first : ℕ) (acked : List (List ℕ)) (payload : List ℕ) → Appends room start stored first acked payload
+        → (r : ℕ → List ℕ) → Between room (drafted room start stored first acked payload) (finished room start stored first acked payload) r
+        → Finds room start r 0 first acked ⊎ Finds room start r 0 first (acked ++ payload ∷ []) }
+    ensures more_stands { (room start : ℕ) (stored : List (List ℕ)) (first : ℕ) (acked : List (List ℕ)) (payload : List ℕ) → Appends room start stored first acked payload
+        → Stands room start (at (finished room start stored first acked payload)) 0 first (acked ++ payload ∷ []) (length (finished room start stored first acked payload)) }
+{}
+
+/// After the first entries of a list are dropped, the others are found from the place behind them on, also while the blocks of the
+/// dropped ones are made zero one by one, and also in a ring that is full.
+pub fn drop_laws()
+    ensures dropping_finds { (ring : List (List ℕ)) (start : ℕ) (stored : List (List ℕ)) (first : ℕ) (dropped kept : List (List ℕ))
+        → Stands (length ring) start (at stored) 0 first (dropped ++ kept) (length stored) → 1 ≤ length dropped → length stored ≤ length ring
+        → (z : ℕ) → Stands (length ring) start (at stored) 0 first dropped z → Between (length ring) stored (zeroed z stored) (reading ring start)
+        → Finds (length ring) ((start + z) % length ring) (reading ring ((start + z) % length ring)) 0 (first + length dropped) kept }
 {}
