@@ -1,9 +1,13 @@
 // Laws of the definitions, each the contract of a function that does nothing.
-ghost use Rattle.std.specs.Prelude.{◌≡◌, ◌+◌, ◌-◌, ◌*◌, ℕ, List, length, take, Contains};
+ghost use Rattle.std.specs.Prelude.{◌≡◌, ◌≤◌, ◌⊎◌, ◌∷◌, drop, ◌+◌, ◌-◌, ◌*◌, ℕ, List, length, take, Contains};
+ghost use Rattle.ark_base.specs.declared.kind.Kind.{Kind};
+ghost use Rattle.ark_entry.specs.Header.{Header};
 ghost use Rattle.ark_entry.specs.Entry.{entry_blocks};
-ghost use Rattle.ark_entry.specs.Found.{Entries};
+ghost use Rattle.ark_entry.specs.Found.{Entries, found, found_of};
+ghost use Rattle.ark_entry.specs.Writing.{zeroed};
 ghost use Rattle.ark_caladan.specs.Chain.{Command, append, trim, pop, after, after_all, next_number, blocks_of, phases_of, moves_of, Log, lists, stored};
 ghost use Rattle.ark_caladan.specs.Numbers.{Fits, AllFit, GoesOn, payload_of};
+ghost use Rattle.ark_caladan.specs.Leaves.{Lies, IsRing, Holds, HasRoom, with_draft, with_entry, dropped_by, freed_by, HeaderAfter};
 
 /// An append adds its payload behind the list and drops nothing. A trim drops the entries below its number, a pop the first one,
 /// and neither adds one. After any commands the numbers have only gone on, and an entry that is still there is the same.
@@ -26,4 +30,30 @@ pub fn move_laws()
 pub fn list_laws()
     ensures acknowledged_is_listed { (g : Log) → Contains (lists g) g.list }
     ensures stored_is_listed { (g : Log) → Contains (lists g) (stored g) }
+{}
+
+/// What is found in a ring while an append is carried out, whichever of its writes are there: the list, or, from the write of the
+/// marker on, the list after the append. Afterwards that list lies in the ring.
+pub fn append_leaves()
+    ensures rest_is_found { (kind : Kind) (header : List ℕ) (h : Header) (ring stored : List (List ℕ)) (l : Entries) → IsRing ring → Lies kind (length ring) header h stored l
+        → Holds ring h stored stored → found_of kind (header ∷ ring) ≡ found l }
+    ensures draft_is_found { (kind : Kind) (header : List ℕ) (h : Header) (ring stored : List (List ℕ)) (l : Entries) → IsRing ring → Lies kind (length ring) header h stored l
+        → (payload : List ℕ) → HasRoom (length ring) stored l payload → Holds ring h stored (with_draft (length ring) h stored l payload) → found_of kind (header ∷ ring) ≡ found l }
+    ensures marker_is_found { (kind : Kind) (header : List ℕ) (h : Header) (ring stored : List (List ℕ)) (l : Entries) → IsRing ring → Lies kind (length ring) header h stored l
+        → (payload : List ℕ) → HasRoom (length ring) stored l payload → Holds ring h (with_draft (length ring) h stored l payload) (with_entry (length ring) h stored l payload)
+        → (found_of kind (header ∷ ring) ≡ found l) ⊎ (found_of kind (header ∷ ring) ≡ found (after l (append (next_number l) payload))) }
+    ensures entry_lies { (kind : Kind) (header : List ℕ) (h : Header) (ring stored : List (List ℕ)) (l : Entries) → IsRing ring → Lies kind (length ring) header h stored l
+        → (payload : List ℕ) → HasRoom (length ring) stored l payload → Lies kind (length ring) header h (with_entry (length ring) h stored l payload) (after l (append (next_number l) payload)) }
+{}
+
+/// What is found in a ring once the header of a trim or a pop is written, whichever of the freed blocks are zero by then: the list
+/// after it. Afterwards that list lies in the ring, with zeros behind it.
+pub fn drop_leaves()
+    ensures dropped_is_found { (kind : Kind) (header new_header : List ℕ) (h new : Header) (ring stored : List (List ℕ)) (l : Entries) (c : Command) → IsRing ring → Lies kind (length ring) header h stored l
+        → Fits l c → 1 ≤ dropped_by l c → HeaderAfter kind (length ring) new_header h l c new → Holds ring h stored (zeroed (freed_by l c) stored) → found_of kind (new_header ∷ ring) ≡ found (after l c) }
+    ensures rest_lies { (kind : Kind) (header new_header : List ℕ) (h new : Header) (ring stored : List (List ℕ)) (l : Entries) (c : Command) → IsRing ring → Lies kind (length ring) header h stored l
+        → Fits l c → 1 ≤ dropped_by l c → HeaderAfter kind (length ring) new_header h l c new → Lies kind (length ring) new_header new (drop (freed_by l c) stored) (after l c) }
+    ensures rest_holds { (kind : Kind) (header new_header : List ℕ) (h new : Header) (ring stored : List (List ℕ)) (l : Entries) (c : Command) → IsRing ring → Lies kind (length ring) header h stored l
+        → Fits l c → 1 ≤ dropped_by l c → HeaderAfter kind (length ring) new_header h l c new → Holds ring h (zeroed (freed_by l c) stored) (zeroed (freed_by l c) stored)
+        → Holds ring new (drop (freed_by l c) stored) (drop (freed_by l c) stored) }
 {}

@@ -18,13 +18,13 @@ one_end room start r s u number [] a b x y = sym x ∙ y
 one_end room start r s u number (z ∷ zs) a b x y = one_end room start r s (u + entry_blocks (length z)) (number + 1) zs a b x.1 y.1
 
 -- the same ring, read from a later start
-later : (ring : List (List ℕ)) (start z v : ℕ) → reading ring ((start + z) % length ring) v ≡ reading ring start (z + v)
+pub later : (ring : List (List ℕ)) (start z v : ℕ) → reading ring ((start + z) % length ring) v ≡ reading ring start (z + v)
 later ring start z v =
     let e : start + z + v ≡ start + (z + v) = omega arith in
     ap (block ring) (mod-add-mod (start + z) (length ring) v ∙ ap (λ q. q % length ring) e)
 
 -- and a place past its end is one at its front
-around : (ring : List (List ℕ)) (start u : ℕ) → reading ring start (u + length ring) ≡ reading ring start u
+pub around : (ring : List (List ℕ)) (start u : ℕ) → reading ring start (u + length ring) ≡ reading ring start u
 around ring start u = let e : start + (u + length ring) ≡ start + u + length ring = omega arith in ap (block ring) (ap (λ q. q % length ring) e ∙ add-mod_right (start + u) (length ring))
 
 module _ (ring : List (List ℕ)) (start : ℕ) (stored : List (List ℕ)) (first : ℕ) (dropped kept : List (List ℕ))

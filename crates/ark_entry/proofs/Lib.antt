@@ -1,9 +1,9 @@
 mod Worked
-mod Headers
-mod Emptiness
-mod Entries
-mod Readings
-mod Standing
-mod Drafts
-mod Appending
-mod Dropping
+pub mod Headers
+pub mod Emptiness
+pub mod Entries
+pub mod Readings
+pub mod Standing
+pub mod Drafts
+pub mod Appending
+pub mod Dropping
