@@ -5,6 +5,7 @@ use Rattle.ark_entry.specs.Header.{Header, header_of}
 use Rattle.ark_entry.specs.Entry.{entry_blocks, AreWhole}
 use Rattle.ark_entry.specs.Found.{Entries}
 use Rattle.ark_entry.specs.Reading.{reading, Stands}
+use Rattle.ark_entry.specs.Repair.{used_by, Zeroes}
 use Rattle.ark_entry.specs.Writing.{at, Between, drafted, finished}
 use Rattle.ark_caladan.specs.Chain.{Command, append, trim, pop, after, next_number, blocks_of}
 
@@ -54,3 +55,13 @@ pub record HeaderAfter (kind : Kind) (room : ℕ) (header : List ℕ) (h : Heade
   pub first : new.first ≡ (after l c).first
   pub start : new.start ≡ (h.start + freed_by l c) % room
   pub count : new.count ≤ length (after l c).payloads
+
+-- A moment of an opening that found this list: some of the blocks outside it are zero already, and the header is the old one, or
+-- a new one for the same list.
+pub record Repairs (kind : Kind) (header : List ℕ) (h : Header) (ring : List (List ℕ)) (l : Entries) (new_header : List ℕ) (new : Header) (new_ring : List (List ℕ)) : Type 0 where
+  pub read : header_of kind (length ring) new_header ≡ Some new
+  pub first : new.first ≡ h.first
+  pub start : new.start ≡ h.start
+  pub count : new.count ≤ length l.payloads
+  pub size : length new_ring ≡ length ring
+  pub zeroes : Zeroes (length ring) (used_by l.payloads) (reading ring h.start) (reading new_ring h.start)

@@ -1,13 +1,16 @@
 // Laws of the definitions, each the contract of a function that does nothing.
-ghost use Rattle.std.specs.Prelude.{◌≡◌, ◌≤◌, ◌⊎◌, ◌∷◌, drop, ◌+◌, ◌-◌, ◌*◌, ℕ, List, length, take, Contains};
+ghost use Rattle.std.specs.Prelude.{◌<◌, Some, ◌≡◌, ◌≤◌, ◌⊎◌, ◌∷◌, drop, ◌+◌, ◌-◌, ◌*◌, ℕ, List, length, take, Contains};
 ghost use Rattle.ark_base.specs.declared.kind.Kind.{Kind};
-ghost use Rattle.ark_entry.specs.Header.{Header};
+ghost use Rattle.ark_media.specs.Journal.{zero_block};
+ghost use Rattle.ark_entry.specs.Header.{Header, header_of};
+ghost use Rattle.ark_entry.specs.Reading.{reading};
+ghost use Rattle.ark_entry.specs.Repair.{used_by, blocks_read};
 ghost use Rattle.ark_entry.specs.Entry.{entry_blocks};
 ghost use Rattle.ark_entry.specs.Found.{Entries, found, found_of};
 ghost use Rattle.ark_entry.specs.Writing.{zeroed};
 ghost use Rattle.ark_caladan.specs.Chain.{Command, append, trim, pop, after, after_all, next_number, blocks_of, phases_of, moves_of, Log, lists, stored};
 ghost use Rattle.ark_caladan.specs.Numbers.{Fits, AllFit, GoesOn, payload_of};
-ghost use Rattle.ark_caladan.specs.Leaves.{Lies, IsRing, Holds, HasRoom, with_draft, with_entry, dropped_by, freed_by, HeaderAfter};
+ghost use Rattle.ark_caladan.specs.Leaves.{Lies, IsRing, Holds, HasRoom, with_draft, with_entry, dropped_by, freed_by, HeaderAfter, Repairs};
 
 /// An append adds its payload behind the list and drops nothing. A trim drops the entries below its number, a pop the first one,
 /// and neither adds one. After any commands the numbers have only gone on, and an entry that is still there is the same.
@@ -56,4 +59,19 @@ pub fn drop_leaves()
     ensures rest_holds { (kind : Kind) (header new_header : List ℕ) (h new : Header) (ring stored : List (List ℕ)) (l : Entries) (c : Command) → IsRing ring → Lies kind (length ring) header h stored l
         → Fits l c → 1 ≤ dropped_by l c → HeaderAfter kind (length ring) new_header h l c new → Holds ring h (zeroed (freed_by l c) stored) (zeroed (freed_by l c) stored)
         → Holds ring new (drop (freed_by l c) stored) (drop (freed_by l c) stored) }
+{}
+
+/// At each moment of an opening that found a list, also inside its repair, that list is found. Afterwards it lies in the ring, with
+/// zeros behind it.
+pub fn opening_leaves()
+    ensures repaired_is_found { (kind : Kind) (header : List ℕ) (h : Header) (ring : List (List ℕ)) (l : Entries) → IsRing ring → header_of kind (length ring) header ≡ Some h
+        → found_of kind (header ∷ ring) ≡ found l → (new_header : List ℕ) (new : Header) (new_ring : List (List ℕ)) → IsRing new_ring
+        → Repairs kind header h ring l new_header new new_ring → found_of kind (new_header ∷ new_ring) ≡ found l }
+    ensures repaired_lies { (kind : Kind) (header : List ℕ) (h : Header) (ring : List (List ℕ)) (l : Entries) → IsRing ring → header_of kind (length ring) header ≡ Some h
+        → found_of kind (header ∷ ring) ≡ found l → (new_header : List ℕ) (new : Header) (new_ring : List (List ℕ)) → IsRing new_ring → Repairs kind header h ring l new_header new new_ring
+        → Lies kind (length new_ring) new_header new (blocks_read (reading new_ring new.start) 0 (used_by l.payloads)) l }
+    ensures repaired_holds { (kind : Kind) (header : List ℕ) (h : Header) (ring : List (List ℕ)) (l : Entries) → IsRing ring → header_of kind (length ring) header ≡ Some h
+        → found_of kind (header ∷ ring) ≡ found l → (new_header : List ℕ) (new : Header) (new_ring : List (List ℕ)) → IsRing new_ring → Repairs kind header h ring l new_header new new_ring
+        → ((v : ℕ) → used_by l.payloads ≤ v → v < length new_ring → reading new_ring new.start v ≡ zero_block)
+        → Holds new_ring new (blocks_read (reading new_ring new.start) 0 (used_by l.payloads)) (blocks_read (reading new_ring new.start) 0 (used_by l.payloads)) }
 {}

@@ -4,4 +4,4 @@
 
 mod laws;
 
-pub use laws::{append_leaves, command_laws, drop_leaves, list_laws, move_laws};
+pub use laws::{append_leaves, command_laws, drop_leaves, list_laws, move_laws, opening_leaves};

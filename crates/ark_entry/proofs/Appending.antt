@@ -13,7 +13,7 @@ use Rattle.ark_entry.proofs.Standing.{stands_le, stands_same, stands_then, stand
 use Rattle.ark_entry.proofs.Drafts.{length-draft, length-final, draft_ends, draft_says, final_others, final_stands}
 
 -- bytes of zeros are no marker
-zeros_unmarked : replicate {A = ℕ} 8 0 ≡ marker → ⊥
+pub zeros_unmarked : replicate {A = ℕ} 8 0 ≡ marker → ⊥
 zeros_unmarked is = let other : 0 ≡ 67 = ap (λ (t : List ℕ). get_or t 0 0) is in omega (arith, other)
 
 -- the ring from the first entry on that stays

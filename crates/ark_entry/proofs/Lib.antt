@@ -7,3 +7,4 @@ pub mod Standing
 pub mod Drafts
 pub mod Appending
 pub mod Dropping
+pub mod Repairing

@@ -3,3 +3,4 @@ pub mod Entry
 pub mod Found
 pub mod Reading
 pub mod Writing
+pub mod Repair

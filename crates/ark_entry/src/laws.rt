@@ -6,6 +6,7 @@ ghost use Rattle.ark_entry.specs.Header.{Header, IsHeader, header_of, bytes_of, 
 ghost use Rattle.ark_entry.specs.Entry.{AreWhole, entry_blocks, entry_bytes, marked, ring_bytes, entry_at};
 ghost use Rattle.ark_entry.specs.Found.{Entries, found, damaged, found_of};
 ghost use Rattle.ark_entry.specs.Reading.{reading, Finds, Stands, HasList, IsDamaged};
+ghost use Rattle.ark_entry.specs.Repair.{used_by, blocks_read, Zeroes};
 ghost use Rattle.ark_entry.specs.Writing.{at, Between, Appends, drafted, finished, zeroed};
 
 /// A right header is read again as what was written. A block that is read as a header is zeros, or the one spelling of a right
@@ -62,4 +63,12 @@ pub fn drop_laws()
         → Stands (length ring) start (at stored) 0 first (dropped ++ kept) (length stored) → 1 ≤ length dropped → length stored ≤ length ring
         → (z : ℕ) → Stands (length ring) start (at stored) 0 first dropped z → Between (length ring) stored (zeroed z stored) (reading ring start)
         → Finds (length ring) ((start + z) % length ring) (reading ring ((start + z) % length ring)) 0 (first + length dropped) kept }
+{}
+
+/// The list that is found stays while blocks outside it are made zero one by one, whatever stood in them. It stands in its blocks.
+pub fn repair_laws()
+    ensures repair_finds { (room start : ℕ) (r s : ℕ → List ℕ) (number : ℕ) (xs : List (List ℕ)) → ((v : ℕ) → v < room → length (r v) ≡ 512)
+        → Zeroes room (used_by xs) r s → Finds room start r 0 number xs → Finds room start s 0 number xs }
+    ensures read_stands { (room start : ℕ) (r : ℕ → List ℕ) (number : ℕ) (xs : List (List ℕ)) → Finds room start r 0 number xs
+        → Stands room start (at (blocks_read r 0 (used_by xs))) 0 number xs (length (blocks_read r 0 (used_by xs))) }
 {}
