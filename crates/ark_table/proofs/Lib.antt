@@ -1,3 +1,8 @@
 pub mod Laying
 mod Worked
-mod Spelling
+pub mod Spelling
+pub mod Gathering
+pub mod Walking
+pub mod Pairing
+pub mod Tables
+pub mod Changing

@@ -140,13 +140,17 @@ keeps_rules size s few right =
 pub is_not_free : (s : Slot) → is_free (slot_bytes s) ≡ false
 is_not_free s = refl
 
+-- the spelling of an area that keeps the rules is read as this area
+pub spelled_is_read : (size : ℕ) (a : Area) → size < 2 ^ 32 → is_area size a ≡ true → area_in (area_bytes a) ≡ a
+spelled_is_read size a few kept =
+    let rules = and_parts (is_name a.app) _ kept in
+    let rules2 = and_parts (is_name a.label) _ rules.1 in
+    let rules3 = and_parts (are_spans a.runs) _ rules2.1 in
+    let rules4 = and_parts (list_all (is_data size) a.runs) _ rules3.1 in
+    area_read a (name_short a.app rules.0) (name_short a.label rules2.0) (all_fit size a.runs few rules4.0)
+
 area_again : (size : ℕ) (s : Slot) → size < 2 ^ 32 → IsRight size s → area_in (slot_bytes s) ≡ area_of s
-area_again size s few right =
-    let rules = and_parts (is_name s.app) _ (keeps_rules size s few right) in
-    let rules2 = and_parts (is_name s.label) _ rules.1 in
-    let rules3 = and_parts (are_spans (runs_of s.blocks)) _ rules2.1 in
-    let rules4 = and_parts (list_all (is_data size) (runs_of s.blocks)) _ rules3.1 in
-    area_read (area_of s) (name_short s.app right.app) (name_short s.label right.label) (all_fit size (runs_of s.blocks) few rules4.0)
+area_again size s few right = spelled_is_read size (area_of s) few (keeps_rules size s few right)
 
 -- it keeps the rules by itself
 pub is_kept : (size : ℕ) (s : Slot) → size < 2 ^ 32 → IsRight size s → is_used size (slot_bytes s) ≡ true

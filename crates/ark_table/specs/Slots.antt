@@ -1,5 +1,5 @@
 -- The slots of a device: blocks 1 to 128 of its image.
-use Rattle.std.specs.Prelude.{◌≡◌, ◌<◌, ◌≤◌, Contains, ℕ, ◌+◌, List, [], ◌∷◌, ◌++◌, length, take, drop, map, filter, Bool, true, false, not, ◌&&◌, nat_le, bytes_eq, Result, Ok, Err}
+use Rattle.std.specs.Prelude.{◌≡◌, ◌<◌, ◌≤◌, Contains, ℕ, ◌+◌, List, [], ◌∷◌, ◌++◌, length, take, drop, map, count_by, Bool, true, false, not, ◌&&◌, nat_le, bytes_eq, Result, Ok, Err}
 use Rattle.std.specs.List.{list_all}
 use Rattle.ark_base.specs.declared.block.Span.{Span}
 use Rattle.ark_base.specs.declared.kind.Kind.{Kind}
@@ -51,7 +51,7 @@ is_same a b = bytes_eq a.app b.app && bytes_eq a.label b.label
 
 -- so many of the areas are this application's
 abbrev pub count_of : List ℕ → List Held → ℕ
-count_of app held = length (filter (λ h. bytes_eq app h.area.app) held)
+count_of app held = count_by (λ h. bytes_eq app h.area.app) held
 
 -- The rules against other slots: no shared block, no (application, label) twice, at most 8 slots of one application.
 abbrev pub goes_with : List Held → Area → Bool
