@@ -6,3 +6,4 @@ pub mod Walking
 pub mod Pairing
 pub mod Tables
 pub mod Changing
+pub mod Fresh

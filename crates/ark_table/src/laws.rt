@@ -1,6 +1,7 @@
 // Laws of the definitions, each the contract of a function that does nothing.
-ghost use Rattle.std.specs.Prelude.{◌≡◌, ◌<◌, ◌≤◌, ◌+◌, ◌^◌, ℕ, List, set, true, false, length, count_by, Option, Some, None, Ok};
+ghost use Rattle.std.specs.Prelude.{◌≡◌, ◌<◌, ◌≤◌, ◌+◌, ◌^◌, ℕ, List, set, true, false, length, count_by, Option, Some, None, Ok, Err, [], replicate};
 ghost use Rattle.ark_media.specs.Journal.{block, zero_block};
+ghost use Rattle.ark_table.specs.Superblock.{superblock};
 ghost use Rattle.ark_table.specs.Area.{Area, area_in, area_bytes, is_area, is_free, is_used};
 ghost use Rattle.ark_table.specs.Slots.{Slot, slot_at, slot_bytes, slots_of, IsRight};
 ghost use Rattle.ark_table.specs.Table.{Together, area_at, is_of, HasTable, HasSlots, slots_in};
@@ -29,4 +30,10 @@ pub fn change_laws()
         → ((k : ℕ) (b : Area) → area_at table k ≡ Some b → Together a b) → count_by (is_of a.app) table + 1 ≤ 8 → HasTable (set table i (Some a)) (set image (i + 1) (area_bytes a)) }
     ensures grown_table { (table : List (Option Area)) (image : List (List ℕ)) (i : ℕ) → HasTable table image → i < 128 → (old a : Area) → area_at table i ≡ Some old → a.app ≡ old.app
         → is_area (length image) a ≡ true → ((k : ℕ) (b : Area) → (k ≡ i → ⊥) → area_at table k ≡ Some b → Together a b) → HasTable (set table i (Some a)) (set image (i + 1) (area_bytes a)) }
+{}
+
+/// A formatted device has no slot in use. One whose blocks are all zero is damaged at block 0.
+pub fn fresh_laws()
+    ensures fresh_is_empty { (n : ℕ) → 130 ≤ n → n ≤ 1048576 → slots_of (set (replicate n zero_block) 0 (superblock n)) ≡ Ok [] }
+    ensures zeros_are_damaged { (n : ℕ) → slots_of (replicate n zero_block) ≡ Err 0 }
 {}
