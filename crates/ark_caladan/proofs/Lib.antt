@@ -1,1 +1,4 @@
 mod Worked
+mod Commands
+mod Leaving
+mod Opening

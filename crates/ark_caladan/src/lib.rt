@@ -1,3 +1,7 @@
-//! What a log and a queue mean: their lists, their commands, and what a stop may leave. These are definitions for contracts;
-//! the crate has no code of its own.
+//! What a log and a queue mean: their lists, their commands, and what a stop may leave. These are definitions for contracts,
+//! and laws of them.
 #![tactic(auto)]
+
+mod laws;
+
+pub use laws::{append_leaves, command_laws, drop_leaves, list_laws, move_laws, opening_leaves};

@@ -6,3 +6,5 @@ pub mod Turning
 pub mod Opened
 pub mod Running
 pub mod Closing
+mod WorkedWork
+mod WorkedReport

@@ -3,3 +3,5 @@ pub mod Line
 pub mod Session
 pub mod Opening
 pub mod Ending
+pub mod Work
+pub mod Report

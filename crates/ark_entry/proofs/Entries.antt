@@ -19,13 +19,13 @@ blocks_hold len =
     (omega (arith, whole, part), omega (arith, whole, part))
 
 -- zeros between payload and marker
-pub gap : ℕ → ℕ
+unfoldable pub gap : ℕ → ℕ
 gap len = 512 * entry_blocks len - (28 + len)
 
-spelling : ℕ → ℕ → List ℕ → List ℕ
+unfoldable pub spelling : ℕ → ℕ → List ℕ → List ℕ
 spelling number next payload = head_bytes (length payload) number next ++ (payload ++ (replicate (gap (length payload)) 0 ++ marker))
 
-length-spelling : (number next : ℕ) (payload : List ℕ) → length (spelling number next payload) ≡ 512 * entry_blocks (length payload)
+pub length-spelling : (number next : ℕ) (payload : List ℕ) → length (spelling number next payload) ≡ 512 * entry_blocks (length payload)
 unfolding spelling gap
 length-spelling number next payload =
     let len = length payload in
@@ -38,7 +38,7 @@ length-spelling number next payload =
     omega (arith, whole, rest, fits)
 
 -- the bytes that are written last are the spelling
-marked-is : (number next : ℕ) (payload : List ℕ) → marked (entry_bytes number next payload) ≡ spelling number next payload
+pub marked-is : (number next : ℕ) (payload : List ℕ) → marked (entry_bytes number next payload) ≡ spelling number next payload
 unfolding spelling gap
 marked-is number next payload =
     let len = length payload in
@@ -57,7 +57,7 @@ marked-is number next payload =
     ∙ ap (λ t. head_bytes len number next ++ t) (append_assoc payload (replicate (gap len) 0) marker)
 
 -- the last 8 bytes of the spelling
-last_bytes : (number next : ℕ) (payload : List ℕ) → drop (512 * entry_blocks (length payload) - 8) (spelling number next payload) ≡ marker
+pub last_bytes : (number next : ℕ) (payload : List ℕ) → drop (512 * entry_blocks (length payload) - 8) (spelling number next payload) ≡ marker
 unfolding spelling gap
 last_bytes number next payload =
     let len = length payload in
@@ -71,7 +71,7 @@ last_bytes number next payload =
     ∙ drop-append_seam zeros marker
 
 -- the payload of the spelling
-middle_bytes : (number next : ℕ) (payload : List ℕ) → take (20 + length payload - 20) (drop 20 (spelling number next payload)) ≡ payload
+pub middle_bytes : (number next : ℕ) (payload : List ℕ) → take (20 + length payload - 20) (drop 20 (spelling number next payload)) ≡ payload
 unfolding spelling gap
 middle_bytes number next payload =
     let n : 20 + length payload - 20 ≡ length payload = omega arith in
@@ -108,7 +108,7 @@ last_block ring p n whole inside =
     ∙ drop-append-add (ring_bytes ring p n) (block ring ((p + n) % length ring)) 504
 
 -- what the first block says
-says_length : (len number next : ℕ) (rest : List ℕ) → len < 2 ^ 32 → length_in (take 512 (head_bytes len number next ++ rest)) ≡ len
+pub says_length : (len number next : ℕ) (rest : List ℕ) → len < 2 ^ 32 → length_in (take 512 (head_bytes len number next ++ rest)) ≡ len
 says_length len number next rest few = from_be_bytes-to_be_bytes_4 len few
 
 says_head : (room p len number next : ℕ) (rest : List ℕ) → len ≤ 32768 → entry_blocks len ≤ room → number ≤ 2 ^ 62 → next < 2 ^ 32 → next ≡ (p + entry_blocks len) % room

@@ -1,4 +1,10 @@
 mod Worked
-mod Headers
-mod Emptiness
-mod Entries
+pub mod Headers
+pub mod Emptiness
+pub mod Entries
+pub mod Readings
+pub mod Standing
+pub mod Drafts
+pub mod Appending
+pub mod Dropping
+pub mod Repairing

@@ -1,3 +1,6 @@
 pub mod Header
 pub mod Entry
 pub mod Found
+pub mod Reading
+pub mod Writing
+pub mod Repair

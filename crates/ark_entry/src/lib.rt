@@ -4,4 +4,6 @@
 
 mod laws;
 
-pub use laws::{empty_laws, entry_laws, header_laws};
+pub use laws::{
+    append_laws, drop_laws, empty_laws, entry_laws, found_laws, header_laws, repair_laws,
+};

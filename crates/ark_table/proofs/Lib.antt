@@ -1,2 +1,9 @@
 pub mod Laying
 mod Worked
+pub mod Spelling
+pub mod Gathering
+pub mod Walking
+pub mod Pairing
+pub mod Tables
+pub mod Changing
+pub mod Fresh

@@ -1,5 +1,5 @@
 -- The block of one slot, both ways. A slot in use has one spelling, so a block is right exactly where it is the spelling of its fields.
-use Rattle.std.specs.Prelude.{ℕ, zero, suc, ◌+◌, ◌-◌, List, [], ◌∷◌, ◌++◌, length, take, drop, replicate, slice_index, slice_range, codes, flat_map, sum_by, Bool, ◌&&◌, ◌==◌, nat_le, bytes_eq, if◌then◌else◌}
+use Rattle.std.specs.Prelude.{ℕ, zero, suc, ◌+◌, ◌-◌, List, [], ◌∷◌, ◌++◌, length, take, drop, replicate, slice_index, slice_range, codes, flat_map, Bool, ◌&&◌, ◌==◌, nat_le, bytes_eq, if◌then◌else◌}
 use Rattle.std.specs.Int.{w32, to_be_bytes, from_be_bytes}
 use Rattle.std.specs.List.{list_all}
 use Rattle.ark_base.specs.Name.{is_name, padded}
@@ -64,7 +64,8 @@ is_data size run = nat_le 129 run.start && nat_le (run.start + run.len) size
 
 -- so many blocks the runs have
 abbrev pub count_of : List Span → ℕ
-count_of runs = sum_by (λ run. run.len) runs
+count_of [] = 0
+count_of (run ∷ runs) = run.len + count_of runs
 
 -- a log or queue has two blocks
 abbrev pub least_blocks : Kind → ℕ

@@ -1,3 +1,4 @@
 pub mod Superblock
 pub mod Area
 pub mod Slots
+pub mod Table

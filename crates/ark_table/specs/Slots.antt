@@ -1,13 +1,14 @@
 -- The slots of a device: blocks 1 to 128 of its image.
-use Rattle.std.specs.Prelude.{ℕ, ◌+◌, List, [], ◌∷◌, ◌++◌, length, take, drop, map, filter, Bool, true, false, not, ◌&&◌, nat_le, bytes_eq, Result, Ok, Err}
+use Rattle.std.specs.Prelude.{◌≡◌, ◌<◌, ◌≤◌, Contains, ℕ, ◌+◌, List, [], ◌∷◌, ◌++◌, length, take, drop, map, count_by, Bool, true, false, not, ◌&&◌, nat_le, bytes_eq, Result, Ok, Err}
 use Rattle.std.specs.List.{list_all}
 use Rattle.ark_base.specs.declared.block.Span.{Span}
 use Rattle.ark_base.specs.declared.kind.Kind.{Kind}
+use Rattle.ark_base.specs.Name.{is_name}
 use Rattle.ark_media.specs.Journal.{block}
-use Rattle.ark_extents.specs.Blocks.{blocks_of, runs_of}
+use Rattle.ark_extents.specs.Blocks.{blocks_of, runs_of, AreDistinct}
 use Rattle.ark_extents.specs.Runs.{are_apart}
 use Rattle.ark_table.specs.Superblock.{superblock, slot_count}
-use Rattle.ark_table.specs.Area.{Area, area_in, area_bytes, is_free, is_used}
+use Rattle.ark_table.specs.Area.{Area, area_in, area_bytes, is_free, is_used, least_blocks}
 
 -- a slot in use, with the blocks of its area in order
 pub record Slot : Type 0 where
@@ -27,6 +28,15 @@ area_of s = record { app = s.app; label = s.label; kind = s.kind; runs = runs_of
 abbrev pub slot_bytes : Slot → List ℕ
 slot_bytes s = area_bytes (area_of s)
 
+-- the rules of a slot by itself, on a device of so many blocks
+pub record IsRight (size : ℕ) (s : Slot) : Type 0 where
+  pub app : is_name s.app ≡ true
+  pub label : is_name s.label ≡ true
+  pub some : least_blocks s.kind ≤ length s.blocks
+  pub data_part : (n : ℕ) → Contains s.blocks n → (129 ≤ n) × (n < size)
+  pub distinct : AreDistinct s.blocks
+  pub few_runs : length (runs_of s.blocks) ≤ 16
+
 -- an area, and the slot that says so
 pub record Held : Type 0 where
   pub index : ℕ
@@ -41,7 +51,7 @@ is_same a b = bytes_eq a.app b.app && bytes_eq a.label b.label
 
 -- so many of the areas are this application's
 abbrev pub count_of : List ℕ → List Held → ℕ
-count_of app held = length (filter (λ h. bytes_eq app h.area.app) held)
+count_of app held = count_by (λ h. bytes_eq app h.area.app) held
 
 -- The rules against other slots: no shared block, no (application, label) twice, at most 8 slots of one application.
 abbrev pub goes_with : List Held → Area → Bool

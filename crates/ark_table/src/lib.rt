@@ -1,6 +1,8 @@
 //! The table of grants on a device: its superblock, and how a new device is formatted.
 #![tactic(auto)]
 
+mod laws;
 mod superblock;
 
+pub use laws::{change_laws, fresh_laws, slot_laws, table_laws};
 pub use superblock::format;

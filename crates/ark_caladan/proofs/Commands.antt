@@ -1,0 +1,97 @@
+-- What commands do to a list.
+use Rattle.std.proofs.Common.{◌≡◌, ℕ, ◌+◌, ◌-◌, ◌*◌, List, [], ◌∷◌, ◌++◌, Bool, true, false, Option, Some, None, length, take, drop, get_or, refl, ◌∙◌, ap, arith, length-append}
+use Rattle.std.specs.Prelude.{Contains}
+use Rattle.std.proofs.lemmas.List.{get_or_append_left, get_or-append-add, get_or-drop, length-drop}
+use Rattle.ark_entry.specs.Entry.{entry_blocks}
+use Rattle.ark_entry.specs.Found.{Entries, Found, found, damaged}
+use Rattle.ark_caladan.specs.Chain.{Command, append, trim, pop, after, after_all, next_number, blocks_of, phases_of, moves_of, list_choices, stored_after, Log, lists, stored, in_progress}
+use Rattle.ark_caladan.specs.Numbers.{Has, payload_of, Fits, AllFit, GoesOn}
+
+pub append_adds : (l : Entries) (n : ℕ) (payload : List ℕ) → Fits l (append n payload)
+    → let m = after l (append n payload) in (m.first ≡ l.first) × (next_number m ≡ n + 1) × (payload_of m n ≡ payload)
+append_adds l n payload fits =
+    let long : length (l.payloads ++ payload ∷ []) ≡ length l.payloads + 1 = length-append l.payloads (payload ∷ []) in
+    let place : n - l.first ≡ length l.payloads + 0 = omega (arith, fits) in (
+      refl,
+      omega (arith, long, fits),
+      ap (λ (k : ℕ). get_or (l.payloads ++ payload ∷ []) k []) place ∙ get_or-append-add l.payloads (payload ∷ []) 0 [],
+    )
+
+pub trim_drops : (l : Entries) (n : ℕ) → Fits l (trim n) → let m = after l (trim n) in (m.first ≡ n) × (next_number m ≡ next_number l)
+trim_drops l n fits =
+    let long : length (drop (n - l.first) l.payloads) ≡ length l.payloads - (n - l.first) = length-drop (n - l.first) l.payloads in
+    (refl, omega (arith, long, fits.0, fits.1))
+
+pub pop_drops : (l : Entries) (n : ℕ) → Fits l (pop n) → let m = after l (pop n) in (m.first ≡ n + 1) × (next_number m ≡ next_number l)
+pop_drops l n fits =
+    let long : length (drop 1 l.payloads) ≡ length l.payloads - 1 = length-drop 1 l.payloads in
+    (omega (arith, fits.0), omega (arith, long, fits.1))
+
+goes_on : (l : Entries) (c : Command) → Fits l c → GoesOn l (after l c)
+goes_on l (append n payload) fits =
+    let adds = append_adds l n payload fits in
+    record {
+      first = omega arith;
+      next = omega (arith, adds.1, fits);
+      kept = λ i here there. get_or_append_left l.payloads (payload ∷ []) [] (i - l.first) (omega (arith, here.0, here.1));
+    }
+goes_on l (trim n) fits =
+    let drops = trim_drops l n fits in
+    record {
+      first = omega (arith, fits.0);
+      next = omega (arith, drops.1);
+      kept = λ i here there.
+          let place : n - l.first + (i - n) ≡ i - l.first = omega (arith, here.0, there.0, fits.0) in
+          get_or-drop (n - l.first) l.payloads (i - n) [] ∙ ap (λ (k : ℕ). get_or l.payloads k []) place;
+    }
+goes_on l (pop n) fits =
+    let drops = pop_drops l n fits in
+    record {
+      first = omega arith;
+      next = omega (arith, drops.1);
+      kept = λ i here there.
+          let place : 1 + (i - (l.first + 1)) ≡ i - l.first = omega (arith, here.0, there.0) in
+          get_or-drop 1 l.payloads (i - (l.first + 1)) [] ∙ ap (λ (k : ℕ). get_or l.payloads k []) place;
+    }
+
+-- commands one after another
+pub all_go_on : (l : Entries) (cs : List Command) → AllFit l cs → GoesOn l (after_all l cs)
+all_go_on l [] fit = record { first = omega arith; next = omega arith; kept = λ i here there. refl }
+all_go_on l (c ∷ cs) fit =
+    let one = goes_on l c fit.0 in
+    let rest = all_go_on (after l c) cs fit.1 in
+    record {
+      first = omega (arith, one.first, rest.first);
+      next = omega (arith, one.next, rest.next);
+      kept = λ i here there.
+          let between : Has (after l c) i = (omega (arith, there.0, rest.first), omega (arith, here.1, one.next)) in
+          rest.kept i between there ∙ one.kept i here between;
+    }
+
+-- the moves of the card's ring that a command takes
+pub append_moves : (l : Entries) (n : ℕ) (payload : List ℕ) → moves_of (phases_of l (append n payload)) ≡ entry_blocks (length payload) + 3
+append_moves l n payload = omega arith
+
+pub trim_moves : (l : Entries) (n : ℕ) → moves_of (phases_of l (trim n)) ≡ blocks_of (take (n - l.first) l.payloads) + 3
+trim_moves l n = omega arith
+
+pub pop_moves : (l : Entries) (n : ℕ) → moves_of (phases_of l (pop n)) ≡ 2 * blocks_of (take 1 l.payloads) + 3
+pop_moves l n = omega arith
+
+-- what a stop may leave
+acknowledged : (f : Found) (c : Option (Command × Bool)) → Contains (list_choices f c) f
+acknowledged (found l) (Some c) = (0, omega arith, refl)
+acknowledged (found l) None = (0, omega arith, refl)
+acknowledged (damaged n) c = (0, omega arith, refl)
+
+pub acknowledged_is_listed : (g : Log) → Contains (lists g) g.list
+acknowledged_is_listed g = acknowledged g.list (in_progress g)
+
+stored_too : (f : Found) (c : Option (Command × Bool)) → Contains (list_choices f c) (stored_after f c)
+stored_too (found l) (Some (c, true)) = (1, omega arith, refl)
+stored_too (found l) (Some (c, false)) = (0, omega arith, refl)
+stored_too (found l) None = (0, omega arith, refl)
+stored_too (damaged n) c = (0, omega arith, refl)
+
+pub stored_is_listed : (g : Log) → Contains (lists g) (stored g)
+stored_is_listed g = stored_too g.list (in_progress g)
