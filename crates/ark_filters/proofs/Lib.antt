@@ -1,3 +1,4 @@
+pub mod Mapped
 pub mod Meeting
 pub mod Receive
 pub mod Witness
@@ -6,5 +7,7 @@ pub mod Matched
 pub mod Padded
 pub mod Overlapping
 pub mod Together
+pub mod Kept
+pub mod OneTakes
 pub mod Worked
 pub mod WorkedOverlaps
