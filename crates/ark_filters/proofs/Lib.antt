@@ -7,6 +7,7 @@ pub mod Matched
 pub mod Padded
 pub mod Overlapping
 pub mod Together
+pub mod Clashing
 pub mod Kept
 pub mod OneTakes
 pub mod Worked

@@ -4,17 +4,12 @@ use Rattle.std.specs.List.{AllByRecursion, count_by, filter}
 use Rattle.std.proofs.lemmas.List.Sums.{length-filter}
 use Rattle.std.proofs.lemmas.Bool.{and_parts, and_from, false_from_ne_true, both_ways}
 use Rattle.ark_packet.specs.declared.own.Own.{Own}
-use Rattle.ark_filters.specs.declared.filter.Direction.{Direction}
-use Rattle.ark_filters.specs.declared.filter.Direction.TheVariants.{Rx, Tx}
 use Rattle.ark_filters.specs.declared.live.Live.{Live}
 use Rattle.ark_filters.specs.In.{is_in}
 use Rattle.ark_filters.specs.Overlap.{meets}
 use Rattle.ark_filters.specs.Rules.{is_rx, clashes, takes, Precedes, InOrder}
+use Rattle.ark_filters.proofs.Clashing.{receives}
 use Rattle.ark_filters.proofs.Together.{both_match}
-
-receives : (d : Direction) → is_rx d ≡ true → d ≡ Rx
-receives Rx h = refl
-receives Tx h = cc
 
 abbrev taken : List ℕ → Own → Live → Bool
 taken bytes own = takes (λ f. is_in f bytes own)

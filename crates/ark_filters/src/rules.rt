@@ -3,8 +3,7 @@ ghost use Rattle.std.specs.List.{All, list_any, count_by};
 ghost use Rattle.ark_packet.specs.Frame.{Says};
 ghost use Rattle.ark_packet.specs.declared.own.Own.{Own};
 ghost use Rattle.ark_filters.specs.In.{is_in};
-ghost use Rattle.ark_filters.specs.Overlap.{Overlaps};
-ghost use Rattle.ark_filters.specs.Rule.{IsRule, IsReceiveRule, IsOwn};
+ghost use Rattle.ark_filters.specs.Rule.{IsReceive, IsRule, IsOwn};
 ghost use Rattle.ark_filters.specs.Rules as spec;
 
 use crate::among;
@@ -64,6 +63,8 @@ impl Rules {
         requires later { All (λ live. live.grant < grant) self.old }
         ensures added { OnOk result (self.new ≡ self.old ++ record { owner = owner; grant = grant; filter = filter; vnic = None } ∷ []) }
         ensures overlap { (other : ℕ) → (result ≡ Err (AddRule.Overlap other)) ↔ (spec.first_clash filter self.old ≡ Some other) }
+        ensures earliest { (own : Own) (other : ℕ) → IsOwn own → result ≡ Err (AddRule.Overlap other) → spec.IsEarliest filter own self.old other }
+        ensures apart { (own : Own) → IsOwn own → IsReceive filter → OnOk result (All (λ live. ¬ spec.OverlapsLive filter own live) self.old) }
         ensures err { OnErr result (self.new ≡ self.old) }
     {
         match among::first_clash(&self.live, &filter) {
