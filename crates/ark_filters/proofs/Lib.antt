@@ -10,5 +10,6 @@ pub mod Together
 pub mod Clashing
 pub mod Kept
 pub mod OneTakes
+pub mod Single
 pub mod Worked
 pub mod WorkedOverlaps

@@ -1,3 +1,6 @@
+ghost use Rattle.ark_filters.specs.Filter.{Counted};
+ghost use Rattle.ark_filters.specs.Rule.{IsServiceOf, IsRule};
+
 use crate::{AddRule, Direction, Filter, Peers, Proto, Rules, Services, matches, overlaps};
 use ark_packet::{Own, read_frame};
 
@@ -14,7 +17,11 @@ const DATAGRAM: [u8; 44] = [
 ];
 
 // For every peer.
-fn filter(direction: Direction, proto: Proto, first: u16, last: u16) -> Filter {
+fn filter(direction: Direction, proto: Proto, first: u16, last: u16) -> Filter
+    requires range { IsServiceOf proto (first, last) }
+    ensures counted { Counted result }
+    ensures rule { IsRule result }
+{
     let mut services = [(0, 0); 8];
     services[0] = (first, last);
     Filter {
