@@ -54,10 +54,7 @@ impl Live {
     pub(crate) fn is_on(&self, vnic: u64) -> bool
         ensures on { result ≡ spec.is_on vnic self.now.vnic }
     {
-        match self.vnic {
-            Some(other) => other == vnic,
-            None => false,
-        }
+        self.vnic == Some(vnic)
     }
 
     // Assigns it to a VNIC, where its grant is this one.
