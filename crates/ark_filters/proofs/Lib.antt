@@ -10,6 +10,7 @@ pub mod Together
 pub mod Clashing
 pub mod Kept
 pub mod OneTakes
+pub mod Receiver
 pub mod Single
 pub mod Worked
 pub mod WorkedOverlaps

@@ -11,11 +11,11 @@ use Rattle.ark_filters.specs.Rules.{is_rx, clashes, takes, Precedes, InOrder}
 use Rattle.ark_filters.proofs.Clashing.{receives}
 use Rattle.ark_filters.proofs.Together.{both_match}
 
-abbrev taken : List ℕ → Own → Live → Bool
+abbrev pub taken : List ℕ → Own → Live → Bool
 taken bytes own = takes (λ f. is_in f bytes own)
 
 -- of two that do not overlap the one takes what the other does not
-apart : (bytes : List ℕ) (own : Own) (a b : Live) → clashes b.filter a ≡ false → taken bytes own a ≡ true → taken bytes own b ≡ true → ⊥
+pub apart : (bytes : List ℕ) (own : Own) (a b : Live) → clashes b.filter a ≡ false → taken bytes own a ≡ true → taken bytes own b ≡ true → ⊥
 apart bytes own a b none ha hb =
     let fa = and_parts (is_rx a.filter.direction) (is_in a.filter bytes own) (and_parts (is_some a.vnic) (is_rx a.filter.direction && is_in a.filter bytes own) ha).1 in
     let fb = and_parts (is_rx b.filter.direction) (is_in b.filter bytes own) (and_parts (is_some b.vnic) (is_rx b.filter.direction && is_in b.filter bytes own) hb).1 in

@@ -1,6 +1,6 @@
 -- The live filters in order of grant, and which of them a frame is for.
 use Rattle.std.specs.Prelude.{◌≡◌, ℕ, ◌<◌, List, [], ◌∷◌, ◌++◌, Bool, true, false, not, ◌&&◌, nat_eq, if◌then◌else◌, Option, Some, None, is_some, option_map, option_and_then}
-use Rattle.std.specs.List.{All, AllByRecursion, filter as select, find}
+use Rattle.std.specs.List.{All, AllByRecursion, Contains, filter as select, find}
 use Rattle.ark_packet.specs.declared.own.Own.{Own}
 use Rattle.ark_filters.specs.declared.filter.Filter.{Filter}
 use Rattle.ark_filters.specs.declared.filter.Direction.{Direction}
@@ -68,6 +68,14 @@ receiver live = option_map (λ vnic. (live.owner, vnic)) live.vnic
 -- whom a frame is for that passes these filters
 abbrev pub classified : (Filter → Bool) → List Live → Option (ℕ × ℕ)
 classified passes rules = option_and_then receiver (find (takes passes) rules)
+
+-- The frame is for this owner and this VNIC: a receive filter of theirs passes.
+pub record IsFor (passes : Filter → Bool) (rules : List Live) (owner vnic : ℕ) : Type 0 where
+  pub live : Live
+  pub among : Contains rules live
+  pub passing : takes passes live ≡ true
+  pub owned : live.owner ≡ owner
+  pub used : live.vnic ≡ Some vnic
 
 -- a transmit filter that is assigned to the VNIC, and passes
 abbrev pub sends : (Filter → Bool) → ℕ → Live → Bool

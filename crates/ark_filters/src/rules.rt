@@ -119,6 +119,7 @@ impl Rules {
     /// `None` exactly where there is none.
     pub fn classify(&self, frame: &Frame<'_>, own: &Own) -> Option<(u8, u64)>
         ensures found { (bytes : List ℕ) → Says bytes frame.now → result ≡ spec.classified (λ f. is_in f bytes own.now) self.now }
+        ensures receiver { (bytes : List ℕ) → Says bytes frame.now → (owner vnic : ℕ) → (result ≡ Some (owner, vnic)) ↔ spec.IsFor (λ f. is_in f bytes own.now) self.now owner vnic }
         ensures one { (bytes : List ℕ) → count_by (spec.takes (λ f. is_in f bytes own.now)) self.now ≤ 1 }
     {
         among::classify(&self.live, frame, own)

@@ -10,6 +10,13 @@ const OWN: Own = Own {
     gateway: [0; 6],
 };
 
+// The other end.
+const SENDER: Own = Own {
+    mac: [2, 0, 0, 0, 0, 2],
+    ip: [10, 0, 0, 2],
+    gateway: [0; 6],
+};
+
 // From port 7 of 10.0.0.2 to port 8080 of 10.0.0.1.
 const DATAGRAM: [u8; 44] = [
     2, 0, 0, 0, 0, 1, 2, 0, 0, 0, 0, 2, 8, 0, 0x45, 0, 0, 0x1e, 0, 0, 0, 0, 64, 17, 0x66, 0xcd, 10,
@@ -61,10 +68,6 @@ fn a_frame_finds_its_card(rt: HostRuntime) {
     let ports = filter(Direction::Rx, Proto::Udp, 8000, 8080);
     assert_eq!(rt; rules.add(1, 5, ports), Ok(()));
     assert_eq!(rt; rules.add(2, 6, ports), Err(AddRule::Overlap(5)));
-    assert_eq!(rt;
-        rules.add(2, 6, filter(Direction::Tx, Proto::Udp, 8080, 8080)),
-        Ok(())
-    );
     assert_eq!(rt; rules.classify(&frame, &OWN), None);
     rules.assign(5, 9);
     assert_eq!(rt; rules.classify(&frame, &OWN), Some((1, 9)));
@@ -73,4 +76,16 @@ fn a_frame_finds_its_card(rt: HostRuntime) {
     assert_eq!(rt; rules.classify(&frame, &OWN), None);
     rules.remove(5);
     assert_eq!(rt; rules.add(2, 7, ports), Ok(()));
+}
+
+#[test]
+fn a_card_sends_a_frame(rt: HostRuntime) {
+    let mut rules = Rules::new(rt.alloc()).expect(&rt, "rules");
+    let frame = read_frame(&DATAGRAM);
+    let port = filter(Direction::Tx, Proto::Udp, 7, 7);
+    assert_eq!(rt; rules.add(2, 6, port), Ok(()));
+    assert!(rt; !rules.allows(8, &frame, &SENDER));
+    rules.assign(6, 8);
+    assert!(rt; rules.allows(8, &frame, &SENDER));
+    assert!(rt; !rules.allows(9, &frame, &SENDER));
 }
