@@ -42,7 +42,7 @@ clashes new live = is_rx new.direction && (is_rx live.filter.direction && meets 
 abbrev pub first_clash : Filter → List Live → Option ℕ
 first_clash new rules = option_map (λ live. live.grant) (find (clashes new) rules)
 
--- a live receive filter that some frame matches as it matches the new one
+-- a live receive filter that overlaps the new one
 pub record OverlapsLive (new : Filter) (own : Own) (live : Live) : Type 0 where
   pub direction : IsReceive live.filter
   pub frame : Overlaps new live.filter own
@@ -57,7 +57,7 @@ pub record IsEarliest (new : Filter) (own : Own) (rules : List Live) (grant : �
   pub overlaps : OverlapsLive new own live
   pub first : All (λ other. OverlapsLive new own other → ⊥) before
 
--- a receive filter that is assigned, and passes
+-- a receive filter that is assigned and takes the frame: passes says which filters it matches
 abbrev pub takes : (Filter → Bool) → Live → Bool
 takes passes live = is_some live.vnic && (is_rx live.filter.direction && passes live.filter)
 
@@ -65,7 +65,7 @@ takes passes live = is_some live.vnic && (is_rx live.filter.direction && passes 
 abbrev pub receiver : Live → Option (ℕ × ℕ)
 receiver live = option_map (λ vnic. (live.owner, vnic)) live.vnic
 
--- whom a frame is for that passes these filters
+-- owner and VNIC of the first that takes the frame
 abbrev pub classified : (Filter → Bool) → List Live → Option (ℕ × ℕ)
 classified passes rules = option_and_then receiver (find (takes passes) rules)
 
