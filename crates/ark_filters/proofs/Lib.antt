@@ -1,3 +1,4 @@
+pub mod Mapped
 pub mod Meeting
 pub mod Receive
 pub mod Witness
@@ -6,5 +7,10 @@ pub mod Matched
 pub mod Padded
 pub mod Overlapping
 pub mod Together
+pub mod Clashing
+pub mod Kept
+pub mod OneTakes
+pub mod Receiver
+pub mod Single
 pub mod Worked
 pub mod WorkedOverlaps

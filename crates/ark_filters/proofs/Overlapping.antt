@@ -32,6 +32,16 @@ zeros_mac = record { six = refl; octets = octets-each zeros (omega arith, (omega
 zeros_padded : IsPadded zeros
 zeros_padded = record { mac = zeros_mac; fifth = refl; sixth = refl }
 
+-- any end at all
+abbrev pub some_own : Own
+some_own = record { mac = zeros; ip = replicate 4 0; gateway = zeros }
+
+pub some_is_own : IsOwn some_own
+some_is_own = record {
+  mac = zeros_mac;
+  ip = record { four = refl; octets = octets-each (replicate 4 0) (omega arith, (omega arith, (omega arith, (omega arith, tt)))) };
+}
+
 is_range : (proto : Proto) (r : ℕ × ℕ) → IsServiceOf proto r → IsRange (last_service proto) r
 is_range Eth r h = record { rising = omega (arith, h.rising); most = h.most }
 is_range Ip r h = record { rising = omega (arith, h.rising); most = h.most }
@@ -52,7 +62,7 @@ by_frame f g own source from type protocol port is hs hf hp first second = recor
   second = second;
 }
 
-turned : (f g : Filter) (own : Own) → Overlaps f g own → Overlaps g f own
+pub turned : (f g : Filter) (own : Own) → Overlaps f g own → Overlaps g f own
 turned f g own h = record { frame = h.frame; at_least = h.at_least; at_most = h.at_most; octets = h.octets; first = h.second; second = h.first }
 
 -- the same address for both

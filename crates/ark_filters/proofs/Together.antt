@@ -92,11 +92,14 @@ share Tcp Udp a c b d own bytes hf hg =
     apart : (n : ℕ) → n ≡ 6 → n ≡ 17 → ⊥
     apart n h k = omega arith
 
-pub overlap_meets : (f g : Filter) (own : Own) → f.direction ≡ Rx → g.direction ≡ Rx → Overlaps f g own → meets f g ≡ true
-overlap_meets f g own hf hg both =
+pub both_match : (f g : Filter) (own : Own) (bytes : List ℕ) → f.direction ≡ Rx → g.direction ≡ Rx → is_in f bytes own ≡ true → is_in g bytes own ≡ true → meets f g ≡ true
+both_match f g own bytes hf hg first second =
     let h : Filter = receive f.proto f.peers f.services in
     let k : Filter = receive g.proto g.peers g.services in
-    let first : is_in h both.frame own ≡ true = subst (λ (x : Filter). is_in x both.frame own ≡ true) (sym (is_receive f hf)) both.first in
-    let second : is_in k both.frame own ≡ true = subst (λ (x : Filter). is_in x both.frame own ≡ true) (sym (is_receive g hg)) both.second in
-    let met : meets h k ≡ true = share f.proto g.proto f.peers g.peers f.services g.services own both.frame first second in
+    let one : is_in h bytes own ≡ true = subst (λ (x : Filter). is_in x bytes own ≡ true) (sym (is_receive f hf)) first in
+    let two : is_in k bytes own ≡ true = subst (λ (x : Filter). is_in x bytes own ≡ true) (sym (is_receive g hg)) second in
+    let met : meets h k ≡ true = share f.proto g.proto f.peers g.peers f.services g.services own bytes one two in
     subst (λ (x : Filter). meets f x ≡ true) (is_receive g hg) (subst (λ (x : Filter). meets x k ≡ true) (is_receive f hf) met)
+
+pub overlap_meets : (f g : Filter) (own : Own) → f.direction ≡ Rx → g.direction ≡ Rx → Overlaps f g own → meets f g ≡ true
+overlap_meets f g own hf hg both = both_match f g own both.frame hf hg both.first both.second

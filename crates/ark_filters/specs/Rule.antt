@@ -56,10 +56,14 @@ pub record IsRule (f : Filter) : Type 0 where
   pub no_peers : drop f.peers.count f.peers.items ≡ replicate (8 - f.peers.count) (replicate 6 0)
   pub no_services : drop f.services.count f.services.items ≡ replicate (8 - f.services.count) (0, 0)
 
--- such a filter of frames that come in
+-- of frames that come in
+abbrev pub IsReceive : Filter → Type 0
+IsReceive f = f.direction ≡ Rx
+
+-- both
 pub record IsReceiveRule (f : Filter) : Type 0 where
   pub rule : IsRule f
-  pub direction : f.direction ≡ Rx
+  pub direction : IsReceive f
 
 -- the addresses of an end
 pub record IsOwn (own : Own) : Type 0 where

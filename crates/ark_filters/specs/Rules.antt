@@ -1,12 +1,13 @@
 -- The live filters in order of grant, and which of them a frame is for.
-use Rattle.std.specs.Prelude.{◌≡◌, ℕ, ◌<◌, List, [], ◌∷◌, Bool, true, false, not, ◌&&◌, nat_eq, if◌then◌else◌, Option, Some, None, is_some, option_map, option_and_then}
-use Rattle.std.specs.List.{All, AllByRecursion, filter as select, find}
+use Rattle.std.specs.Prelude.{◌≡◌, ℕ, ◌<◌, List, [], ◌∷◌, ◌++◌, Bool, true, false, not, ◌&&◌, nat_eq, if◌then◌else◌, Option, Some, None, is_some, option_map, option_and_then}
+use Rattle.std.specs.List.{All, AllByRecursion, Contains, filter as select, find}
+use Rattle.ark_packet.specs.declared.own.Own.{Own}
 use Rattle.ark_filters.specs.declared.filter.Filter.{Filter}
 use Rattle.ark_filters.specs.declared.filter.Direction.{Direction}
 use Rattle.ark_filters.specs.declared.filter.Direction.TheVariants.{Rx, Tx}
 use Rattle.ark_filters.specs.declared.live.Live.{Live}
-use Rattle.ark_filters.specs.Overlap.{meets}
-use Rattle.ark_filters.specs.Rule.{IsRule}
+use Rattle.ark_filters.specs.Overlap.{Overlaps, meets}
+use Rattle.ark_filters.specs.Rule.{IsReceive, IsRule}
 
 abbrev pub is_rx : Direction → Bool
 is_rx Rx = true
@@ -41,7 +42,22 @@ clashes new live = is_rx new.direction && (is_rx live.filter.direction && meets 
 abbrev pub first_clash : Filter → List Live → Option ℕ
 first_clash new rules = option_map (λ live. live.grant) (find (clashes new) rules)
 
--- a receive filter that is assigned, and passes
+-- a live receive filter that overlaps the new one
+pub record OverlapsLive (new : Filter) (own : Own) (live : Live) : Type 0 where
+  pub direction : IsReceive live.filter
+  pub frame : Overlaps new live.filter own
+
+-- This grant is that of the earliest.
+pub record IsEarliest (new : Filter) (own : Own) (rules : List Live) (grant : ℕ) : Type 0 where
+  pub before : List Live
+  pub live : Live
+  pub after : List Live
+  pub list : rules ≡ before ++ live ∷ after
+  pub granted : live.grant ≡ grant
+  pub overlaps : OverlapsLive new own live
+  pub first : All (λ other. OverlapsLive new own other → ⊥) before
+
+-- a receive filter that is assigned and takes the frame: passes says which filters it matches
 abbrev pub takes : (Filter → Bool) → Live → Bool
 takes passes live = is_some live.vnic && (is_rx live.filter.direction && passes live.filter)
 
@@ -49,9 +65,17 @@ takes passes live = is_some live.vnic && (is_rx live.filter.direction && passes 
 abbrev pub receiver : Live → Option (ℕ × ℕ)
 receiver live = option_map (λ vnic. (live.owner, vnic)) live.vnic
 
--- whom a frame is for that passes these filters
+-- owner and VNIC of the first that takes the frame
 abbrev pub classified : (Filter → Bool) → List Live → Option (ℕ × ℕ)
 classified passes rules = option_and_then receiver (find (takes passes) rules)
+
+-- The frame is for this owner and this VNIC: a receive filter of theirs passes.
+pub record IsFor (passes : Filter → Bool) (rules : List Live) (owner vnic : ℕ) : Type 0 where
+  pub live : Live
+  pub among : Contains rules live
+  pub passing : takes passes live ≡ true
+  pub owned : live.owner ≡ owner
+  pub used : live.vnic ≡ Some vnic
 
 -- a transmit filter that is assigned to the VNIC, and passes
 abbrev pub sends : (Filter → Bool) → ℕ → Live → Bool

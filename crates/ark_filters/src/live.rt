@@ -28,7 +28,9 @@ impl Live {
         requires new_one { Counted new.now }
         ensures clashed { result ≡ spec.clashes new.now self.now }
     {
-        new.direction == Direction::Rx && self.filter.direction == Direction::Rx && overlaps(new, &self.filter)
+        new.direction == Direction::Rx
+            && self.filter.direction == Direction::Rx
+            && overlaps(new, &self.filter)
     }
 
     // Whether it is a receive filter in use that a frame passes.
@@ -36,16 +38,40 @@ impl Live {
         requires live { Counted self.now.filter }
         ensures taken { result ≡ spec.takes (λ f. frame_matches f frame.now own.now) self.now }
     {
-        self.vnic.is_some() && self.filter.direction == Direction::Rx && matches(&self.filter, frame, own)
+        self.vnic.is_some()
+            && self.filter.direction == Direction::Rx
+            && matches(&self.filter, frame, own)
+    }
+
+    // Owner and VNIC, where it is assigned to one.
+    pub(crate) fn receiver(&self) -> Option<(u8, u64)>
+        ensures receiver { result ≡ spec.receiver self.now }
+    {
+        self.vnic.map(|vnic| (self.owner, vnic))
     }
 
     // Whether it is assigned to a VNIC.
     pub(crate) fn is_on(&self, vnic: u64) -> bool
         ensures on { result ≡ spec.is_on vnic self.now.vnic }
     {
-        match self.vnic {
-            Some(other) => other == vnic,
-            None => false,
+        self.vnic == Some(vnic)
+    }
+
+    // Assigns it to a VNIC, where its grant is this one.
+    pub(crate) fn assign(&mut self, grant: u64, vnic: u64)
+        ensures assigned { self.new ≡ spec.assigned grant vnic self.old }
+    {
+        if self.grant == grant {
+            self.vnic = Some(vnic);
+        }
+    }
+
+    // Assigns it to none, where it was assigned to this VNIC.
+    pub(crate) fn unassign(&mut self, vnic: u64)
+        ensures unassigned { self.new ≡ spec.unassigned vnic self.old }
+    {
+        if self.is_on(vnic) {
+            self.vnic = None;
         }
     }
 
@@ -54,6 +80,8 @@ impl Live {
         requires live { Counted self.now.filter }
         ensures sent { result ≡ spec.sends (λ f. frame_matches f frame.now own.now) vnic self.now }
     {
-        self.is_on(vnic) && self.filter.direction == Direction::Tx && matches(&self.filter, frame, own)
+        self.is_on(vnic)
+            && self.filter.direction == Direction::Tx
+            && matches(&self.filter, frame, own)
     }
 }

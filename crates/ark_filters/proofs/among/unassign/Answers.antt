@@ -1,0 +1,6 @@
+use Rattle.ark_filters.specs.Rules as spec
+use Rattle.ark_filters.proofs.Mapped.{mapped_more}
+use Rattle.ark_filters.proofs.among.unassign.Goals as goal
+
+pub loop-live-preserved : goal.loop-live-preserved
+loop-live-preserved c = mapped_more (spec.unassigned c.args.vnic) c.args.rules.now c.loop-live.live-items c.loop-live.live-index _ c.unassign.new.self c.loop-live-test.true c.loop-live.invariant c.unassign.ensures.unassigned
