@@ -1,6 +1,5 @@
 -- The three commands, as clap builds them.
 use Rattle.std.proofs.Common.{◌≡◌, ◌≢◌, ◌<◌, ◌||◌, ℕ, zero, suc, Bool, true, false, cond, not, List, [], ◌∷◌, Some, refl, sym, codes, get_or, arith, ne_eqb, bytes_eq, subst, true≢false}
-use Rattle.std.specs.Prelude.{nat_eq}
 use Rattle.std.proofs.lemmas.Bool.{or_parts, not-false}
 use Rattle.clap.specs.Walk.{Row, Rule, arg_by_id, arg_by_index, nothing_held, with_default}
 use Rattle.clap.specs.Simple.{built, matches_of}
@@ -11,7 +10,8 @@ use Rattle.ark_words.specs.Apps.{run_app, check_app, work_app}
 use Rattle.ark_words.specs.Sorted.{Text, sorted}
 use Rattle.ark_words.proofs.Table.{Table, taken, refused, new_built, word_built, is_lacking}
 use Rattle.ark_words.proofs.Standing.{Agrees}
-use Rattle.ark_words.proofs.Law.{AllText, law}
+use Rattle.ark_words.proofs.Ends.{AllText}
+use Rattle.ark_words.proofs.Law.{law}
 
 -- ---- no argument has a default
 
@@ -30,9 +30,6 @@ word_default : (rows : List Row) (i : ℕ) (id : Text) → (default_fault rows (
 word_default rows i id = (rw or_true refl, same_either _ rows)
 
 -- ---- the plain words of a command
-
-not_one : (j k : ℕ) → j ≢ k → nat_eq j k ≡ false
-not_one j k ne = ne_eqb j k ne
 
 is_there : (b : Bool) → (not b || false) ≡ false → b ≡ true
 is_there true e = refl

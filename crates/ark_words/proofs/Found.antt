@@ -8,7 +8,7 @@ use Rattle.ark_words.specs.Apps.{run_app, check_app, work_app, SortsTo}
 use Rattle.ark_words.specs.Sorted.{Text, Sorted, sorted}
 use Rattle.ark_words.proofs.RowLemmas.{row}
 use Rattle.ark_words.proofs.Standing.{Agrees, Fits}
-use Rattle.ark_words.proofs.Law.{AllText}
+use Rattle.ark_words.proofs.Ends.{AllText}
 use Rattle.ark_words.proofs.Commands.{device_only, three, check_agrees, run_agrees, work_agrees}
 
 pub all_text : (words : List (String Global)) → AllText (map string_bytes words)

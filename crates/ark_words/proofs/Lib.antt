@@ -3,6 +3,7 @@ pub mod RowLemmas
 pub mod Table
 pub mod Turns
 pub mod Standing
+pub mod Ends
 pub mod Law
 pub mod Commands
 pub mod Found

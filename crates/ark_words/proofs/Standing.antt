@@ -59,14 +59,6 @@ pub joined_new : (ps : List Text) (v : Text) (o : Option Sorted) → joined [] p
 joined_new ps v None = refl
 joined_new ps v (Some s) = refl
 
--- the words so far are among all of them
-pub joined_lengths : (ns ps : List Text) (o : Option Sorted) (s : Sorted) → joined ns ps o ≡ Some s → (length ns ≤ length s.new) × (length ps ≤ length s.plain)
-joined_lengths ns ps None s e = cc
-joined_lengths ns ps (Some r) s e =
-    let new : ns ++ r.new ≡ s.new = ap (λ (q : Sorted). q.new) (some_injective _ _ e) in
-    let plain : ps ++ r.plain ≡ s.plain = ap (λ (q : Sorted). q.plain) (some_injective _ _ e) in
-    rw (← new, ← plain, length-append, length-append) (omega arith, omega arith)
-
 pub joined_more_new : (ns ps : List Text) (v : Text) (o : Option Sorted) (s : Sorted) → joined ns ps (with_new v o) ≡ Some s → length ns < length s.new
 joined_more_new ns ps v None s e = cc
 joined_more_new ns ps v (Some r) s e =

@@ -56,7 +56,7 @@ sorted_word plain word rest sort = with_plain word (sort false)
 
 -- the words from left to right, where `awaited` says that the first is the value of a `--new` before it; None where one
 -- of them is a fault, or begins with `-` where a value is awaited
-abbrev pub sorted_from : Bool → List Text → Option Sorted
+abbrev pub sorted_from : (awaited : Bool) → List Text → Option Sorted
 sorted_from true [] = None
 sorted_from true (value ∷ rest) = if is_dashed value then None else with_new value (sorted_from false rest)
 sorted_from false [] = Some no_words

@@ -8,3 +8,6 @@ mod words;
 
 pub use task::{Task, WordsFault};
 pub use words::read_words;
+
+#[cfg(test)]
+mod tests;
