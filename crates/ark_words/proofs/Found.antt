@@ -4,8 +4,8 @@ use Rattle.std.proofs.lemmas.Str.{IsUtf8-string_bytes}
 use Rattle.clap.specs.Walk.{Row, first_of}
 use Rattle.clap.specs.Simple.{matches_of}
 use Rattle.clap.specs.Faults.{fault_of}
-use Rattle.ark_words.specs.Apps.{run_app, check_app, work_app, SortsTo}
-use Rattle.ark_words.specs.Sorted.{Text, Sorted, sorted}
+use Rattle.ark_words.specs.Apps.{run_app, check_app, work_app}
+use Rattle.ark_words.specs.Sorted.{Text, Sorted, sorted, SortsTo}
 use Rattle.ark_words.proofs.RowLemmas.{row}
 use Rattle.ark_words.proofs.Standing.{Agrees, Fits}
 use Rattle.ark_words.proofs.Ends.{AllText}

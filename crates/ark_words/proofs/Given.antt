@@ -1,8 +1,7 @@
 -- From sorted words to the command that they give.
 use Rattle.std.proofs.Common.{◌≡◌, ◌≢◌, ◌∙◌, ◌≤◌, ◌<◌, ◌^◌, ℕ, List, [], ◌∷◌, Option, Some, None, IfSome, length, refl, sym, ap, codes, decimal, bytes_eq, arith, true≢false}
 use Rattle.std.proofs.lemmas.Fmt.{decimal_injective}
-use Rattle.ark_words.specs.Apps.{SortsTo}
-use Rattle.ark_words.specs.Sorted.{Text, Sorted, sorted}
+use Rattle.ark_words.specs.Sorted.{Text, Sorted, sorted, SortsTo}
 use Rattle.ark_words.specs.Words.{Command, run, check, work, IsCommand, IsSize, Says, given}
 
 abbrev sorted_of : List Text → List Text → Sorted

@@ -1,8 +1,8 @@
 -- The commands as `clap` sees them: their options and arguments.
-use Rattle.std.specs.Prelude.{◌≡◌, ◌≤◌, ℕ, true, List, Some, length, codes}
+use Rattle.std.specs.Prelude.{true, Some, codes}
 use Rattle.clap.specs.Words.{App, Rule, new_app, new_rule, with_rule}
 use Rattle.clap.specs.declared.builder.ArgAction.TheVariants.{Set}
-use Rattle.ark_words.specs.Sorted.{Text, Sorted, sorted}
+use Rattle.ark_words.specs.Sorted.{Text}
 
 -- a plain word that is wanted
 abbrev pub wanted : Text → Rule
@@ -25,9 +25,3 @@ check_app = with_rule (bare (codes "check")) (wanted (codes "device"))
 
 abbrev pub work_app : App
 work_app = with_rule (with_rule (with_rule (bare (codes "work")) (wanted (codes "seed"))) (wanted (codes "lines"))) (wanted (codes "device"))
-
--- the words sort into some for `--new`, at most so many, and so many plain ones
-pub record SortsTo (words : List Text) (most count : ℕ) (s : Sorted) : Type 0 where
-  pub is : sorted words ≡ Some s
-  pub new : length s.new ≤ most
-  pub plain : length s.plain ≡ count

@@ -1,5 +1,5 @@
 -- Words sorted into the values of `--new` and the plain words.
-use Rattle.std.specs.Prelude.{ℕ, Bool, true, false, List, [], ◌∷◌, Option, Some, None, if◌then◌else◌, ◌==◌, take, drop, option_map, bytes_eq, codes}
+use Rattle.std.specs.Prelude.{◌≡◌, ◌≤◌, ℕ, Bool, true, false, List, [], ◌∷◌, Option, Some, None, if◌then◌else◌, ◌==◌, take, drop, length, option_map, bytes_eq, codes}
 
 abbrev pub Text : Type 0
 Text = List ℕ
@@ -64,3 +64,9 @@ sorted_from false (word ∷ rest) = sorted_word (kind_of word) word rest (λ awa
 
 abbrev pub sorted : List Text → Option Sorted
 sorted words = sorted_from false words
+
+-- the words sort into at most so many for `--new`, and so many plain ones
+pub record SortsTo (words : List Text) (most count : ℕ) (s : Sorted) : Type 0 where
+  pub is : sorted words ≡ Some s
+  pub new : length s.new ≤ most
+  pub plain : length s.plain ≡ count

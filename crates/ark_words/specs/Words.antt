@@ -2,9 +2,11 @@
 use Rattle.std.specs.Prelude.{◌≡◌, ◌≢◌, ◌≤◌, ◌<◌, ◌^◌, ℕ, List, [], ◌∷◌, Option, Some, None, IfSome, codes, decimal}
 use Rattle.ark_words.specs.Sorted.{Text, Sorted, sorted}
 
+-- what a command asks for, as plain data
 pub data Command : Type 0 where
-  -- the blocks of a device that is to be made, where one is, and the device
+  -- the blocks of the device, where it is to be made, and the device
   run : Option ℕ → Text → Command
+  -- the device
   check : Text → Command
   -- the seed, the lines and the device
   work : ℕ → ℕ → Text → Command
@@ -18,10 +20,11 @@ abbrev pub given : Option ℕ → List Text
 given None = []
 given (Some n) = decimal n ∷ []
 
--- a device has from 130 to 1,048,576 blocks
+-- a device that is made has from 130 to 1,048,576 blocks
 abbrev pub IsSize : ℕ → Type 0
 IsSize n = (130 ≤ n) × (n ≤ 1048576)
 
+-- the words are of the set of commands, and give this one
 abbrev pub IsCommand : List Text → Command → Type 0
 IsCommand words (run blocks device) =
     Says words (codes "run") (record { new = given blocks; plain = device ∷ [] }) × IfSome blocks IsSize × (device ≢ [])

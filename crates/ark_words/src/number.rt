@@ -1,8 +1,8 @@
 //! Numbers in decimal, as the words give them.
-ghost use Rattle.std.specs.Prelude.{◌≡◌, ◌≤◌, ◌<◌, ◌^◌, ◌↔◌, ℕ, IsTrue, IfSome, IfNone, slice_index, length, decimal};
+ghost use Rattle.std.specs.Prelude.{◌≡◌, ◌≤◌, ◌<◌, ◌^◌, ◌↔◌, ℕ, IsTrue, IfSome, IfNone, slice_index, decimal};
 ghost use Rattle.std.specs.Int.{IsInRange};
 
-/// The number from `least` to `most` that a text gives in decimal digits, with no sign and no leading zero.
+/// The number from `least` to `most` that a text gives, if it does: in decimal digits, with no sign and no leading zero.
 pub fn read_number(text: &str, least: u64, most: u64) -> Option<u64>
     ensures number { IfSome result (λ n. text.now ≡ decimal n) }
     ensures low { IfSome result (λ n. least ≤ n) }

@@ -1,8 +1,8 @@
 //! The words after a command's name, sorted by `clap`.
-ghost use Rattle.std.specs.Prelude.{◌≡◌, ◌≢◌, ℕ, List, [], ◌∷◌, Some, IfOk, IfErr, map, string_bytes, codes, option_map, option_to_list, false, true};
-ghost use Rattle.clap.specs.Words.{App, app_of, rule_of, fault_of, first_of, matches_of, rows_of, found_of, is_simple_and_free, kind_of};
-ghost use Rattle.ark_words.specs.Apps.{bare, check_app, new_option, run_app, wanted, work_app, SortsTo};
-ghost use Rattle.ark_words.specs.Sorted.{Sorted};
+ghost use Rattle.std.specs.Prelude.{◌≡◌, ◌≢◌, [], ◌∷◌, IfOk, map, string_bytes, option_map, option_to_list, false, true};
+ghost use Rattle.clap.specs.Words.{app_of, rule_of, fault_of, matches_of, rows_of, found_of, is_simple_and_free};
+ghost use Rattle.ark_words.specs.Apps.{bare, check_app, run_app, wanted, work_app};
+ghost use Rattle.ark_words.specs.Sorted.{Sorted, SortsTo};
 
 use crate::task::WordsFault;
 use clap::error::ErrorKind;

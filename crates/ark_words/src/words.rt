@@ -1,5 +1,5 @@
 //! The task that words give.
-ghost use Rattle.std.specs.Prelude.{◌≡◌, ◌∷◌, ℕ, IfOk, codes, map, string_bytes};
+ghost use Rattle.std.specs.Prelude.{◌≡◌, ◌∷◌, IfOk, codes, map, string_bytes};
 ghost use Rattle.ark_words.specs.Words.{Command, IsCommand};
 ghost use Rattle.ark_words.specs.Told.{told};
 
@@ -15,7 +15,8 @@ const MOST_BLOCKS: u64 = 1_048_576;
 
 const MOST_LINES: u64 = 1_000_000;
 
-/// Reads the words after the program's name.
+/// Reads the words after the program's name. It fails with `Usage` only where they are of no command, and with `Memory`
+/// only for want of memory.
 #[tactic(auto, using(crate::proofs::Given::only))]
 pub fn read_words<'a>(alloc: Global, words: &'a [String]) -> Result<Task<'a>, WordsFault>
     ensures task { IfOk result (λ task. IsCommand (map string_bytes words.entry.now) (told task)) }
