@@ -15,8 +15,7 @@ const MOST_BLOCKS: u64 = 1_048_576;
 
 const MOST_LINES: u64 = 1_000_000;
 
-/// Reads the words after the program's name. It fails with `Usage` only where they are of no command, and with `Memory`
-/// only for want of memory.
+/// Reads the words after the program's name. `Usage` says that they are of no command, and `Memory` that memory ran out.
 #[tactic(auto, using(crate::proofs::Given::only))]
 pub fn read_words<'a>(alloc: Global, words: &'a [String]) -> Result<Task<'a>, WordsFault>
     ensures task { IfOk result (λ task. IsCommand (map string_bytes words.entry.now) (told task)) }
