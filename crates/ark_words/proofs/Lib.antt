@@ -1,0 +1,10 @@
+pub mod Seen
+pub mod RowLemmas
+pub mod Table
+pub mod Turns
+pub mod Standing
+pub mod Ends
+pub mod Law
+pub mod Commands
+pub mod Found
+pub mod Given

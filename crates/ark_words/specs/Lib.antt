@@ -1,0 +1,4 @@
+pub mod Apps
+pub mod Sorted
+pub mod Told
+pub mod Words
