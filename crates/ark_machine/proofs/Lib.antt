@@ -1,3 +1,6 @@
 pub mod Playing
 pub mod Scripts
+pub mod Rules
 pub mod Areas
+pub mod Overlaps
+pub mod Sending
