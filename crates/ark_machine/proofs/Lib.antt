@@ -4,3 +4,5 @@ pub mod Rules
 pub mod Areas
 pub mod Overlaps
 pub mod Sending
+pub mod Sockets
+pub mod Network
