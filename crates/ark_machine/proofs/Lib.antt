@@ -6,3 +6,4 @@ pub mod Overlaps
 pub mod Sending
 pub mod Sockets
 pub mod Network
+pub mod Refusals

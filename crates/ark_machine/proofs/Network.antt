@@ -6,7 +6,6 @@ use Rattle.std.specs.List.{flat_map, range_with_len}
 use Rattle.hex.specs.Hex.{encode_with}
 use Rattle.ark_base.specs.declared.kind.Kind.TheVariants as kind
 use Rattle.ark_media.specs.Journal.{Read}
-use Rattle.ark_entry.specs.Header.{header_bytes}
 use Rattle.ark_entry.specs.Entry.{entry_bytes, marked}
 use Rattle.ark_filters.specs.declared.filter.Direction.TheVariants.{Rx, Tx}
 use Rattle.ark_filters.specs.declared.filter.Proto.TheVariants.{Udp}
@@ -16,7 +15,7 @@ use Rattle.ark_script.specs.declared.step.Side.TheVariants as side
 use Rattle.ark_machine.specs.Step.{step}
 use Rattle.ark_machine.specs.System.{fresh_system}
 use Rattle.ark_machine.proofs.Playing.{Played, replies, performed}
-use Rattle.ark_machine.proofs.Scripts.{quiet, app, area, granting, opening, appending}
+use Rattle.ark_machine.proofs.Scripts.{quiet, app, area, granting, opening_empty, appending}
 use Rattle.ark_machine.proofs.Rules.{own_at, between, rule}
 
 abbrev web : List ℕ
@@ -36,10 +35,6 @@ j = codes "j"
 
 abbrev gateway : List ℕ
 gateway = 10 ∷ 0 ∷ 0 ∷ 2 ∷ []
-
--- the header of an empty log
-abbrev no_entries : List ℕ
-no_entries = header_bytes kind.Log 1 0 0 0
 
 -- the append of an entry of one byte to the log whose header is at a block, as its entry of this number at the same place
 -- of the ring, and the line that settles it
@@ -63,7 +58,7 @@ serving =
     ∷ quiet (w.sock web (codes "k") n 8080)
     ∷ quiet (w.vsic web (codes "w") 4)
     ∷ (w.vsa web l 64 kind.Log, granting (area 1 web l kind.Log 129 64))
-    ∷ (w.log web l (codes "w"), opening 129 no_entries)
+    ∷ (w.log web l (codes "w"), opening_empty 129 kind.Log)
     ∷ appended web l 129 1 71
 
 abbrev storing : List Played
@@ -71,7 +66,7 @@ storing =
     app db
     ∷ quiet (w.vsic db (codes "v") 16)
     ∷ (w.vsa db j 256 kind.Log, granting (area 2 db j kind.Log 193 256))
-    ∷ (w.log db j (codes "v"), opening 193 no_entries)
+    ∷ (w.log db j (codes "v"), opening_empty 193 kind.Log)
     ∷ flat_map (λ i. appended db j 193 i i) (range_with_len 1 10)
 
 abbrev answering : List Played
