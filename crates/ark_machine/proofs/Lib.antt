@@ -7,3 +7,4 @@ pub mod Sending
 pub mod Sockets
 pub mod Network
 pub mod Refusals
+pub mod RefusedUses
