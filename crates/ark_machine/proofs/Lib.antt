@@ -8,3 +8,4 @@ pub mod Sockets
 pub mod Network
 pub mod Refusals
 pub mod RefusedUses
+pub mod RefusedLogs
