@@ -9,3 +9,5 @@ pub mod Network
 pub mod Refusals
 pub mod RefusedUses
 pub mod RefusedLogs
+pub mod RefusedGrants
+pub mod Frames
