@@ -11,3 +11,4 @@ pub mod RefusedUses
 pub mod RefusedLogs
 pub mod RefusedGrants
 pub mod Frames
+pub mod Dropping
