@@ -12,3 +12,4 @@ pub mod RefusedLogs
 pub mod RefusedGrants
 pub mod Frames
 pub mod Dropping
+pub mod Transfers
