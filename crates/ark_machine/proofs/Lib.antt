@@ -13,3 +13,4 @@ pub mod RefusedGrants
 pub mod Frames
 pub mod Dropping
 pub mod Transfers
+pub mod Datagrams
