@@ -1,19 +1,19 @@
 -- Worked scripts on the sockets of one card: which datagrams each of them gets, evaluated.
-use Rattle.std.proofs.Common.{◌≡◌, ℕ, true, None, Some, List, [], ◌∷◌, ◌++◌, map, codes, replicate, refl}
+use Rattle.std.proofs.Common.{◌≡◌, ℕ, List, [], ◌∷◌, ◌++◌, map, codes, replicate, refl}
 use Rattle.std.specs.Prelude.{decimal}
 use Rattle.std.specs.Fmt.{digits}
 use Rattle.std.specs.List.{range_with_len}
 use Rattle.hex.specs.Hex.{encode_with}
 use Rattle.ark_packet.specs.declared.own.Own.{Own}
 use Rattle.ark_packet.specs.Written.{frame_of}
-use Rattle.ark_filters.specs.declared.filter.Direction.TheVariants.{Rx, Tx}
+use Rattle.ark_filters.specs.declared.filter.Direction.TheVariants.{Rx}
 use Rattle.ark_filters.specs.declared.filter.Proto.TheVariants.{Eth}
 use Rattle.ark_script.specs.Line as w
 use Rattle.ark_script.specs.Line.{spelled}
 use Rattle.ark_machine.specs.Step.{step}
 use Rattle.ark_machine.specs.System.{fresh_system}
-use Rattle.ark_machine.proofs.Playing.{Played, replies, performed}
-use Rattle.ark_machine.proofs.Scripts.{quiet, app, numbered}
+use Rattle.ark_machine.proofs.Playing.{Played, replies}
+use Rattle.ark_machine.proofs.Scripts.{quiet, app}
 use Rattle.ark_machine.proofs.Rules.{own_at, all_services, rule}
 
 abbrev a : List ℕ

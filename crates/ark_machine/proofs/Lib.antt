@@ -14,3 +14,4 @@ pub mod Frames
 pub mod Dropping
 pub mod Transfers
 pub mod Datagrams
+pub mod RefusedWords

@@ -1,6 +1,6 @@
 -- The order of the refusals that concern lines, names and kinds: a line for which several hold is answered the first of them,
 -- and the next one once the first is cured.
-use Rattle.std.proofs.Common.{◌≡◌, ℕ, true, false, None, Some, Err, List, [], ◌∷◌, ◌++◌, map, codes, replicate, refl}
+use Rattle.std.proofs.Common.{◌≡◌, ℕ, true, false, Some, Err, List, [], ◌∷◌, ◌++◌, map, codes, replicate, refl}
 use Rattle.std.specs.Fmt.{digits}
 use Rattle.ark_base.specs.Conditions.{none, first}
 use Rattle.ark_base.specs.declared.kind.Kind.TheVariants as kind
@@ -8,11 +8,10 @@ use Rattle.ark_base.specs.declared.refusal.Refusal.{Refusal}
 use Rattle.ark_base.specs.declared.refusal.Refusal.TheVariants as r
 use Rattle.ark_script.specs.Line as w
 use Rattle.ark_script.specs.Line.{Line}
-use Rattle.ark_script.specs.Text.{reply_words}
 use Rattle.ark_machine.specs.Built.{turn}
 use Rattle.ark_machine.specs.Step.{step}
-use Rattle.ark_machine.specs.System.{System, fresh_system}
-use Rattle.ark_machine.proofs.Playing.{Played, replies, performed, words_said}
+use Rattle.ark_machine.specs.System.{fresh_system}
+use Rattle.ark_machine.proofs.Playing.{Played, replies, words_said}
 use Rattle.ark_machine.proofs.Scripts.{quiet, app, area, granting, numbered, reply_after}
 use Rattle.ark_machine.proofs.Rules.{own_at}
 

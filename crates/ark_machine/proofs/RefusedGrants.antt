@@ -2,7 +2,7 @@
 use Rattle.std.proofs.Common.{◌≡◌, ℕ, ◌+◌, ◌*◌, true, false, None, Some, List, [], ◌∷◌, ◌++◌, map, codes, replicate, refl}
 use Rattle.std.specs.Prelude.{decimal}
 use Rattle.std.specs.Fmt.{digits}
-use Rattle.std.specs.List.{range_with_len}
+use Rattle.std.specs.List.{flat_map, range_with_len}
 use Rattle.ark_base.specs.declared.kind.Kind.TheVariants as kind
 use Rattle.ark_media.specs.Journal.{Event, Write, Sync, zero_block}
 use Rattle.ark_table.specs.Slots.{Slot, slot_bytes}
@@ -14,7 +14,7 @@ use Rattle.ark_machine.specs.Start.{start_system}
 use Rattle.ark_machine.specs.Step.{step}
 use Rattle.ark_machine.specs.System.{System, fresh_system}
 use Rattle.ark_machine.proofs.Playing.{Played, replies, performed}
-use Rattle.ark_machine.proofs.Scripts.{quiet, app, area, granting, zeroed, opening_empty, failed_read, numbered, reply_after}
+use Rattle.ark_machine.proofs.Scripts.{quiet, app, area, granting, dropping, zeroed, opening_empty, failed_read, numbered, reply_after}
 use Rattle.ark_machine.proofs.Rules.{own_at, between, rule}
 
 abbrev a : List ℕ
@@ -82,6 +82,19 @@ granted-performed = refl
 pub scattered-before-device_fault : reply_after scattered (app a ∷ []) (asks 17) (failed_read ∷ []) false ≡ codes "refused 11 scattered"
 unfolding step digits
 scattered-before-device_fault = refl
+
+-- eight areas of an application are stored, and 128 of sixteen
+pub limit-before-no_space : replies scattered (app (codes "b") ∷ quiet (w.vsa (codes "b") s 18 kind.Raw) ∷ []) ≡ ok ∷ codes "refused 7 limit" ∷ []
+unfolding step digits
+limit-before-no_space = refl
+
+abbrev all_slots : System
+all_slots = start_system (replicate 400 zero_block) (flat_map (λ j. apart (codes "p" ++ decimal j) (8 * j + 1) 8) (range_with_len 0 16))
+
+pub limit-of-slots : replies all_slots (app a ∷ quiet (asks 400) ∷ quiet (w.drop (codes "p3") (codes "s25")) ∷ app (codes "p3") ∷ (w.drop (codes "p3") (codes "s25"), dropping 25) ∷ quiet (asks 400) ∷ [])
+    ≡ ok ∷ codes "refused 7 limit" ∷ codes "refused 3 no application" ∷ ok ∷ ok ∷ codes "refused 10 no space" ∷ []
+unfolding step digits
+limit-of-slots = refl
 
 -- the last sync of a grant fails: nothing is granted, and the table has failed
 abbrev failing_sync : Slot → List Event

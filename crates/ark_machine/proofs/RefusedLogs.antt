@@ -1,11 +1,11 @@
 -- The order of the refusals that concern logs and queues.
-use Rattle.std.proofs.Common.{◌≡◌, ℕ, true, false, None, Some, List, [], ◌∷◌, ◌++◌, map, codes, replicate, refl}
+use Rattle.std.proofs.Common.{◌≡◌, ℕ, true, false, Some, List, [], ◌∷◌, ◌++◌, map, codes, replicate, refl}
 use Rattle.std.specs.Prelude.{decimal}
 use Rattle.std.specs.Fmt.{digits}
 use Rattle.std.specs.List.{range_with_len}
 use Rattle.hex.specs.Hex.{encode_with}
 use Rattle.ark_base.specs.declared.kind.Kind.TheVariants as kind
-use Rattle.ark_media.specs.Journal.{Event, Read, Write, Sync, zero_block}
+use Rattle.ark_media.specs.Journal.{Read, Write, zero_block}
 use Rattle.ark_entry.specs.Header.{header_bytes}
 use Rattle.ark_entry.specs.Entry.{entry_bytes, marked}
 use Rattle.ark_script.specs.Line as w
@@ -15,7 +15,7 @@ use Rattle.ark_machine.specs.Start.{start_system}
 use Rattle.ark_machine.specs.Step.{step}
 use Rattle.ark_machine.specs.System.{System, fresh_system}
 use Rattle.ark_machine.proofs.Playing.{Played, replies, performed}
-use Rattle.ark_machine.proofs.Scripts.{quiet, app, area, granting, dropping, opening_empty, appending, failed_read, reply_after}
+use Rattle.ark_machine.proofs.Scripts.{quiet, area, granting, dropping, opening_empty, appending, failed_read, reply_after}
 
 abbrev a : List ℕ
 a = codes "a"

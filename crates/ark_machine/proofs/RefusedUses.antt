@@ -1,15 +1,15 @@
 -- The order of the refusals that concern what is in use: ranges, the table, logs, cards and buffers.
-use Rattle.std.proofs.Common.{◌≡◌, ℕ, true, false, None, Some, List, [], ◌∷◌, ◌++◌, codes, replicate, refl}
+use Rattle.std.proofs.Common.{◌≡◌, ℕ, true, false, Some, List, [], ◌∷◌, ◌++◌, codes, replicate, refl}
 use Rattle.std.specs.Fmt.{digits}
 use Rattle.ark_base.specs.declared.kind.Kind.TheVariants as kind
-use Rattle.ark_media.specs.Journal.{Event, Write, Sync, zero_block}
+use Rattle.ark_media.specs.Journal.{Write, Sync, zero_block}
 use Rattle.ark_filters.specs.declared.filter.Direction.TheVariants.{Rx}
 use Rattle.ark_script.specs.Line as w
 use Rattle.ark_script.specs.Line.{Line}
 use Rattle.ark_machine.specs.Step.{step}
-use Rattle.ark_machine.specs.System.{System, fresh_system}
+use Rattle.ark_machine.specs.System.{fresh_system}
 use Rattle.ark_machine.proofs.Playing.{Played, replies, performed}
-use Rattle.ark_machine.proofs.Scripts.{quiet, app, area, granting, zeroed, opening_empty, appending, failed_read, reply_after}
+use Rattle.ark_machine.proofs.Scripts.{quiet, app, area, granting, zeroed, opening_empty}
 use Rattle.ark_machine.proofs.Rules.{own_at}
 
 abbrev a : List ℕ

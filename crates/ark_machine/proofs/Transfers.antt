@@ -10,7 +10,7 @@ use Rattle.ark_script.specs.declared.step.Side.TheVariants as side
 use Rattle.ark_machine.specs.Step.{step}
 use Rattle.ark_machine.specs.System.{fresh_system}
 use Rattle.ark_machine.proofs.Playing.{Played, replies, performed}
-use Rattle.ark_machine.proofs.Scripts.{quiet, app, area, granting, opening_empty, appending}
+use Rattle.ark_machine.proofs.Scripts.{quiet, app, area, granting, opening_empty}
 
 abbrev a : List ℕ
 a = codes "a"
