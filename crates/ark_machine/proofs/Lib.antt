@@ -15,3 +15,4 @@ pub mod Dropping
 pub mod Transfers
 pub mod Datagrams
 pub mod RefusedWords
+pub mod Refusing
