@@ -16,3 +16,4 @@ pub mod Transfers
 pub mod Datagrams
 pub mod RefusedWords
 pub mod Refusing
+pub mod Limits

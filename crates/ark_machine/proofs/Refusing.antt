@@ -61,7 +61,7 @@ leaves_if o refusal h is = subst LeavesIf is h
 first_same : (a name : List ℕ) (m unlisted : Machine) (ps : List (List ℕ × Machine)) (b : Bool)
     → set_machine ps a (unwrap_or (option_map (λ p. p.1) (find (λ p. bytes_eq a p.0) ps)) unlisted) ≡ ps
     → (if b then (name, unwrap_or (option_map (λ p. p.1) (if b then Some (name, m) else find (λ p. bytes_eq a p.0) ps)) unlisted) ∷ ps
-       else (name, m) ∷ set_machine ps a (unwrap_or (option_map (λ p. p.1) (if b then Some (name, m) else find (λ p. bytes_eq a p.0) ps)) unlisted))
+    else (name, m) ∷ set_machine ps a (unwrap_or (option_map (λ p. p.1) (if b then Some (name, m) else find (λ p. bytes_eq a p.0) ps)) unlisted))
     ≡ (name, m) ∷ ps
 first_same a name m unlisted ps true rest = refl
 first_same a name m unlisted ps false rest = ap (λ qs. (name, m) ∷ qs) rest
@@ -75,9 +75,9 @@ turn_same : (s : System) (a : List ℕ) (line : Line) (refusal : Refusal) → Le
     → own_turn s a line (record { machine = machine_of s a; said = said.Refused refusal; bytes = []; calls = [] }) ≡ quiet_turn s (said.Refused refusal)
 turn_same s a line refusal leaves =
     ap (λ p. record { said = said.Refused refusal; bytes = []; calls = []; after = record { plane = p; now = s.now; machines = set_machine s.machines a (machine_of s a) } })
-       (leaves s.plane (change_of s.plane (machine_of s a) line))
+    (leaves s.plane (change_of s.plane (machine_of s a) line))
     ∙ ap (λ ms. record { said = said.Refused refusal; bytes = []; calls = []; after = record { plane = s.plane; now = s.now; machines = ms } })
-       (set_same s.machines s.now a)
+    (set_same s.machines s.now a)
 
 pub refused-changes_nothing : (s : System) (a : List ℕ) (line : Line) (c : Conditions) (row : Row) (refusal : Refusal) → early c ≡ Some refusal
     → own_turn s a line (answer (machine_of s a) c row) ≡ quiet_turn s (said.Refused refusal)
