@@ -1,5 +1,6 @@
 -- The order of the refusals that concern what is in use: ranges, the table, logs, cards and buffers.
-use Rattle.std.proofs.Common.{◌≡◌, ℕ, true, false, Some, List, [], ◌∷◌, ◌++◌, codes, replicate, refl}
+use Rattle.std.proofs.Common.{◌≡◌, ℕ, true, false, Option, Some, List, [], ◌∷◌, ◌++◌, length, codes, replicate, refl}
+use Rattle.std.specs.Prelude.{option_map}
 use Rattle.std.specs.Fmt.{digits}
 use Rattle.ark_base.specs.declared.kind.Kind.TheVariants as kind
 use Rattle.ark_media.specs.Journal.{Write, Sync, zero_block}
@@ -7,8 +8,9 @@ use Rattle.ark_filters.specs.declared.filter.Direction.TheVariants.{Rx}
 use Rattle.ark_script.specs.Line as w
 use Rattle.ark_script.specs.Line.{Line}
 use Rattle.ark_machine.specs.Step.{step}
-use Rattle.ark_machine.specs.System.{fresh_system}
-use Rattle.ark_machine.proofs.Playing.{Played, replies, performed}
+use Rattle.ark_machine.specs.Machine.{vnic_at}
+use Rattle.ark_machine.specs.System.{fresh_system, machine_of}
+use Rattle.ark_machine.proofs.Playing.{Played, replies, performed, played}
 use Rattle.ark_machine.proofs.Scripts.{quiet, app, area, granting, zeroed, opening_empty}
 use Rattle.ark_machine.proofs.Rules.{own_at}
 
@@ -97,6 +99,22 @@ pub ring_full-before-no_buffer : replies (fresh_system 200) (small_socket ++ sen
 unfolding step
 ring_full-before-no_buffer = refl
 
+-- how many descriptors are posted and unreaped on the card's transmit ring
+abbrev transmits : List Played → Option (ℕ × ℕ)
+transmits script = option_map (λ x. (length x.tx.posted, length x.tx.unreaped)) (vnic_at (machine_of (played (fresh_system 200) script) a) v)
+
+abbrev one_sent : List Played
+one_sent = small_socket ++ sends_to 1 ∷ sends_to 2 ∷ quiet (w.dev a v) ∷ []
+
+pub unreaped-before_sendto : transmits one_sent ≡ Some (1, 1)
+unfolding step
+unreaped-before_sendto = refl
+
+pub reaped-by_refused_sendto : transmits (one_sent ++ sends_to 600 ∷ []) ≡ Some (1, 0)
+unfolding step
+reaped-by_refused_sendto = refl
+
+-- the receive ring is full of the card's own buffers
 pub busy-before-ring_full : replies (fresh_system 200) (small_socket ++ sends_to 1 ∷ quiet (w.buf a m 14) ∷ quiet (w.send a v m 14) ∷ quiet (w.post a v m) ∷ quiet (w.take a v Rx) ∷ [])
     ≡ replicate 6 ok ++ replicate 3 (codes "refused 16 busy")
 unfolding step

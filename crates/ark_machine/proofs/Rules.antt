@@ -26,6 +26,10 @@ all_services = record { count = 0; items = replicate 8 (0, 0) }
 abbrev pub between : ℕ → ℕ → Services
 between low high = record { count = 1; items = (low, high) ∷ replicate 7 (0, 0) }
 
--- a filter of every peer's frames with these services
+-- a filter of these peers' frames with these services
+abbrev pub rule_from : Peers → Direction → Proto → Services → Filter
+rule_from peers direction proto services = record { direction = direction; proto = proto; peers = peers; services = services }
+
+-- of every peer's
 abbrev pub rule : Direction → Proto → Services → Filter
-rule direction proto services = record { direction = direction; proto = proto; peers = all_peers; services = services }
+rule direction proto services = rule_from all_peers direction proto services

@@ -73,3 +73,26 @@ sending-replies = refl
 pub sending-performed : performed (fresh_system 200) (paced ++ sending) ≡ true
 unfolding step
 sending-performed = refl
+
+-- A frame that no filter lets out ends so, also where it is above the burst; above the burst it is not held.
+abbrev ending : List Played
+ending =
+    quiet (w.nic (own_at (10 ∷ 0 ∷ 0 ∷ 1 ∷ [])))
+    ∷ app a
+    ∷ quiet (w.vnic a n 2 8)
+    ∷ quiet (w.filter a (codes "f") (rule Tx Eth all_services))
+    ∷ quiet (w.rate a (codes "r") 0 14)
+    ∷ quiet (w.pace a n (Some (codes "r")) side.Tx)
+    ∷ framed (codes "b1") ++ framed (codes "b2") ++ framed (codes "b3") ++ framed (codes "b4")
+    ++ sends (codes "b1") 15 ∷ sends (codes "b2") 14 ∷ sends (codes "b3") 15 ∷ sends (codes "b4") 14
+    ∷ moves ∷ quiet (w.assign a n (codes "f")) ∷ moves ∷ moves ∷ moves
+    ∷ quiet (w.pace a n (Some (codes "r")) side.Tx) ∷ moves ∷ moves
+    ∷ []
+
+pub ending-replies : replies (fresh_system 200) ending
+    ≡ replicate 18 (codes "ok")
+    ++ codes "done no filter" ∷ codes "ok" ∷ sent 14 ∷ codes "done over burst" ∷ codes "held"
+    ∷ codes "ok" ∷ sent 14 ∷ codes "idle"
+    ∷ []
+unfolding step encode_with digits
+ending-replies = refl
