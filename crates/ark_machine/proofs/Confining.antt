@@ -90,7 +90,7 @@ by_none s line es h = rw h (tt, tt)
 
 -- what comes of a line's calls is within what the line may touch, and ends at a failure
 pub line_confined : (s : System) (line : Line) (ends : List Ended) (memory : Bool) (es : List Event) → PerformsFor s line (line_turn s line ends memory).calls es (owner line) → AllAllowed s line es × EndsAtFailure es
-unfolding step
+unfolding step answer
 line_confined s (w.app a x1) ends memory es h = by_row s a (w.app a x1) _ _ _ es h tt
 line_confined s (w.vsic a x1 x2) ends memory es h = by_row s a (w.vsic a x1 x2) _ _ _ es h tt
 line_confined s (w.vnic a x1 x2 x3) ends memory es h = by_row s a (w.vnic a x1 x2 x3) _ _ _ es h tt

@@ -1,13 +1,17 @@
 -- What worked scripts are made of: names, areas, and the device events of lines.
-use Rattle.std.proofs.Common.{ℕ, true, List, [], ◌∷◌, ◌++◌}
-use Rattle.std.specs.Prelude.{map, None}
+use Rattle.std.proofs.Common.{ℕ, Bool, true, false, List, [], ◌∷◌, ◌++◌}
+use Rattle.std.specs.Prelude.{map, None, decimal}
 use Rattle.std.specs.List.{range_with_len}
 use Rattle.ark_base.specs.declared.kind.Kind.{Kind}
 use Rattle.ark_media.specs.Journal.{Event, Write, Sync, zero_block}
 use Rattle.ark_table.specs.Slots.{Slot, slot_bytes}
+use Rattle.ark_entry.specs.Header.{header_bytes}
+use Rattle.ark_caladan.specs.Chain.{reading}
 use Rattle.ark_script.specs.Line as w
 use Rattle.ark_script.specs.Line.{Line}
-use Rattle.ark_machine.proofs.Playing.{Played}
+use Rattle.ark_machine.specs.Row.{Ended}
+use Rattle.ark_machine.specs.System.{System, line_turn}
+use Rattle.ark_machine.proofs.Playing.{Played, played, words_said}
 
 -- a line that calls no device
 abbrev pub quiet : Line → Played
@@ -41,3 +45,19 @@ opening header content = Sync true ∷ Write header content true true ∷ Sync t
 -- of a line that settles the append of an entry of one block, to this block
 abbrev pub appending : ℕ → List ℕ → List ℕ → List Event
 appending block plain marked = Write block plain true true ∷ Sync true ∷ Write block marked true true ∷ Sync true ∷ []
+
+-- of a line that opens a log with no entries yet
+abbrev pub opening_empty : ℕ → Kind → List Event
+opening_empty header k = opening header (header_bytes k 1 0 0 0)
+
+-- The reply of a line after a script, where its device calls ended so, and whether it finds no memory.
+abbrev pub reply_after : System → List Played → Line → List Ended → Bool → List ℕ
+reply_after s script line ends memory = words_said (line_turn (played s script) line ends memory)
+
+-- a read that failed
+abbrev pub failed_read : Ended
+failed_read = record { verb = reading; ok = false; took = true }
+
+-- so many labels, numbered from 1 on behind a letter
+abbrev pub numbered : List ℕ → ℕ → List (List ℕ)
+numbered letter n = map (λ i. letter ++ decimal i) (range_with_len 1 n)

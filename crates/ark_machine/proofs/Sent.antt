@@ -134,7 +134,7 @@ quiet_mild : (s : System) (x : Refusal) → IsMild s (quiet_turn s (said.Refused
 quiet_mild s x = record { mute = λ h. cc; rates = λ k. k }
 
 app_mild : (s : System) (a : List ℕ) (frames : Option ℕ) (ends : List Ended) (memory : Bool) → IsMild s (line_turn s (w.app a frames) ends memory)
-unfolding step
+unfolding step answer
 app_mild s a frames ends memory =
     answered (λ row. IsMild s (own_turn s a (w.app a frames) row)) (machine_of s a) _ _
     (λ x. record { mute = λ h. cc; rates = λ k. set_keeps s.machines a (machine_of s a) k (all_listed s.machines s.now a k) })
