@@ -1,10 +1,10 @@
 -- Worked scripts on storage cards, buffers and doorbells, evaluated.
-use Rattle.std.proofs.Common.{◌≡◌, ℕ, true, false, List, [], ◌∷◌, ◌++◌, codes, refl, replicate}
+use Rattle.std.proofs.Common.{◌≡◌, ℕ, true, List, [], ◌∷◌, ◌++◌, codes, refl}
 use Rattle.std.specs.Fmt.{digits}
-use Rattle.std.specs.Prelude.{Some, None}
+use Rattle.std.specs.Prelude.{Some}
 use Rattle.hex.specs.Hex.{encode_with}
 use Rattle.ark_base.specs.declared.kind.Kind.TheVariants as kind
-use Rattle.ark_media.specs.Journal.{Event, Read, Write, Sync, zero_block}
+use Rattle.ark_media.specs.Journal.{Read, Write, zero_block}
 use Rattle.ark_script.specs.Line as w
 use Rattle.ark_script.specs.declared.step.Side.TheVariants as side
 use Rattle.ark_machine.specs.Bytes.{padded}

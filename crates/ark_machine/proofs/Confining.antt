@@ -7,7 +7,7 @@ use Rattle.ark_base.specs.declared.refusal.Refusal.TheVariants as r
 use Rattle.ark_media.specs.Journal.{Event, has_succeeded, device_events}
 use Rattle.ark_script.specs.Line as w
 use Rattle.ark_script.specs.Line.{Line}
-use Rattle.ark_script.specs.Lines.{Meaning, Says}
+use Rattle.ark_script.specs.Lines.{Meaning}
 use Rattle.ark_script.specs.declared.said.Said.TheVariants as said
 use Rattle.ark_machine.specs.Bytes.{padded}
 use Rattle.ark_machine.specs.Objects.{is_vsa}
@@ -22,9 +22,9 @@ use Rattle.ark_machine.specs.Plane.{recorded, granted}
 use Rattle.ark_machine.specs.Step.{step}
 use Rattle.ark_machine.specs.System.{System, machine_of, owner, line_turn, quiet_turn}
 use Rattle.ark_machine.specs.Built.{turn, is_built}
-use Rattle.ark_machine.specs.Follow.{Makes, Follow, ended, fails, goes_on, again, passes, Performs, PerformsFor, ends_of, slot_index}
+use Rattle.ark_machine.specs.Follow.{Follow, ended, fails, goes_on, again, passes, Performs, PerformsFor, ends_of, slot_index}
 use Rattle.ark_machine.specs.Replies.{turn_for, system_after, has_lacked, EachAnswers, Begins, Replies}
-use Rattle.ark_machine.specs.Confined.{IsAllowed, AllAllowed, EndsAtFailure, IsConfined, EachConfined, BeginsConfined, Confined}
+use Rattle.ark_machine.specs.Confined.{AllAllowed, EndsAtFailure, IsConfined, EachConfined, BeginsConfined, Confined}
 use Rattle.ark_machine.proofs.Reaching.{AllowsCall, AllowsAll, AreIn, reads, reads_some, writes, grants, drops, opens, poll_quiet}
 use Rattle.ark_machine.specs.Sending.{AllKeep}
 use Rattle.ark_machine.proofs.Sent.{sends_within, rates_kept}
@@ -90,7 +90,7 @@ by_none s line es h = rw h (tt, tt)
 
 -- what comes of a line's calls is within what the line may touch, and ends at a failure
 pub line_confined : (s : System) (line : Line) (ends : List Ended) (memory : Bool) (es : List Event) → PerformsFor s line (line_turn s line ends memory).calls es (owner line) → AllAllowed s line es × EndsAtFailure es
-unfolding step answer
+unfolding step
 line_confined s (w.app a x1) ends memory es h = by_row s a (w.app a x1) _ _ _ es h tt
 line_confined s (w.vsic a x1 x2) ends memory es h = by_row s a (w.vsic a x1 x2) _ _ _ es h tt
 line_confined s (w.vnic a x1 x2 x3) ends memory es h = by_row s a (w.vnic a x1 x2 x3) _ _ _ es h tt

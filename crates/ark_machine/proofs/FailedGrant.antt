@@ -1,12 +1,12 @@
 -- What stops leave where the last sync of a grant failed.
-use Rattle.std.proofs.Common.{◌≡◌, inl, inr, ℕ, zero, suc, true, false, List, [], ◌∷◌, ◌++◌, replicate, codes, refl, sym, subst, arith}
-use Rattle.std.specs.Prelude.{Ok, Option, Some, None, Contains, slice_get}
+use Rattle.std.proofs.Common.{◌≡◌, inl, inr, ℕ, zero, suc, List, [], ◌∷◌, replicate, codes, refl, sym, subst, arith}
+use Rattle.std.specs.Prelude.{Option, Some, None, Contains}
 use Rattle.ark_base.specs.declared.kind.Kind.TheVariants as kind
-use Rattle.ark_media.specs.Journal.{Event, Write, Sync, onto, current, block, zero_block}
+use Rattle.ark_media.specs.Journal.{Event, onto, current, block, zero_block}
 use Rattle.ark_media.specs.Stops.{MayLeave, Whole}
 use Rattle.ark_media.proofs.Stopping.{now_may}
 use Rattle.ark_table.specs.Superblock.{superblock}
-use Rattle.ark_table.specs.Slots.{Slot, slots_of}
+use Rattle.ark_table.specs.Slots.{Slot}
 use Rattle.ark_script.specs.Line as w
 use Rattle.ark_machine.specs.Row.{answer}
 use Rattle.ark_machine.specs.Step.{step}

@@ -1,11 +1,11 @@
 -- What a run starts from on the image that an earlier one left.
-use Rattle.std.proofs.Common.{◌≡◌, ℕ, true, List, [], ◌∷◌, ◌++◌, map, replicate, codes, refl}
+use Rattle.std.proofs.Common.{◌≡◌, ℕ, true, List, [], ◌∷◌, replicate, codes, refl}
 use Rattle.std.specs.Fmt.{digits}
-use Rattle.std.specs.List.{flat_map, range_with_len}
-use Rattle.std.specs.Prelude.{Ok, Result}
+use Rattle.std.specs.List.{flat_map}
+use Rattle.std.specs.Prelude.{Ok}
 use Rattle.hex.specs.Hex.{encode_with}
 use Rattle.ark_base.specs.declared.kind.Kind.TheVariants as kind
-use Rattle.ark_media.specs.Journal.{Event, Read, Write, Sync, onto, current, zero_block}
+use Rattle.ark_media.specs.Journal.{Event, Write, Sync, onto, current, zero_block}
 use Rattle.ark_table.specs.Superblock.{superblock}
 use Rattle.ark_table.specs.Slots.{Slot, slots_of}
 use Rattle.ark_entry.specs.Header.{header_bytes}

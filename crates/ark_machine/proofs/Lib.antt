@@ -3,6 +3,7 @@ pub mod Reaching
 pub mod Touching
 pub mod Sent
 pub mod Confining
+pub mod Rows
 pub mod Playing
 pub mod Scripts
 pub mod Rules

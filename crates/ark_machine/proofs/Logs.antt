@@ -1,7 +1,7 @@
 -- Worked scripts on logs and queues, evaluated.
 use Rattle.std.proofs.Common.{◌≡◌, ℕ, true, false, List, [], ◌∷◌, ◌++◌, codes, refl, replicate}
 use Rattle.std.specs.Fmt.{digits}
-use Rattle.std.specs.Prelude.{Some, None, take, drop}
+use Rattle.std.specs.Prelude.{take, drop}
 use Rattle.hex.specs.Hex.{encode_with, encode_lower}
 use Rattle.ark_base.specs.declared.kind.Kind.{Kind}
 use Rattle.ark_base.specs.declared.kind.Kind.TheVariants as kind
@@ -9,12 +9,11 @@ use Rattle.ark_media.specs.Journal.{Event, Read, Write, Sync, zero_block}
 use Rattle.ark_entry.specs.Header.{header_bytes}
 use Rattle.ark_entry.specs.Entry.{entry_bytes, marked}
 use Rattle.ark_script.specs.Line as w
-use Rattle.ark_machine.specs.Bytes.{padded}
 use Rattle.ark_machine.specs.Row.{answer}
 use Rattle.ark_machine.specs.Step.{step}
 use Rattle.ark_machine.specs.System.{fresh_system}
 use Rattle.ark_machine.proofs.Playing.{Played, replies, performed}
-use Rattle.ark_machine.proofs.Scripts.{quiet, app, area, granting, dropping, opening, appending}
+use Rattle.ark_machine.proofs.Scripts.{quiet, app, area, granting, opening, appending}
 
 abbrev a : List ℕ
 a = codes "a"

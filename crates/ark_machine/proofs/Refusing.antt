@@ -81,6 +81,7 @@ turn_same s a line refusal leaves =
 
 pub refused-changes_nothing : (s : System) (a : List ℕ) (line : Line) (c : Conditions) (row : Row) (refusal : Refusal) → early c ≡ Some refusal
     → own_turn s a line (answer (machine_of s a) c row) ≡ quiet_turn s (said.Refused refusal)
+unfolding answer
 refused-changes_nothing s a line c row refusal is =
     ap (λ o. own_turn s a line (unless_refused o (late c) (machine_of s a) row)) is
     ∙ turn_same s a line refusal (leaves_if (early c) refusal (early_leaves c) is)

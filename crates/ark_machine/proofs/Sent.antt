@@ -1,5 +1,5 @@
 -- No line of the words that are built sends a frame, and none changes a pace.
-use Rattle.std.proofs.Common.{◌≡◌, ℕ, ◌+◌, Bool, true, false, List, [], ◌∷◌, ◌++◌, map, refl, sym, ◌∙◌, ap, subst, arith, cond, get_or}
+use Rattle.std.proofs.Common.{◌≡◌, ℕ, Bool, true, false, List, [], ◌∷◌, map, refl, sym, ◌∙◌, ap, arith, cond, get_or}
 use Rattle.std.proofs.lemmas.Bool.{false≢true}
 use Rattle.std.specs.Prelude.{Option, Some, None, Ok, Err, option_map, find, unwrap_or, bytes_eq}
 use Rattle.std.specs.List.{AllByRecursion}
@@ -134,7 +134,7 @@ quiet_mild : (s : System) (x : Refusal) → IsMild s (quiet_turn s (said.Refused
 quiet_mild s x = record { mute = λ h. cc; rates = λ k. k }
 
 app_mild : (s : System) (a : List ℕ) (frames : Option ℕ) (ends : List Ended) (memory : Bool) → IsMild s (line_turn s (w.app a frames) ends memory)
-unfolding step answer
+unfolding step
 app_mild s a frames ends memory =
     answered (λ row. IsMild s (own_turn s a (w.app a frames) row)) (machine_of s a) _ _
     (λ x. record { mute = λ h. cc; rates = λ k. set_keeps s.machines a (machine_of s a) k (all_listed s.machines s.now a k) })

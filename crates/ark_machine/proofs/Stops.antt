@@ -1,13 +1,12 @@
 -- What stops leave, in worked scripts.
-use Rattle.std.proofs.Common.{◌≡◌, ◌⊎◌, inl, inr, ℕ, zero, suc, ◌<◌, true, false, List, [], ◌∷◌, ◌++◌, length, map, replicate, codes, refl, sym, subst, ap, arith}
-use Rattle.std.specs.List.{flat_map}
-use Rattle.std.specs.Prelude.{Ok, Option, Some, None, Contains, Any, slice_index_or}
+use Rattle.std.proofs.Common.{◌≡◌, inl, inr, ℕ, zero, suc, ◌<◌, true, List, [], ◌∷◌, ◌++◌, length, replicate, codes, refl, sym, subst, ap, arith}
+use Rattle.std.specs.Prelude.{Ok, Some, None, Contains, slice_index_or}
 use Rattle.ark_base.specs.declared.kind.Kind.TheVariants as kind
-use Rattle.ark_media.specs.Journal.{Event, Read, Write, Sync, onto, current, block, zero_block}
-use Rattle.ark_media.specs.Stops.{MayHold, MayLeave, Whole}
+use Rattle.ark_media.specs.Journal.{Event, Write, Sync, onto, current, block, zero_block}
+use Rattle.ark_media.specs.Stops.{MayLeave, Whole}
 use Rattle.ark_media.proofs.Stopping.{now_may}
 use Rattle.ark_table.specs.Superblock.{superblock}
-use Rattle.ark_table.specs.Slots.{Slot, slots_of, slot_bytes}
+use Rattle.ark_table.specs.Slots.{Slot, slots_of}
 use Rattle.ark_entry.specs.Entry.{entry_bytes, marked}
 use Rattle.ark_entry.specs.Found.{found, found_of}
 use Rattle.ark_script.specs.Line as w
@@ -19,8 +18,7 @@ use Rattle.ark_machine.specs.Recovers.{Recovers, begun, ContentStands, log_choic
 use Rattle.ark_machine.proofs.Playing.{Played, played}
 use Rattle.ark_machine.proofs.Scripts.{quiet, app, area, granting, dropping}
 use Rattle.ark_machine.proofs.Logs.{with_log, opened}
-use Rattle.ark_machine.proofs.Areas.{table_failed}
-use Rattle.ark_machine.proofs.Images.{history, image_after}
+use Rattle.ark_machine.proofs.Images.{history}
 
 abbrev a : List ℕ
 a = codes "a"

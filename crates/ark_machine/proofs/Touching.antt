@@ -1,46 +1,38 @@
 -- The calls of `settle`, of `dev`, and of each word's line are within what the line may touch.
-use Rattle.std.proofs.Common.{◌≡◌, ℕ, zero, suc, ◌+◌, Bool, true, false, not, List, [], ◌∷◌, ◌++◌, length, drop, take, map, refl, sym, subst, arith, if◌then◌else◌, ◌&&◌, ◌==◌, eqb-true, cond}
+use Rattle.std.proofs.Common.{◌≡◌, ℕ, ◌+◌, Bool, true, false, not, List, [], ◌∷◌, ◌++◌, take, refl, sym, subst, ◌==◌, eqb-true, cond}
 use Rattle.std.proofs.lemmas.Bool.{and_parts, false≢true}
 use Rattle.std.proofs.lemmas.List.Elements.{Contains-append_left, Contains-append_right}
-use Rattle.std.specs.Prelude.{Option, Some, None, unwrap_or, option_map, find, slice_get, Contains, nat_lt, is_some, IsTrue}
-use Rattle.std.specs.List.{AllByRecursion, flat_map, range_with_len, list_any}
+use Rattle.std.specs.Prelude.{Option, Some, None, unwrap_or, option_map, find, Contains, is_some}
+use Rattle.std.specs.List.{AllByRecursion, flat_map, list_any}
 use Rattle.ark_base.specs.declared.refusal.Refusal.{Refusal}
 use Rattle.ark_base.specs.declared.kind.Outcome.{Outcome}
 use Rattle.ark_base.specs.declared.kind.Outcome.TheVariants as outcome
-use Rattle.ark_media.specs.Journal.{Event, Read, Write, Sync, Out}
-use Rattle.ark_caladan.specs.Chain.{Log, Opened, Command, Phase, Verb, reading, writing, syncing, commands}
-use Rattle.ark_entry.specs.Found.{Found, found, damaged}
+use Rattle.ark_caladan.specs.Chain.{Phase}
 use Rattle.ark_packet.specs.declared.own.Own.{Own}
 use Rattle.ark_filters.specs.declared.filter.Direction.{Direction}
 use Rattle.ark_filters.specs.declared.filter.Direction.TheVariants as direction
 use Rattle.ark_script.specs.Line as w
 use Rattle.ark_script.specs.Line.{Line}
-use Rattle.ark_script.specs.declared.said.Said.{Said}
 use Rattle.ark_script.specs.declared.said.Said.TheVariants as said
-use Rattle.ark_machine.specs.Machine.{at_serial, with_vnic, Machine, Held, vsic_at, vnic_at, log_at, label_numbered, bytes_at}
+use Rattle.ark_machine.specs.Machine.{at_serial, with_vnic, Machine, Held, vsic_at, label_numbered, bytes_at}
 use Rattle.ark_machine.specs.Objects.{Vsic, Vnic, Job, Transfer, Place, Datagram, transfer, flush, phase}
 use Rattle.ark_machine.specs.Row
 use Rattle.ark_machine.specs.Row.{Row, Call, Ended, Given, says, unless_refused, synced}
 use Rattle.ark_machine.specs.Control.{is_open_on}
-use Rattle.ark_machine.specs.Areas.{grant_calls}
 use Rattle.ark_machine.specs.Bytes.{block_of}
 use Rattle.ark_machine.specs.Rates.{is_over_burst, may_pass, passed}
 use Rattle.ark_machine.specs.Cards.{reap_oldest}
-use Rattle.ark_machine.specs.Moves.{Move, moves, move, moved, gated, tried, ends, is_granted, transfer_call, transferred, raw_numbered, phase_moves, phase_moves_on, phase_written, log_on, log_moved, log_move, first_end, row_of, block_passed, block_moved, outcome_of}
-use Rattle.ark_machine.specs.Machine.{with_vsic}
-use Rattle.ark_machine.specs.Logs.{opening_calls, card_of, with_opened}
-use Rattle.ark_machine.specs.Polls.{Polled, polled, poll_log, poll_opened, poll_oldest, poll_card, phase_ended, next_phase, phases_left, one_done, emptied, failing, unreaped_on, posted_on, is_held, settle_move, Next, stops, calls_on, settling, settle_end, next_call, next_of, due_move, by_calls, without_call}
+use Rattle.ark_machine.specs.Moves.{Move, moves, moved, tried, is_granted, transfer_call, transferred, raw_numbered, phase_moves_on, log_on, log_moved, first_end}
+use Rattle.ark_machine.specs.Logs.{card_of}
+use Rattle.ark_machine.specs.Polls.{Polled, polled, is_held, settle_move, Next, stops, calls_on, settling, settle_end, next_call, next_of, due_move, by_calls, without_call}
 use Rattle.ark_machine.specs.Network.{take_received, take_sent, take_oldest, received_at, sent_at, tx_moves, frame_moves, bytes_in, is_let_out, tx_ended, tx_passed}
-use Rattle.ark_machine.specs.Sockets.{send_reaped, give_oldest}
+use Rattle.ark_machine.specs.Sockets.{give_oldest}
 use Rattle.ark_machine.specs.Devices.{card_moves}
 use Rattle.ark_machine.specs.System.{System, machine_of}
-use Rattle.ark_machine.specs.Plane.{blocks_at, granted}
-use Rattle.ark_machine.specs.Follow.{Makes, slot_index}
-use Rattle.ark_machine.specs.Confined.{IsAllowed, readable, writable, may_sync, reach, bound_to, blocks_numbered, open_blocks}
+use Rattle.ark_machine.specs.Plane.{blocks_at}
+use Rattle.ark_machine.specs.Confined.{reach, bound_to, blocks_numbered, open_blocks}
 
-use Rattle.ark_machine.specs.Step.{step}
-use Rattle.ark_machine.specs.System.{line_turn}
-use Rattle.ark_machine.proofs.Reaching.{AllowsCall, AllowsAll, AreIn, reads, reads_some, writes, syncs, grants, drops, opens, gated_calls, tried_calls, phase_calls, poll_quiet, IsQuiet}
+use Rattle.ark_machine.proofs.Reaching.{AllowsCall, AllowsAll, AreIn, reads, writes, syncs, gated_calls, tried_calls, phase_calls, poll_quiet, IsQuiet}
 
 -- `settle`
 
