@@ -21,7 +21,7 @@ use Rattle.ark_machine.specs.Sockets.{pulled, card_at, datagrams_at}
 use Rattle.ark_machine.specs.Plane.{recorded, granted}
 use Rattle.ark_machine.specs.Step.{step}
 use Rattle.ark_machine.specs.System.{System, machine_of, owner, line_turn, quiet_turn}
-use Rattle.ark_machine.specs.Built.{turn, is_built}
+use Rattle.ark_machine.specs.Built.{turn, is_built, so_far, calls_so_far}
 use Rattle.ark_machine.specs.Follow.{Follow, ended, fails, goes_on, again, passes, Performs, PerformsFor, ends_of, slot_index}
 use Rattle.ark_machine.specs.Replies.{turn_for, system_after, has_lacked, EachAnswers, Begins, Replies}
 use Rattle.ark_machine.specs.Confined.{AllAllowed, EndsAtFailure, IsConfined, EachConfined, BeginsConfined, Confined}
@@ -140,12 +140,17 @@ line_confined s (w.tick n) ends memory es h = by_none s (w.tick n) es h
 
 -- The composed run.
 
+-- the calls that a line makes so far are those of its row, or none
+far_confined : (s : System) (line : Line) (ends : List Ended) (memory : Bool) (es : List Event) → PerformsFor s line (calls_so_far line (line_turn s line ends memory).calls) es (owner line) → AllAllowed s line es × EndsAtFailure es
+far_confined s (w.vsa a l n k) ends memory es h = by_calls s a (w.vsa a l n k) tt h
+far_confined s line ends memory es h = line_confined s line ends memory es h
+
 pub performs_confined : (s : System) (m : Meaning) (ends : List Ended) (memory : Bool) (es : List Event) → Performs s m (turn s m ends memory).calls es → IsConfined s m es
 performs_confined s (Err refusal) ends memory es h = h
 performs_confined s (Ok line) ends memory es h = by_built (is_built line) refl h
   where
-    by_built : (b : Bool) → is_built line ≡ b → PerformsFor s line (cond b (line_turn s line ends memory) (quiet_turn s (said.Refused r.UnknownWord))).calls es (owner line) → AllAllowed s line es × EndsAtFailure es
-    by_built true is g = line_confined s line ends memory es g
+    by_built : (b : Bool) → is_built line ≡ b → PerformsFor s line (cond b (so_far line (line_turn s line ends memory)) (quiet_turn s (said.Refused r.UnknownWord))).calls es (owner line) → AllAllowed s line es × EndsAtFailure es
+    by_built true is g = far_confined s line ends memory es g
     by_built false is g = by_owner (owner line) g
       where
         by_owner : (o : Option (List ℕ)) → PerformsFor s line [] es o → AllAllowed s line es × EndsAtFailure es

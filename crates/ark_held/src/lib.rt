@@ -1,0 +1,8 @@
+//! What one application holds, and what that stands for.
+#![tactic(auto)]
+
+mod app;
+mod areas;
+
+pub use app::App;
+pub use areas::{AREAS, Areas};
