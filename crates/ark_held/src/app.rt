@@ -1,5 +1,6 @@
 ghost use Rattle.std.specs.Prelude.{◌≡◌, ◌<◌, [], ◌∷◌, ◌++◌, None, length, nat_eq, IfOk, IfErr};
 ghost use Rattle.std.specs.Map.{lookup};
+ghost use Rattle.ark_base.specs.declared.refusal.Refusal.TheVariants as refusal;
 ghost use Rattle.ark_caps.specs.Labels.{value_at};
 ghost use Rattle.ark_script.specs.Text.{IsNamed};
 ghost use Rattle.ark_held.specs.Words.{area_at, no_room, new_area_cap};
@@ -19,6 +20,14 @@ pub struct App {
     pub labels: CapTable,
     /// Its areas.
     pub areas: Areas,
+}
+
+// Nothing is held under the label.
+fn no_grant(label: Label) -> Refusal
+    ensures refusal { result ≡ refusal.NoGrant label }
+    ensures named { IsNamed result }
+{
+    Refusal::NoGrant(label)
 }
 
 impl App {
@@ -48,7 +57,7 @@ impl App {
         ensures named { IfErr result (λ e. IsNamed e) }
     {
         let Some(cap) = self.labels.get(label) else {
-            return Err(Refusal::NoGrant(*label));
+            return Err(no_grant(*label));
         };
         let CapKind::Vsa = cap.kind else {
             return Err(Refusal::WrongKind);
