@@ -1,0 +1,48 @@
+-- What events beside some blocks leave.
+use Rattle.std.proofs.Common.{◌≡◌, ℕ, ◌<◌, Bool, true, false, List, [], ◌∷◌, length, get_or, refl, sym, ◌∙◌, ap, subst, Contains}
+use Rattle.std.specs.Prelude.{Option, Some}
+use Rattle.std.proofs.lemmas.Bool.{false≢true}
+use Rattle.std.proofs.lemmas.List.Elements.{Contains-get_or}
+use Rattle.ark_media.specs.Journal.{Event, Read, Write, Sync, Out, History, block, current, onto, device_events}
+use Rattle.ark_media.specs.Calls.{Adds}
+use Rattle.ark_media.proofs.Stopping.{current_other}
+use Rattle.ark_held.specs.Held.{SameAt}
+use Rattle.ark_held.specs.Beside.{AreBeside}
+
+other : (blocks : List ℕ) (m n : ℕ) → Contains blocks n → (Contains blocks m → ⊥) → n ≡ m → ⊥
+other blocks m n has apart same = apart (subst (λ (k : ℕ). Contains blocks k) same has)
+
+-- a block of theirs has the same content
+pub current_beside : (base : List (List ℕ)) (blocks : List ℕ) (es j : List Event) (n : ℕ) → Contains blocks n → AreBeside blocks es → block (current base (onto es j)) n ≡ block (current base j) n
+current_beside base blocks [] j n has beside = refl
+current_beside base blocks (Write m c took ok ∷ es) j n has beside = current_beside base blocks es (Write m c took ok ∷ j) n has beside.1 ∙ current_other base j m n c took ok (other blocks m n has beside.0)
+current_beside base blocks (Read m ok ∷ es) j n has beside = current_beside base blocks es (Read m ok ∷ j) n has beside
+current_beside base blocks (Sync ok ∷ es) j n has beside = current_beside base blocks es (Sync ok ∷ j) n has beside
+current_beside base blocks (Out bytes ∷ es) j n has beside = current_beside base blocks es (Out bytes ∷ j) n has beside
+
+pub same_beside : (before after : Option History) (es : List Event) (blocks : List ℕ) → Adds before after es → AreBeside blocks es → SameAt before after blocks
+same_beside before after es blocks adds beside = λ h told.
+    let was = adds.told h told in (
+      record { base = h.base; journal = was.0 },
+      was.1,
+      λ k lt. ap (λ (j : List Event). block (current h.base j) (get_or blocks k 0)) was.2 ∙ current_beside h.base blocks es was.0 (get_or blocks k 0) (Contains-get_or blocks k 0 lt) beside,
+    )
+
+abbrev is_call : List Event → Bool
+is_call [] = false
+is_call (e ∷ es) = true
+
+not_silent : (e : Event) (es : List Event) → e ∷ es ≡ [] → ⊥
+not_silent e es h = false≢true (sym (ap is_call h))
+
+-- outputs write no block
+pub outputs_beside : (blocks : List ℕ) (es : List Event) → device_events es ≡ [] → AreBeside blocks es
+outputs_beside blocks [] silent = tt
+outputs_beside blocks (Out bytes ∷ es) silent = outputs_beside blocks es silent
+outputs_beside blocks (Write n c took ok ∷ es) silent = absurd (not_silent _ _ silent)
+outputs_beside blocks (Read n ok ∷ es) silent = absurd (not_silent _ _ silent)
+outputs_beside blocks (Sync ok ∷ es) silent = absurd (not_silent _ _ silent)
+
+-- the same blocks, and told as before
+pub same_told : (told : Option History) (blocks : List ℕ) → SameAt told told blocks
+same_told told blocks = λ h is. (h, is, λ k lt. refl)
