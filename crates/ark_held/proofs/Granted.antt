@@ -17,7 +17,7 @@ use Rattle.ark_machine.specs.Objects
 use Rattle.ark_machine.specs.Objects.{Raw}
 use Rattle.ark_machine.specs.Machine.{Machine, Held, with_new}
 use Rattle.ark_machine.specs.Plane.{is_slot_of}
-use Rattle.ark_held.specs.Words.{Labels, AreaList, new_area_cap}
+use Rattle.ark_held.specs.Words.{Labels, AreaList, new_area_cap, with_area, added_to}
 use Rattle.ark_held.specs.Held.{Around, slot_at, IsRaw, Matches, Holds, is_area, area_labels, Grows, StaysAt}
 use Rattle.ark_held.proofs.Keeping.{all_kept, all_more}
 use Rattle.ark_held.proofs.Besides.{same_told}
@@ -61,6 +61,10 @@ module _ {K V : Type 0} (test : K → Bool) where
       by : (b : Bool) → (lookup test (xs ++ e ∷ []) ≡ None → (lookup test xs ≡ None) × (test e.0 ≡ false)) → cond b (Some x.1) (lookup test (xs ++ e ∷ [])) ≡ None → (cond b (Some x.1) (lookup test xs) ≡ None) × (test e.0 ≡ false)
       by true rest h = absurd (false≢true (sym (ap is_some h)))
       by false rest h = rest h
+
+-- an area of a new grant goes last
+pub added_last : (g : ℕ) (blocks : List ℕ) (es : AreaList) → lookup (nat_eq g) es ≡ None → with_area es g blocks ≡ es ++ (g, blocks) ∷ []
+added_last g blocks es none = ap (λ o. added_to es g blocks o) none
 
 -- Slots with one more.
 

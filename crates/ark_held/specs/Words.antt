@@ -1,5 +1,5 @@
 -- What is found under a label, and why nothing can be added there.
-use Rattle.std.specs.Prelude.{ℕ, Bool, true, false, ◌||◌, List, length, nat_eq, nat_le, Option, Some, None, Result, Ok, Err}
+use Rattle.std.specs.Prelude.{ℕ, Bool, true, false, ◌||◌, List, [], ◌∷◌, ◌++◌, length, nat_eq, nat_le, Option, Some, None, Result, Ok, Err}
 use Rattle.std.specs.Map.{lookup}
 use Rattle.ark_base.specs.declared.refusal.Refusal.{Refusal}
 use Rattle.ark_base.specs.declared.refusal.Refusal.TheVariants as r
@@ -46,3 +46,11 @@ no_room labels areas l = room_under labels areas (value_at labels l)
 -- the capability of an area
 abbrev pub new_area_cap : ℕ → Capability
 new_area_cap grant = record { kind = cap_kind.Vsa; grant = grant; key = 0 }
+
+abbrev pub added_to : AreaList → ℕ → List ℕ → Option (List ℕ) → AreaList
+added_to areas grant blocks None = areas ++ (grant, blocks) ∷ []
+added_to areas grant blocks (Some old) = areas
+
+-- with an area more at the end, unless there is one of this grant
+abbrev pub with_area : AreaList → ℕ → List ℕ → AreaList
+with_area areas grant blocks = added_to areas grant blocks (lookup (nat_eq grant) areas)

@@ -1,9 +1,7 @@
-ghost use Rattle.std.specs.Prelude.{◌≡◌, ◌<◌, [], ◌∷◌, ◌++◌, None, length, nat_eq, IfOk, IfErr};
-ghost use Rattle.std.specs.Map.{lookup};
+ghost use Rattle.std.specs.Prelude.{◌≡◌, [], ◌∷◌, ◌++◌, None, IfOk, IfErr};
 ghost use Rattle.ark_base.specs.declared.refusal.Refusal.TheVariants as refusal;
-ghost use Rattle.ark_caps.specs.Labels.{value_at};
 ghost use Rattle.ark_script.specs.Text.{IsNamed};
-ghost use Rattle.ark_held.specs.Words.{area_at, no_room, new_area_cap};
+ghost use Rattle.ark_held.specs.Words.{area_at, no_room, new_area_cap, with_area};
 
 use crate::areas::{AREAS, Areas};
 use ark_base::{AppName, Label, Memory, Refusal};
@@ -88,9 +86,8 @@ impl App {
     /// Adds an area of this grant under a label.
     pub fn add_area(&mut self, label: Label, grant: u64, spans: Spans)
         requires room { no_room self.old.labels self.old.areas label ≡ None }
-        requires new { lookup (nat_eq grant) self.old.areas ≡ None }
         ensures labels { self.new.labels ≡ self.old.labels ++ (label, new_area_cap grant) ∷ [] }
-        ensures areas { self.new.areas ≡ self.old.areas ++ (grant, spans) ∷ [] }
+        ensures areas { self.new.areas ≡ with_area self.old.areas grant spans }
         ensures name { self.new.name ≡ self.old.name }
     {
         let cap = Capability {

@@ -1,5 +1,6 @@
-ghost use Rattle.std.specs.Prelude.{◌≡◌, ◌≤◌, ◌<◌, [], ◌∷◌, ◌++◌, None, length, nat_eq, IfOk};
+ghost use Rattle.std.specs.Prelude.{◌≡◌, ◌<◌, [], length, nat_eq, IfOk};
 ghost use Rattle.std.specs.Map.{lookup};
+ghost use Rattle.ark_held.specs.Words.{with_area};
 
 use ark_base::Memory;
 use ark_extents::Spans;
@@ -53,12 +54,14 @@ impl Areas {
         self.spans.get(&grant).copied()
     }
 
-    /// Adds an area at the end. It takes no memory.
+    /// Adds an area at the end, unless there is one of this grant. It takes no memory.
     pub fn add(&mut self, grant: u64, spans: Spans)
-        requires new { lookup (nat_eq grant) self.old ≡ None }
         requires room { length self.old < 8 }
-        ensures added { self.new ≡ self.old ++ (grant, spans) ∷ [] }
+        ensures added { self.new ≡ with_area self.old grant spans }
     {
+        if self.spans.contains_key(&grant) {
+            return;
+        }
         match self.spans.insert(grant, spans) {
             Ok(_) => {}
             Err(_) => unreachable!(),

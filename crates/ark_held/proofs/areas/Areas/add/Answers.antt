@@ -1,12 +1,18 @@
-use Rattle.std.proofs.Common.{◌∙◌, ap, List, ℕ, [], ◌∷◌, ◌++◌}
+use Rattle.std.proofs.Common.{◌∙◌, ap, sym, List, ℕ, [], ◌∷◌, ◌++◌}
 use Rattle.std.specs.Prelude.{nat_eq}
 use Rattle.std.specs.Map.{lookup}
 use Rattle.indexmap.proofs.CallerLemmas.{insert_entry-new}
+use Rattle.ark_caps.proofs.LabelLemmas.{finds_none}
+use Rattle.ark_held.proofs.Granted.{added_last}
 use Rattle.ark_held.proofs.areas.Areas.add.Goals as goal
 
 pub returns : goal.returns
-returns c = record {
-  added = c.in-Ok.ensures.entries
-      ∙ insert_entry-new nat_eq c.self.inside.spans c.args.grant c.args.spans (ap (λ (es : List (ℕ × List ℕ)). lookup (nat_eq c.args.grant) es) c.self.view_is ∙ c.requires.new)
-      ∙ ap (λ (es : List (ℕ × List ℕ)). es ++ (c.args.grant, c.args.spans) ∷ []) c.self.view_is;
-}
+returns c =
+    let grant = c.args.grant in
+    let none = finds_none (lookup (nat_eq grant) c.self.inside.spans.entries) c.contains_key.result c.contains_key.ensures c.if-contains_key.false in
+    record {
+      added = c.in-Ok.ensures.entries
+          ∙ insert_entry-new nat_eq c.self.inside.spans grant c.args.spans none
+          ∙ ap (λ (es : List (ℕ × List ℕ)). es ++ (grant, c.args.spans) ∷ []) c.self.view_is
+          ∙ sym (added_last grant c.args.spans c.args.self.now (sym (ap (λ (es : List (ℕ × List ℕ)). lookup (nat_eq grant) es) c.self.view_is) ∙ none));
+    }
