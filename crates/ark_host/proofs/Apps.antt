@@ -1,9 +1,12 @@
 -- The row of `app`, as a host comes to it.
-use Rattle.std.proofs.Common.{◌≡◌, ℕ, true, false, ◌<◌, ◌≤◌, List, [], ◌∷◌, ◌++◌, length, nat_le, refl, sym, ◌∙◌, ap, if◌then◌else◌, ◌||◌, bytes_eq, arith}
+use Rattle.std.proofs.Common.{◌≡◌, ℕ, true, false, ◌<◌, ◌≤◌, Bool, cond, List, [], ◌∷◌, ◌++◌, length, map, get_or, nat_le, refl, sym, ◌∙◌, ap, subst, bytes_eq, arith}
+use Rattle.std.proofs.lemmas.Bool.{false≢true}
 use Rattle.std.proofs.lemmas.Bool.Decides.{nat_tests}
-use Rattle.std.proofs.Math.Bool.{or-true, or-false}
-use Rattle.std.specs.List.{list_any}
-use Rattle.std.specs.Prelude.{Option, unwrap_or}
+use Rattle.std.proofs.lemmas.Slice.Eq.{bytes_eq-Decides}
+use Rattle.std.proofs.lemmas.List.{length-map}
+use Rattle.std.proofs.lemmas.List.Folds.{find-append}
+use Rattle.std.specs.Prelude.{Option, Some, None, find, position, is_some, unwrap_or}
+use Rattle.std.specs.Option.{option_or}
 use Rattle.ark_base.specs.declared.refusal.Refusal.TheVariants as r
 use Rattle.ark_media.specs.Calls.{Told}
 use Rattle.ark_script.specs.Line as w
@@ -11,48 +14,84 @@ use Rattle.ark_script.specs.declared.said.Said.TheVariants as said
 use Rattle.ark_machine.specs.Machine.{Machine}
 use Rattle.ark_machine.specs.Row.{answer, says}
 use Rattle.ark_machine.specs.Step.{usual_frames}
-use Rattle.ark_machine.specs.Plane.{max_apps}
+use Rattle.ark_machine.specs.Plane.{Plane, max_apps}
 use Rattle.ark_machine.specs.System.{System, machine_of}
 use Rattle.ark_machine.specs.Follow.{ended}
+use Rattle.ark_held.specs.Held.{Holds}
+use Rattle.ark_held.specs.declared.app.App.{App}
+use Rattle.ark_held.proofs.Besides.{same_told}
+use Rattle.ark_held.proofs.Granted.{holds_none}
 use Rattle.ark_host.specs.declared.host.Host.{Host}
-use Rattle.ark_host.specs.Stands.{Stands, Turned, app_row}
-use Rattle.ark_host.proofs.Machines.{by_test, listed_machine-set, list_any-more}
-use Rattle.ark_host.proofs.Standing.{same_host, refused}
+use Rattle.ark_host.specs.Stands.{Stands, Turned, AtApp, IsHeld, IsUnmade, IsZero, app_row, app_of, around}
+use Rattle.ark_host.proofs.Machines.{by_test, bytes_eq-same}
+use Rattle.ark_host.proofs.Lists.{first_found, none_found}
+use Rattle.ark_host.proofs.Standing.{refused}
+use Rattle.ark_host.proofs.Setting.{with_set, set_apps, set_now, set_here}
+
+-- What a name's place says of its machine.
+
+made_at : (grants : ℕ) (told : Told) (s : System) (a : List ℕ) (app : App) (o : Option App) → o ≡ Some app → AtApp grants told s a o → IsHeld grants told s a app
+made_at grants told s a app o is h = subst (λ (x : Option App). AtApp grants told s a x) is h
+
+unmade_at : (grants : ℕ) (told : Told) (s : System) (a : List ℕ) (o : Option App) → o ≡ None → AtApp grants told s a o → IsUnmade s a
+unmade_at grants told s a o is h = subst (λ (x : Option App). AtApp grants told s a x) is h
+
+module _ (s : System) (host : Host) (told : Told) (a : List ℕ) (st : Stands host told s) where
+  pub held_at : (k : ℕ) (d : App) → position (λ app. bytes_eq a app.name) host.apps.items ≡ Some k → IsHeld host.grants told s a (get_or host.apps.items k d)
+  held_at k d is = made_at host.grants told s a (get_or host.apps.items k d) (app_of host.apps.items a) (first_found (λ app. bytes_eq a app.name) host.apps.items k d is).1 (st.machines a)
+
+  pub none_at : position (λ app. bytes_eq a app.name) host.apps.items ≡ None → IsUnmade s a
+  none_at is = unmade_at host.grants told s a (app_of host.apps.items a) (none_found (λ app. bytes_eq a app.name) host.apps.items is) (st.machines a)
+
+  pub not_made : position (λ app. bytes_eq a app.name) host.apps.items ≡ None → (machine_of s a).made ≡ false
+  not_made is = ap (λ (m : Machine). m.made) (none_at is).machine
+
+none_if : {A : Type 0} (o : Option A) → is_some o ≡ false → o ≡ None
+none_if None h = refl
+none_if (Some x) h = absurd (false≢true (sym h))
+
+some_if : {A : Type 0} (o : Option A) → is_some o ≡ true → (x : A) × (o ≡ Some x)
+some_if None h = absurd (false≢true h)
+some_if (Some x) h = (x, refl)
 
 module _ (s : System) (host : Host) (told : Told) (a : List ℕ) (frames : Option ℕ) (st : Stands host told s) where
   -- the application was made
-  pub app_taken : list_any (λ b. bytes_eq a b) host.apps.items ≡ true → Turned host told s a (w.app a frames) (app_row s a frames [] (said.Refused r.NameTaken)) [] (said.Refused r.NameTaken) []
+  pub app_taken : (d : App) → is_some (position (λ app. bytes_eq a app.name) host.apps.items) ≡ true → Turned host told s a (w.app a frames) (app_row s a frames [] (said.Refused r.NameTaken)) [] (said.Refused r.NameTaken) []
   unfolding answer
-  app_taken has =
-      let made : (machine_of s a).made ≡ true = st.made a ∙ has in
+  app_taken d has =
+      let place = some_if (position (λ app. bytes_eq a app.name) host.apps.items) has in
+      let made : (machine_of s a).made ≡ true = (held_at s host told a st place.0 d place.1).holds.made in
       let row : app_row s a frames [] (said.Refused r.NameTaken) ≡ says (machine_of s a) (said.Refused r.NameTaken) = rw made refl in
-      refused host told s a (w.app a frames) _ r.NameTaken refl row st
+      refused host told s a (w.app a frames) _ r.NameTaken refl refl row st
 
-  module _ (new : list_any (λ b. bytes_eq a b) host.apps.items ≡ false) where
+  module _ (new : is_some (position (λ app. bytes_eq a app.name) host.apps.items) ≡ false) where
     unmade : (machine_of s a).made ≡ false
-    unmade = st.made a ∙ new
+    unmade = not_made s host told a st (none_if (position (λ app. bytes_eq a app.name) host.apps.items) new)
+
+    made_count : length s.plane.apps ≡ length host.apps.items
+    made_count = ap (λ (l : List (List ℕ)). length l) st.apps ∙ length-map host.apps.items (λ app. app.name)
 
     -- as many applications as may be were made
     pub app_limited : max_apps ≤ length host.apps.items → Turned host told s a (w.app a frames) (app_row s a frames [] (said.Refused r.Limit)) [] (said.Refused r.Limit) []
     unfolding answer
     app_limited many =
         let fresh : (machine_of s a).made ≡ false = unmade in
-        let full : nat_le max_apps (length s.plane.apps) ≡ true = ap (λ (l : List (List ℕ)). nat_le max_apps (length l)) st.apps ∙ grind (arith, nat_tests) in
+        let full : nat_le max_apps (length s.plane.apps) ≡ true = ap (λ n. nat_le max_apps n) made_count ∙ grind (arith, nat_tests) in
         let row : app_row s a frames [] (said.Refused r.Limit) ≡ says (machine_of s a) (said.Refused r.Limit) = rw (fresh, full) refl in
-        refused host told s a (w.app a frames) _ r.Limit refl row st
+        refused host told s a (w.app a frames) _ r.Limit refl refl row st
 
     module _ (few : length host.apps.items < max_apps) where
       room : nat_le max_apps (length s.plane.apps) ≡ false
-      room = ap (λ (l : List (List ℕ)). nat_le max_apps (length l)) st.apps ∙ grind (arith, nat_tests)
+      room = ap (λ n. nat_le max_apps n) made_count ∙ grind (arith, nat_tests)
 
       -- memory was wanting
-      pub app_lacking : (now : Host) → now.apps.items ≡ host.apps.items → now.clock ≡ host.clock → Turned now told s a (w.app a frames) (app_row s a frames [] (said.Refused r.NoMemory)) [] (said.Refused r.NoMemory) []
+      pub app_lacking : Turned host told s a (w.app a frames) (app_row s a frames [] (said.Refused r.NoMemory)) [] (said.Refused r.NoMemory) []
       unfolding answer
-      app_lacking now is time =
+      app_lacking =
           let fresh : (machine_of s a).made ≡ false = unmade in
           let open_room : nat_le max_apps (length s.plane.apps) ≡ false = room in
           let row : app_row s a frames [] (said.Refused r.NoMemory) ≡ says (machine_of s a) (said.Refused r.NoMemory) = rw (fresh, open_room) refl in
-          refused now told s a (w.app a frames) _ r.NoMemory refl row (same_host host now told s is time st)
+          refused host told s a (w.app a frames) _ r.NoMemory refl refl row st
 
       -- the machine that is made
       abbrev one : Machine
@@ -66,25 +105,56 @@ module _ (s : System) (host : Host) (told : Told) (a : List ℕ) (frames : Optio
           rw (fresh, open_room) refl
 
       -- it is made now
-      pub app_made : (now : Host) → now.apps.items ≡ host.apps.items ++ a ∷ [] → now.clock ≡ host.clock → Turned now told s a (w.app a frames) (app_row s a frames [] said.Ok) [] said.Ok []
-      app_made now is time = rw made_row (record {
-        said = refl;
-        bytes = λ h told. refl;
-        calls = ended;
-        none = λ want. refl;
-        stands = record {
-          size = st.size;
-          apps = ap (λ (l : List (List ℕ)). l ++ a ∷ []) st.apps ∙ sym is;
-          slots = st.slots;
-          now = st.now ∙ sym time;
-          made = λ b.
-              ap (λ (m : Machine). m.made) (listed_machine-set s.now one refl s.machines a b)
-              ∙ by_test (bytes_eq b a) (λ t. t ≡ bytes_eq b a → (if t then one else machine_of s b).made ≡ (list_any (λ c. bytes_eq b c) host.apps.items || t))
-              (λ yes q. sym (or-true (list_any (λ c. bytes_eq b c) host.apps.items)))
-              (λ not q. st.made b ∙ sym (or-false (list_any (λ c. bytes_eq b c) host.apps.items))) refl
-              ∙ sym (ap (λ (l : List (List ℕ)). list_any (λ c. bytes_eq b c) l) is ∙ list_any-more host.apps.items a b);
-          same_now = λ b.
-              ap (λ (m : Machine). m.now) (listed_machine-set s.now one refl s.machines a b)
-              ∙ by_test (bytes_eq b a) (λ t. (if t then one else machine_of s b).now ≡ s.now) (λ yes. st.same_now a) (λ not. st.same_now b);
-        };
-      })
+      module _ (now : Host) (app : App) (items : now.apps.items ≡ host.apps.items ++ app ∷ []) (free : now.free ≡ host.free) (grants : now.grants ≡ host.grants) (slots : now.slots ≡ host.slots) (clock : now.clock ≡ host.clock)
+          (name : app.name ≡ a) (labels : app.labels ≡ []) (areas : app.areas ≡ []) where
+        abbrev plane : Plane
+        plane = record s.plane { apps = s.plane.apps ++ a ∷ [] }
+
+        gone : IsUnmade s a
+        gone = none_at s host told a st (none_if (position (λ x. bytes_eq a x.name) host.apps.items) new)
+
+        own : IsHeld now.grants told (with_set s plane a one) a app
+        own = record {
+          numbers = [];
+          holds = subst (λ (m : Machine). Holds (around (with_set s plane a one) told a [] app.areas) app.labels m) (sym (set_here s plane a one refl))
+              (rw labels (holds_none (around (with_set s plane a one) told a [] app.areas) one refl (ap (λ (m : Machine). m.serial) gone.machine) (ap (λ (m : Machine). m.held) gone.machine) refl areas gone.slots));
+          below = λ g le. rw areas refl;
+        }
+
+        found_last : (b : List ℕ) → app_of now.apps.items b ≡ option_or (app_of host.apps.items b) (cond (bytes_eq b a) (Some app) None)
+        found_last b =
+            ap (λ (l : List App). app_of l b) items
+            ∙ find-append (λ x. bytes_eq b x.name) host.apps.items (app ∷ [])
+            ∙ ap (λ (n : List ℕ). option_or (app_of host.apps.items b) (cond (bytes_eq b n) (Some app) None)) name
+
+        or_none : (o : Option App) → option_or o None ≡ o
+        or_none None = refl
+        or_none (Some x) = refl
+
+        more_names : (l : List App) → map (λ x. x.name) l ++ a ∷ [] ≡ map (λ x. x.name) (l ++ app ∷ [])
+        more_names [] = ap (λ (n : List ℕ). n ∷ []) (sym name)
+        more_names (x ∷ xs) = ap (λ (ns : List (List ℕ)). x.name ∷ ns) (more_names xs)
+
+        pub app_made : Turned now told s a (w.app a frames) (app_row s a frames [] said.Ok) [] said.Ok []
+        app_made = rw made_row (record {
+          said = refl;
+          bytes = λ h told. refl;
+          calls = ended;
+          none = λ want. refl;
+          stands = record {
+            size = st.size;
+            apps = ap (λ (l : List (List ℕ)). l ++ a ∷ []) st.apps ∙ more_names host.apps.items ∙ sym (ap (λ (l : List App). map (λ x. x.name) l) items);
+            slots = st.slots ∙ sym slots;
+            free = st.free ∙ sym free;
+            settled = st.settled;
+            apart = st.apart;
+            inside = st.inside;
+            zero = subst (λ (l : List ℕ). IsZero told l) (sym free) st.zero;
+            now = st.now ∙ sym clock;
+            machines = set_apps s plane a one refl host.grants now.grants told told host.apps.items now.apps.items app (omega (arith, grants)) own
+                (λ b q. found_last b ∙ ap (λ t. option_or (app_of host.apps.items b) (cond t (Some app) None)) q ∙ ap (λ o. option_or o (Some app)) (ap (λ (c : List ℕ). app_of host.apps.items c) ((bytes_eq-Decides b a).0 q) ∙ none_found (λ x. bytes_eq a x.name) host.apps.items (none_if (position (λ x. bytes_eq a x.name) host.apps.items) new)))
+                (λ b q. found_last b ∙ ap (λ t. option_or (app_of host.apps.items b) (cond t (Some app) None)) q ∙ or_none (app_of host.apps.items b))
+                (λ b l q. refl) (λ b l t q there. same_told told.history t.blocks) st.machines;
+            same_now = set_now s plane a one refl (st.same_now a) st.same_now;
+          };
+        })

@@ -1,5 +1,8 @@
 pub mod Machines
+pub mod Lists
+pub mod Freeing
 pub mod Standing
-pub mod Apps
+pub mod Setting
 pub mod Ticking
-pub mod Words
+pub mod Apps
+pub mod Finding

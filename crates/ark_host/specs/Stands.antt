@@ -1,30 +1,77 @@
 -- What the host stands for, and what its functions promise.
-use Rattle.std.specs.Prelude.{◌≡◌, ℕ, true, List, [], Option, Some, unwrap_or, bytes_eq}
-use Rattle.std.specs.List.{list_any}
-use Rattle.ark_media.specs.Journal.{Event, History}
+use Rattle.std.specs.Prelude.{◌≡◌, ℕ, ◌≤◌, ◌<◌, false, true, List, [], length, map, Option, Some, None, find, unwrap_or, nat_eq, bytes_eq, Contains}
+use Rattle.std.specs.Map.{lookup}
+use Rattle.ark_base.specs.declared.kind.Kind.TheVariants as kind
+use Rattle.ark_media.specs.Journal.{Event, History, block, current, zero_block}
 use Rattle.ark_media.specs.Calls.{Told}
+use Rattle.ark_table.specs.Slots.{Slot}
 use Rattle.ark_script.specs.Line as w
 use Rattle.ark_script.specs.Line.{Line}
 use Rattle.ark_script.specs.Lines.{Meaning}
 use Rattle.ark_script.specs.Text.{wants_memory}
 use Rattle.ark_script.specs.declared.said.Said.{Said}
+use Rattle.ark_machine.specs.Machine.{unmade}
 use Rattle.ark_machine.specs.Row.{Row}
 use Rattle.ark_machine.specs.Control as control
+use Rattle.ark_machine.specs.Areas as areas
 use Rattle.ark_machine.specs.Step.{usual_frames}
-use Rattle.ark_machine.specs.Plane.{recorded}
+use Rattle.ark_machine.specs.Plane.{recorded, slot_of, free_blocks}
 use Rattle.ark_machine.specs.System.{System, Turn, machine_of, own_turn}
-use Rattle.ark_machine.specs.Built.{turn}
+use Rattle.ark_machine.specs.Built.{turn, calls_so_far}
 use Rattle.ark_machine.specs.Follow.{Follow, Performs, ends_of}
 use Rattle.ark_machine.specs.Replies.{MayLack}
+use Rattle.ark_held.specs.Words.{AreaList}
+use Rattle.ark_held.specs.Held.{Around, Holds}
+use Rattle.ark_held.specs.declared.app.App.{App}
 use Rattle.ark_host.specs.declared.host.Host.{Host}
 
--- With what its disk tells, the host stands for this system: one clause for each part of the plane and of the machines.
+-- where the history is told, these blocks are zero
+abbrev pub IsZero : Told → List ℕ → Type 0
+IsZero told blocks = (h : History) → told.history ≡ Some h → (n : ℕ) → Contains blocks n → block (current h.base h.journal) n ≡ zero_block
+
+-- a block has one slot
+abbrev pub AreApart : List Slot → Type 0
+AreApart slots = (t u : Slot) (n : ℕ) → Contains slots t → Contains slots u → Contains t.blocks n → Contains u.blocks n → t ≡ u
+
+-- the device has each block of a slot
+abbrev pub AreInside : ℕ → List Slot → Type 0
+AreInside size slots = (t : Slot) (n : ℕ) → Contains slots t → Contains t.blocks n → n < size
+
+abbrev pub app_of : List App → List ℕ → Option App
+app_of apps a = find (λ app. bytes_eq a app.name) apps
+
+-- what the labels of an application are compared with
+abbrev pub around : System → Told → List ℕ → List ℕ → AreaList → Around
+around s told a numbers held = record { name = a; numbers = numbers; areas = held; slots = s.plane.slots; told = told.history }
+
+-- an application that was made, by the grant numbers of its objects; later grants have greater numbers
+pub record IsHeld (grants : ℕ) (told : Told) (s : System) (a : List ℕ) (app : App) : Type 0 where
+  pub numbers : List ℕ
+  pub holds : Holds (around s told a numbers app.areas) app.labels (machine_of s a)
+  pub below : (g : ℕ) → grants ≤ g → lookup (nat_eq g) app.areas ≡ None
+
+-- an application that was not made has no machine and no slot
+pub record IsUnmade (s : System) (a : List ℕ) : Type 0 where
+  pub machine : machine_of s a ≡ record unmade { now = s.now }
+  pub slots : (l : List ℕ) → slot_of s.plane a l ≡ None
+
+abbrev pub AtApp : ℕ → Told → System → List ℕ → Option App → Type 0
+AtApp grants told s a None = IsUnmade s a
+AtApp grants told s a (Some app) = IsHeld grants told s a app
+
+-- With what its disk tells, the host stands for this system: one clause for each part of the plane, and one for the machine
+-- of each application.
 pub record Stands (host : Host) (told : Told) (s : System) : Type 0 where
   pub size : s.plane.size ≡ told.blocks
-  pub apps : s.plane.apps ≡ host.apps.items
-  pub slots : s.plane.slots ≡ []
+  pub apps : s.plane.apps ≡ map (λ app. app.name) host.apps.items
+  pub slots : length s.plane.slots ≡ host.slots
+  pub free : free_blocks s.plane ≡ host.free
+  pub settled : s.plane.failed ≡ false
+  pub apart : AreApart s.plane.slots
+  pub inside : AreInside told.blocks s.plane.slots
+  pub zero : IsZero told host.free
   pub now : s.now ≡ host.clock
-  pub made : (a : List ℕ) → (machine_of s a).made ≡ list_any (λ b. bytes_eq a b) host.apps.items
+  pub machines : (a : List ℕ) → AtApp host.grants told s a (app_of host.apps.items a)
   -- the tick of every machine is that of the system
   pub same_now : (a : List ℕ) → (machine_of s a).now ≡ s.now
 
@@ -33,7 +80,7 @@ pub record Stands (host : Host) (told : Told) (s : System) : Type 0 where
 pub record Turned (host : Host) (told : Told) (s : System) (a : List ℕ) (line : Line) (row : Row) (es : List Event) (reply : Said) (shown : List ℕ) : Type 0 where
   pub said : reply ≡ row.said
   pub bytes : (h : History) → told.history ≡ Some h → shown ≡ row.bytes
-  pub calls : Follow s a line row.calls es
+  pub calls : Follow s a line (calls_so_far line row.calls) es
   pub none : wants_memory reply ≡ true → es ≡ []
   pub stands : Stands host told (own_turn s a line row).after
 
@@ -52,7 +99,17 @@ pub record Answered (host : Host) (told : Told) (s : System) (m : Meaning) (es :
   pub memory : MayLack m (wants_memory reply)
   pub stands : Stands host told (turn s m (ends_of es) (wants_memory reply)).after
 
--- the row of `app` for this reply: memory was wanting where the reply says so
+-- The rows of the words, for these events and this reply: memory was wanting where the reply says so.
+
 abbrev pub app_row : System → List ℕ → Option ℕ → List Event → Said → Row
 app_row s a frames es reply =
     control.app (machine_of s a) (unwrap_or frames usual_frames) (recorded s.plane (w.app a frames) (ends_of es) (wants_memory reply))
+
+abbrev pub vsa_row : System → List ℕ → List ℕ → ℕ → List Event → Said → Row
+vsa_row s a l n es reply = areas.vsa (machine_of s a) l n kind.Raw (recorded s.plane (w.vsa a l n kind.Raw) (ends_of es) (wants_memory reply))
+
+abbrev pub peek_row : System → List ℕ → List ℕ → ℕ → List Event → Said → Row
+peek_row s a l off es reply = areas.peek (machine_of s a) l off (recorded s.plane (w.peek a l off) (ends_of es) (wants_memory reply))
+
+abbrev pub poke_row : System → List ℕ → List ℕ → ℕ → List ℕ → List Event → Said → Row
+poke_row s a l off bytes es reply = areas.poke (machine_of s a) l off bytes (recorded s.plane (w.poke a l off bytes) (ends_of es) (wants_memory reply))

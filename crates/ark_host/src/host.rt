@@ -1,5 +1,6 @@
-ghost use Rattle.std.specs.Prelude.{◌≡◌, ◌+◌, ◌^◌, ◌<◌, [], Ok};
+ghost use Rattle.std.specs.Prelude.{◌≡◌, ◌+◌, ◌^◌, ◌<◌, Ok, IfOk};
 ghost use Rattle.ark_media.specs.Calls.{GoesBy, Told};
+ghost use Rattle.ark_extents.specs.Free.{free_at_first};
 ghost use Rattle.ark_script.specs.Line.{line_of};
 ghost use Rattle.ark_script.specs.Reply.{bytes_shown};
 ghost use Rattle.ark_script.specs.Text.{IsSaid};
@@ -7,9 +8,13 @@ ghost use Rattle.ark_machine.specs.System.{System, fresh_system};
 ghost use Rattle.ark_host.specs.Time.{IsSound, IsTimely};
 
 mod apps;
+mod areas;
+mod bytes;
 mod time;
 
-use ark_base::{AppName, Refusal};
+use ark_base::{Kind, Memory, Refusal};
+use ark_extents::FreeMap;
+use ark_held::App;
 use ark_media::Disk;
 use ark_script::{Reply, Said, Step};
 use std::alloc::Global;
@@ -17,42 +22,49 @@ use std::alloc::Global;
 /// The control plane with what it granted: what a script's lines act on.
 #[derive(Drop)]
 pub struct Host {
-    apps: Vec<AppName>,
+    // the applications, in the order in which they were made
+    apps: Vec<App>,
+    // the blocks that no area has
+    free: FreeMap,
+    // how many grants were made
+    grants: u64,
+    // how many slots of the device's table are in use
+    slots: u16,
     // the tick
     clock: u64,
     // how many lines were served
     lines: u32,
-}
-
-// Says this, and shows no bytes.
-fn say(out: &mut Reply, said: Said)
-    ensures said { out.new.said ≡ said }
-    ensures none { bytes_shown out.new ≡ [] }
-{
-    out.say(said, 0);
+    alloc: Global,
 }
 
 impl Host {
-    ghost use Rattle.ark_host.specs.Stands.{Stands, Answered};
+    ghost use Rattle.ark_host.specs.Stands.{Stands, Answered, IsZero};
 
-    /// The host of a fresh device: nothing is granted. Takes no memory.
-    pub fn new(alloc: Global) -> Host
-        ensures stands { (told : Told) → Stands result told (fresh_system told.blocks) }
-        ensures sound { IsSound result }
-        ensures none { result.lines ≡ 0 }
+    /// The host of a fresh device of so many blocks: nothing is granted. `Memory` comes only for want of memory.
+    pub fn new(alloc: Global, blocks: u32) -> Result<Host, Memory>
+        ensures stands { IfOk result (λ host. (told : Told) → told.blocks ≡ blocks → IsZero told (free_at_first blocks) → Stands host told (fresh_system told.blocks)) }
+        ensures sound { IfOk result (λ host. IsSound host) }
+        ensures none { IfOk result (λ host. host.lines ≡ 0) }
     {
-        Host {
-            apps: Vec::new(alloc),
-            clock: 0,
-            lines: 0,
+        match FreeMap::new(alloc, blocks) {
+            Err(_) => Err(Memory),
+            Ok(free) => Ok(Host {
+                apps: Vec::new(alloc),
+                free,
+                grants: 0,
+                slots: 0,
+                clock: 0,
+                lines: 0,
+                alloc,
+            }),
         }
     }
 
     /// How many slots of the device's table are in use.
     pub fn slots(&self) -> u16
-        ensures { result ≡ 0 }
+        ensures { result ≡ self.now.slots }
     {
-        0
+        self.slots
     }
 
     /// How many lines it has served.
@@ -73,18 +85,26 @@ impl Host {
         ensures sound { IsSound self.new }
         ensures counted { self.new.lines ≡ self.old.lines + 1 }
     {
-        let _ = disk;
         self.lines += 1;
         match step {
             Step::App(name, frames) => {
                 let said = self.make_app(name, *frames);
-                say(out, said);
+                bytes::say(out, said);
+            }
+            Step::Vsa(name, label, blocks, Kind::Raw) => {
+                let said = self.grant_area(name, label, *blocks);
+                bytes::say(out, said);
+            }
+            Step::Peek(name, label, off) => self.peek(name, label, *off, disk, out),
+            Step::Poke(name, label, off, hex) => {
+                let said = self.poke(name, label, *off, hex, disk);
+                bytes::say(out, said);
             }
             Step::Tick(ticks) => {
                 let said = self.tick(*ticks);
-                say(out, said);
+                bytes::say(out, said);
             }
-            _ => say(out, Said::Refused(Refusal::UnknownWord)),
+            _ => bytes::say(out, Said::Refused(Refusal::UnknownWord)),
         }
     }
 }

@@ -1,5 +1,4 @@
-ghost use Rattle.std.specs.Prelude.{◌≡◌, [], bytes_eq};
-ghost use Rattle.std.specs.List.{list_any};
+ghost use Rattle.std.specs.Prelude.{◌≡◌, [], bytes_eq, position};
 ghost use Rattle.ark_media.specs.Calls.{Told};
 ghost use Rattle.ark_script.specs.Line as w;
 ghost use Rattle.ark_script.specs.Text.{IsSaid};
@@ -7,16 +6,17 @@ ghost use Rattle.ark_machine.specs.System.{System};
 
 use super::Host;
 use ark_base::{AppName, Refusal};
+use ark_held::App;
 use ark_script::Said;
 
 // At most so many applications are made in a run.
 const MAX_APPS: usize = 16;
 
-// Whether a name is among these.
-fn has(names: &[AppName], name: &AppName) -> bool
-    ensures { result ≡ list_any (λ other. bytes_eq name.now other) names.now }
+/// The place of the application of this name.
+pub fn place_of(apps: &[App], name: &AppName) -> Option<usize>
+    ensures place { result ≡ position (λ app. bytes_eq name.now app.name) apps.now }
 {
-    names.iter().any(|other| name.same(other))
+    apps.iter().position(|app| name.same(&app.name))
 }
 
 impl Host {
@@ -29,15 +29,19 @@ impl Host {
         ensures said { IsSaid result }
         ensures clock { self.new.clock ≡ self.old.clock }
         ensures lines { self.new.lines ≡ self.old.lines }
+        ensures grants { self.new.grants ≡ self.old.grants }
     {
         let _ = frames;
-        if has(&self.apps, name) {
+        if place_of(&self.apps, name).is_some() {
             return Said::Refused(Refusal::NameTaken);
         }
         if self.apps.len() >= MAX_APPS {
             return Said::Refused(Refusal::Limit);
         }
-        match self.apps.push(*name) {
+        let Ok(app) = App::new(self.alloc, *name) else {
+            return Said::Refused(Refusal::NoMemory);
+        };
+        match self.apps.push(app) {
             Ok(()) => Said::Ok,
             Err(_) => Said::Refused(Refusal::NoMemory),
         }

@@ -16,6 +16,7 @@ impl Host {
         ensures said { IsSaid result }
         ensures clock { self.new.clock ≡ self.old.clock + ticks }
         ensures lines { self.new.lines ≡ self.old.lines }
+        ensures grants { self.new.grants ≡ self.old.grants }
     {
         self.clock += ticks;
         Said::Num(self.clock)
