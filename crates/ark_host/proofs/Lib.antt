@@ -6,3 +6,7 @@ pub mod Setting
 pub mod Ticking
 pub mod Apps
 pub mod Finding
+pub mod Peeking
+pub mod Poking
+pub mod Granting
+pub mod Bytes

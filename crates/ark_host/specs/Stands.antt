@@ -11,7 +11,7 @@ use Rattle.ark_script.specs.Lines.{Meaning}
 use Rattle.ark_script.specs.Text.{wants_memory}
 use Rattle.ark_script.specs.declared.said.Said.{Said}
 use Rattle.ark_machine.specs.Machine.{unmade}
-use Rattle.ark_machine.specs.Row.{Row}
+use Rattle.ark_machine.specs.Row.{Row, Given}
 use Rattle.ark_machine.specs.Control as control
 use Rattle.ark_machine.specs.Areas as areas
 use Rattle.ark_machine.specs.Step.{usual_frames}
@@ -101,15 +101,18 @@ pub record Answered (host : Host) (told : Told) (s : System) (m : Meaning) (es :
 
 -- The rows of the words, for these events and this reply: memory was wanting where the reply says so.
 
+abbrev pub given_of : System → Line → List Event → Said → Given
+given_of s line es reply = recorded s.plane line (ends_of es) (wants_memory reply)
+
 abbrev pub app_row : System → List ℕ → Option ℕ → List Event → Said → Row
 app_row s a frames es reply =
-    control.app (machine_of s a) (unwrap_or frames usual_frames) (recorded s.plane (w.app a frames) (ends_of es) (wants_memory reply))
+    control.app (machine_of s a) (unwrap_or frames usual_frames) (given_of s (w.app a frames) es reply)
 
 abbrev pub vsa_row : System → List ℕ → List ℕ → ℕ → List Event → Said → Row
-vsa_row s a l n es reply = areas.vsa (machine_of s a) l n kind.Raw (recorded s.plane (w.vsa a l n kind.Raw) (ends_of es) (wants_memory reply))
+vsa_row s a l n es reply = areas.vsa (machine_of s a) l n kind.Raw (given_of s (w.vsa a l n kind.Raw) es reply)
 
 abbrev pub peek_row : System → List ℕ → List ℕ → ℕ → List Event → Said → Row
-peek_row s a l off es reply = areas.peek (machine_of s a) l off (recorded s.plane (w.peek a l off) (ends_of es) (wants_memory reply))
+peek_row s a l off es reply = areas.peek (machine_of s a) l off (given_of s (w.peek a l off) es reply)
 
 abbrev pub poke_row : System → List ℕ → List ℕ → ℕ → List ℕ → List Event → Said → Row
-poke_row s a l off bytes es reply = areas.poke (machine_of s a) l off bytes (recorded s.plane (w.poke a l off bytes) (ends_of es) (wants_memory reply))
+poke_row s a l off bytes es reply = areas.poke (machine_of s a) l off bytes (given_of s (w.poke a l off bytes) es reply)

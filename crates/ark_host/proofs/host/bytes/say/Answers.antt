@@ -5,3 +5,7 @@ use Rattle.ark_host.proofs.Setting.{set_apps}
 use Rattle.ark_host.proofs.Ticking.{ticks}
 use Rattle.ark_host.proofs.Apps.{app_made}
 use Rattle.ark_host.proofs.Finding.{find_near}
+use Rattle.ark_host.proofs.Peeking.{peek_read}
+use Rattle.ark_host.proofs.Poking.{poke_wrote}
+use Rattle.ark_host.proofs.Granting.{vsa_granted}
+use Rattle.ark_host.proofs.Bytes.{kept_more}

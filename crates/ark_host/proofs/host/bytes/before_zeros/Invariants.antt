@@ -1,0 +1,9 @@
+use Rattle.std.proofs.Common.{◌≡◌, ◌≤◌, take, length}
+use Rattle.ark_machine.specs.Bytes.{trimmed}
+use Rattle.ark_host.proofs.host.bytes.before_zeros.Given as goal
+
+abbrev pub invariant-loop-i : goal.invariant-loop-i
+invariant-loop-i l = record {
+  kept : take l.len l.bytes.now ≡ trimmed (take l.i l.bytes.now);
+  within : l.len ≤ l.i;
+}
