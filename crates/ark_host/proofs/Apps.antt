@@ -40,6 +40,17 @@ module _ (s : System) (host : Host) (told : Told) (a : List ℕ) (st : Stands ho
   pub held_at : (k : ℕ) (d : App) → position (λ app. bytes_eq a app.name) host.apps.items ≡ Some k → IsHeld host.grants told s a (get_or host.apps.items k d)
   held_at k d is = made_at host.grants told s a (get_or host.apps.items k d) (app_of host.apps.items a) (first_found (λ app. bytes_eq a app.name) host.apps.items k d is).1 (st.machines a)
 
+  -- the one at its place
+  pub held_there : (k : ℕ) (app : App) → position (λ x. bytes_eq a x.name) host.apps.items ≡ Some k → get_or host.apps.items k app ≡ app → IsHeld host.grants told s a app
+  held_there k app is there = subst (λ (x : App). IsHeld host.grants told s a x) there (held_at k app is)
+
+  pub taken_at : (k : ℕ) → position (λ x. bytes_eq a x.name) host.apps.items ≡ Some k → (machine_of s a).made ≡ true
+  taken_at k is = by host.apps.items is refl
+    where
+      by : (xs : List App) → position (λ x. bytes_eq a x.name) xs ≡ Some k → host.apps.items ≡ xs → (machine_of s a).made ≡ true
+      by [] at same = absurd (false≢true (ap is_some at))
+      by (x ∷ xs) at same = (held_at k x is).holds.made
+
   pub none_at : position (λ app. bytes_eq a app.name) host.apps.items ≡ None → IsUnmade s a
   none_at is = unmade_at host.grants told s a (app_of host.apps.items a) (none_found (λ app. bytes_eq a app.name) host.apps.items is) (st.machines a)
 
@@ -56,11 +67,11 @@ some_if (Some x) h = (x, refl)
 
 module _ (s : System) (host : Host) (told : Told) (a : List ℕ) (frames : Option ℕ) (st : Stands host told s) where
   -- the application was made
-  pub app_taken : (d : App) → is_some (position (λ app. bytes_eq a app.name) host.apps.items) ≡ true → Turned host told s a (w.app a frames) (app_row s a frames [] (said.Refused r.NameTaken)) [] (said.Refused r.NameTaken) []
+  pub app_taken : is_some (position (λ app. bytes_eq a app.name) host.apps.items) ≡ true → Turned host told s a (w.app a frames) (app_row s a frames [] (said.Refused r.NameTaken)) [] (said.Refused r.NameTaken) []
   unfolding answer
-  app_taken d has =
+  app_taken has =
       let place = some_if (position (λ app. bytes_eq a app.name) host.apps.items) has in
-      let made : (machine_of s a).made ≡ true = (held_at s host told a st place.0 d place.1).holds.made in
+      let made : (machine_of s a).made ≡ true = taken_at s host told a st place.0 place.1 in
       let row : app_row s a frames [] (said.Refused r.NameTaken) ≡ says (machine_of s a) (said.Refused r.NameTaken) = rw made refl in
       refused host told s a (w.app a frames) _ r.NameTaken refl refl row st
 

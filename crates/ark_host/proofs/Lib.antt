@@ -10,3 +10,4 @@ pub mod Peeking
 pub mod Poking
 pub mod Granting
 pub mod Bytes
+pub mod Showings

@@ -81,6 +81,12 @@ slot_names slots b k u is =
     let p = and_parts (bytes_eq b u.app) (bytes_eq k u.label) f.1 in
     (in_contains slots u f.0, (bytes_eq-Decides b u.app).0 p.0, (bytes_eq-Decides k u.label).0 p.1)
 
+-- the device has the block
+pub block_inside : (host : Host) (told : Told) (s : System) (a l : List ℕ) (off n : ℕ) → Stands host told s → IsBlock told s a l off n → n < told.blocks
+block_inside host told s a l off n st b =
+    st.inside b.area.slot n (slot_names s.plane.slots a l b.area.slot b.area.placed).0
+    (subst (λ (i : ℕ). Contains b.area.slot.blocks i) (sym b.block) (Contains-get_or b.area.slot.blocks off 0 b.near))
+
 module _ (host : Host) (old new : Told) (s : System) (a l : List ℕ) (off n : ℕ) (c : List ℕ) (took ok : Bool) (st : Stands host old s) (b : IsBlock old s a l off n) (size : new.blocks ≡ old.blocks)
     (inside : (h : History) → new.history ≡ Some h → n < length h.base) (adds : Adds old.history new.history (Write n c took ok ∷ [])) where
   abbrev raw : Raw

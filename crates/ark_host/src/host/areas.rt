@@ -36,8 +36,7 @@ impl Host {
         let Some(place) = place_of(&self.apps, name) else {
             return Said::Refused(Refusal::NoApplication);
         };
-        let app = &mut self.apps[place];
-        match app.refuses(label) {
+        match self.apps[place].refuses(label) {
             Some(Refusal::NameTaken) => return Said::Refused(Refusal::NameTaken),
             Some(_) => return Said::Refused(Refusal::Limit),
             None => {}
@@ -52,7 +51,7 @@ impl Host {
             Err(TakeFault::NoSpace) => Said::Refused(Refusal::NoSpace),
             Err(TakeFault::Scattered) => Said::Refused(Refusal::Scattered),
             Ok(spans) => {
-                app.add_area(*label, self.grants, spans);
+                self.apps[place].add_area(*label, self.grants, spans);
                 self.grants += 1;
                 self.slots += 1;
                 Said::Ok
