@@ -1,4 +1,4 @@
-ghost use Rattle.std.specs.Prelude.{◌≡◌, [], ◌∷◌, ◌++◌, None, IfOk, IfErr};
+ghost use Rattle.std.specs.Prelude.{◌≡◌, [], ◌∷◌, ◌++◌, None, IfOk, IfErr, IfSome};
 ghost use Rattle.ark_base.specs.declared.refusal.Refusal.TheVariants as refusal;
 ghost use Rattle.ark_script.specs.Text.{IsNamed};
 ghost use Rattle.ark_held.specs.Words.{area_at, no_room, new_area_cap, with_area};
@@ -70,6 +70,7 @@ impl App {
     /// 8 areas are held.
     pub fn refuses(&self, label: &Label) -> Option<Refusal>
         ensures refuses { result ≡ no_room self.now.labels self.now.areas label.now }
+        ensures named { IfSome result (λ e. IsNamed e) }
     {
         if self.labels.get(label).is_some() {
             return Some(Refusal::NameTaken);

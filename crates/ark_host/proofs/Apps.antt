@@ -25,7 +25,7 @@ use Rattle.ark_host.specs.declared.host.Host.{Host}
 use Rattle.ark_host.specs.Stands.{Stands, Turned, AtApp, IsHeld, IsUnmade, IsZero, app_row, app_of, around}
 use Rattle.ark_host.proofs.Machines.{by_test, bytes_eq-same}
 use Rattle.ark_host.proofs.Lists.{first_found, none_found}
-use Rattle.ark_host.proofs.Standing.{refused}
+use Rattle.ark_host.proofs.Standing.{refused, same_apps}
 use Rattle.ark_host.proofs.Setting.{with_set, set_apps, set_now, set_here}
 
 -- What a name's place says of its machine.
@@ -96,13 +96,13 @@ module _ (s : System) (host : Host) (told : Told) (a : List ℕ) (frames : Optio
       room = ap (λ n. nat_le max_apps n) made_count ∙ grind (arith, nat_tests)
 
       -- memory was wanting
-      pub app_lacking : Turned host told s a (w.app a frames) (app_row s a frames [] (said.Refused r.NoMemory)) [] (said.Refused r.NoMemory) []
+      pub app_lacking : (now : Host) → now.apps.items ≡ host.apps.items → now.free ≡ host.free → now.grants ≡ host.grants → now.slots ≡ host.slots → now.clock ≡ host.clock → Turned now told s a (w.app a frames) (app_row s a frames [] (said.Refused r.NoMemory)) [] (said.Refused r.NoMemory) []
       unfolding answer
-      app_lacking =
+      app_lacking now items free grants slots clock =
           let fresh : (machine_of s a).made ≡ false = unmade in
           let open_room : nat_le max_apps (length s.plane.apps) ≡ false = room in
           let row : app_row s a frames [] (said.Refused r.NoMemory) ≡ says (machine_of s a) (said.Refused r.NoMemory) = rw (fresh, open_room) refl in
-          refused host told s a (w.app a frames) _ r.NoMemory refl refl row st
+          refused now told s a (w.app a frames) _ r.NoMemory refl refl row (same_apps host now told s items free grants slots clock st)
 
       -- the machine that is made
       abbrev one : Machine

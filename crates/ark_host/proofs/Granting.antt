@@ -1,10 +1,11 @@
 -- The row of `vsa`, as a host comes to it.
 use Rattle.std.proofs.Common.{◌≡◌, ◌⊎◌, inl, inr, ⊎_elim, ℕ, suc, ◌+◌, ◌<◌, ◌≤◌, Bool, true, false, cond, ◌||◌, nat_le, nat_lt, nat_eq, List, [], ◌∷◌, ◌++◌, length, map, take, drop, replicate, get_or, set, refl, sym, ◌∙◌, ap, subst, arith, bytes_eq, Contains}
-use Rattle.std.specs.Prelude.{Option, Some, None, find, position, is_some}
+use Rattle.std.specs.Prelude.{Option, Some, None, find, position, is_some, unwrap_or}
 use Rattle.std.specs.Map.{lookup}
 use Rattle.std.proofs.lemmas.Bool.{false≢true}
 use Rattle.std.proofs.lemmas.Bool.Decides.{nat_tests}
 use Rattle.std.proofs.lemmas.List.{length-append, length-replicate, length-take, get_or-replicate, get_or-take}
+use Rattle.std.proofs.lemmas.List.Quantifiers.{position-Some}
 use Rattle.std.proofs.lemmas.List.Elements.{Contains-get_or, Contains-push_cases}
 use Rattle.std.proofs.lemmas.Slice.Eq.{bytes_eq-Decides}
 use Rattle.ark_base.specs.declared.kind.Kind.TheVariants as kind
@@ -37,11 +38,11 @@ use Rattle.ark_held.specs.declared.app.App.{App}
 use Rattle.ark_host.specs.declared.host.Host.{Host}
 use Rattle.ark_host.specs.Stands.{Stands, Turned, IsHeld, IsZero, AreApart, AreInside, around, app_of, vsa_row, given_of}
 use Rattle.ark_host.proofs.Machines.{by_test, bytes_eq-same, bytes_eq-other}
-use Rattle.ark_host.proofs.Lists.{found_set, map_set, contains_in, in_contains, in_take, in_drop}
+use Rattle.ark_host.proofs.Lists.{get_there, found_set, map_set, contains_in, in_contains, in_take, in_drop}
 use Rattle.ark_host.proofs.Freeing.{free_after, granted_not_free, free_inside}
 use Rattle.ark_host.proofs.Standing.{refused}
 use Rattle.ark_host.proofs.Setting.{with_set, set_apps, set_now, set_here}
-use Rattle.ark_host.proofs.Apps.{held_at, not_made}
+use Rattle.ark_host.proofs.Apps.{held_there}
 use Rattle.ark_host.proofs.Peeking.{le_true, le_false}
 
 or_or : (x y z : Bool) → ((x || y) || z) ≡ (x || (y || z))
@@ -56,10 +57,10 @@ lt_false n m le = grind (arith, nat_tests)
 
 -- Under one label: a refusal, or that nothing is held there.
 
-abbrev full : System → List ℕ → Bool
+abbrev pub full : System → List ℕ → Bool
 full s a = is_full (machine_of s a) || nat_le 8 (count_of is_vsa (machine_of s a))
 
-abbrev Refuses : System → List ℕ → List ℕ → Option Refusal → Type 0
+abbrev pub Refuses : System → List ℕ → List ℕ → Option Refusal → Type 0
 Refuses s a l None = (at (machine_of s a) l ≡ None) × (full s a ≡ false)
 Refuses s a l (Some r.NameTaken) = (h : Held) × (at (machine_of s a) l ≡ Some h)
 Refuses s a l (Some r.Limit) = (at (machine_of s a) l ≡ None) × (full s a ≡ true)
@@ -236,3 +237,62 @@ module _ (host : Host) (told : Told) (s : System) (a l : List ℕ) (n : ℕ) (st
                   same_now = set_now s plane a one made (st.same_now a) st.same_now;
                 };
               })
+
+-- In the host's words.
+
+unlabelled_by : (labels : Labels) (areas : AreaList) (o : Option Capability) → None ≡ room_under labels areas o → o ≡ None
+unlabelled_by labels areas None h = refl
+unlabelled_by labels areas (Some c) h = absurd (false≢true (ap is_some h))
+
+pub vsa_refused : (host : Host) (told : Told) (s : System) (a l : List ℕ) (n : ℕ) (st : Stands host told s) → (machine_of s a).made ≡ true → (e : Refusal) → Refuses s a l (Some e)
+    → Turned host told s a (w.vsa a l n kind.Raw) (vsa_row s a l n [] (said.Refused e)) [] (said.Refused e) []
+vsa_refused host told s a l n st made r.NameTaken h = vsa_taken host told s a l n st made h.0 h.1
+vsa_refused host told s a l n st made r.Limit h = vsa_full host told s a l n st made h.0 h.1
+vsa_refused host told s a l n st made _ h = absurd h
+
+pub few_from : (x : ℕ) → (16 < x → ⊥) → x ≤ 16
+few_from x few = by_test (nat_le x 16) (λ b. nat_le x 16 ≡ b → x ≤ 16) (λ yes q. grind (arith, nat_tests)) (λ no q. absurd (few (grind (arith, nat_tests)))) refl
+
+-- an element at a place, whatever stands for one that is not there
+pub same_place : (items : List App) (a : List ℕ) (place : ℕ) (x y : App) → position (λ z. bytes_eq a z.name) items ≡ Some place → get_or items place x ≡ x → get_or items place y ≡ y → x ≡ y
+same_place items a place x y at here there =
+    let lt = (position-Some (λ z. bytes_eq a z.name) items place x at).0 in
+    sym here ∙ ap (λ (o : Option App). unwrap_or o x) (sym (get_there items place x lt) ∙ get_there items place y lt) ∙ there
+
+-- one application in place of that of its name
+module _ (items : List App) (a : List ℕ) (place : ℕ) (app app1 : App) (at : position (λ x. bytes_eq a x.name) items ≡ Some place) (there : get_or items place app ≡ app) (name : app1.name ≡ app.name) where
+  its_name : app1.name ≡ a
+  its_name = name ∙ ap (λ (x : App). x.name) (sym there) ∙ sym ((bytes_eq-Decides a (get_or items place app).name).0 (position-Some (λ x. bytes_eq a x.name) items place app at).1)
+
+  names_set : map (λ x. x.name) (set items place app1) ≡ map (λ x. x.name) items
+  names_set = map_set (λ x. x.name) items place app1 app (position-Some (λ x. bytes_eq a x.name) items place app at).0 (name ∙ ap (λ (x : App). x.name) (sym there))
+
+  set_at : (b : List ℕ) → app_of (set items place app1) b ≡ cond (bytes_eq b a) (Some app1) (app_of items b)
+  set_at b =
+      found_set (λ x. bytes_eq a x.name) (λ x. bytes_eq b x.name) app1
+      (λ x same. ap (λ (k : List ℕ). bytes_eq b k) (sym ((bytes_eq-Decides a x.name).0 same) ∙ sym its_name))
+      (λ x apart same. by_test (bytes_eq b x.name) (λ t. bytes_eq b x.name ≡ t → t ≡ false)
+      (λ yes q. absurd (false≢true (sym apart ∙ (bytes_eq-Decides a x.name).1 (sym its_name ∙ sym ((bytes_eq-Decides b app1.name).0 same) ∙ (bytes_eq-Decides b x.name).0 q))))
+      (λ no q. refl) refl) items place app at
+      ∙ ap (λ (k : List ℕ). cond (bytes_eq b k) (Some app1) (app_of items b)) its_name
+
+pub vsa_done : (host now : Host) (told : Told) (s : System) (a l : List ℕ) (n place : ℕ) (app app1 : App) (spans : List ℕ) → Stands host told s
+    → position (λ x. bytes_eq a x.name) host.apps.items ≡ Some place → get_or host.apps.items place app ≡ app → None ≡ no_room app.labels app.areas l → host.slots < max_slots → n ≤ length host.free
+    → length (runs_of (take n host.free)) ≤ max_runs → spans ≡ take n host.free → app1.name ≡ app.name → app1.labels ≡ app.labels ++ (l, new_area_cap host.grants) ∷ [] → app1.areas ≡ with_area app.areas host.grants spans
+    → now.apps.items ≡ set host.apps.items place app1 → now.free ≡ drop n host.free → now.grants ≡ host.grants + 1 → now.slots ≡ host.slots + 1 → now.clock ≡ host.clock
+    → Turned now told s a (w.vsa a l n kind.Raw) (vsa_row s a l n [] said.Ok) [] said.Ok []
+vsa_done host now told s a l n place app app1 spans st at there none few enough compact taken name labels held items free grants slots clock =
+    let h = held_there s host told a st place app at there in
+    let open_one = refuses host.grants told s a l app h None none in
+    vsa_granted host told s a l n st h.holds.made open_one.0 open_one.1 few enough compact now app app1 h (unlabelled_by app.labels app.areas (value_at app.labels l) none) labels
+    (held ∙ ap (λ (bs : List ℕ). with_area app.areas host.grants bs) taken) free grants slots clock
+    (ap (λ (xs : List App). map (λ x. x.name) xs) items ∙ names_set host.apps.items a place app app1 at there name)
+    (λ b same. ap (λ (xs : List App). app_of xs b) items ∙ set_at host.apps.items a place app app1 at there name b ∙ ap (λ t. cond t (Some app1) (app_of host.apps.items b)) same)
+    (λ b apart. ap (λ (xs : List App). app_of xs b) items ∙ set_at host.apps.items a place app app1 at there name b ∙ ap (λ t. cond t (Some app1) (app_of host.apps.items b)) apart)
+
+-- what an application's refusal says of its machine
+pub refused_by : (host : Host) (told : Told) (s : System) (a l : List ℕ) (place : ℕ) (app : App) → Stands host told s → position (λ x. bytes_eq a x.name) host.apps.items ≡ Some place → get_or host.apps.items place app ≡ app
+    → (o : Option Refusal) → o ≡ no_room app.labels app.areas l → ((machine_of s a).made ≡ true) × Refuses s a l o
+refused_by host told s a l place app st at there o is =
+    let h = held_there s host told a st place app at there in
+    (h.holds.made, refuses host.grants told s a l app h o is)

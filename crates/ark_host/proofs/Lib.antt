@@ -11,3 +11,4 @@ pub mod Poking
 pub mod Granting
 pub mod Bytes
 pub mod Showings
+pub mod Words

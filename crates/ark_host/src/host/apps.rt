@@ -41,9 +41,9 @@ impl Host {
         let Ok(app) = App::new(self.alloc, *name) else {
             return Said::Refused(Refusal::NoMemory);
         };
-        match self.apps.push(app) {
-            Ok(()) => Said::Ok,
-            Err(_) => Said::Refused(Refusal::NoMemory),
-        }
+        let Ok(()) = self.apps.push(app) else {
+            return Said::Refused(Refusal::NoMemory);
+        };
+        Said::Ok
     }
 }

@@ -36,10 +36,8 @@ impl Host {
         let Some(place) = place_of(&self.apps, name) else {
             return Said::Refused(Refusal::NoApplication);
         };
-        match self.apps[place].refuses(label) {
-            Some(Refusal::NameTaken) => return Said::Refused(Refusal::NameTaken),
-            Some(_) => return Said::Refused(Refusal::Limit),
-            None => {}
+        if let Some(refusal) = self.apps[place].refuses(label) {
+            return Said::Refused(refusal);
         }
         if self.slots >= MAX_SLOTS {
             return Said::Refused(Refusal::Limit);
