@@ -1,6 +1,7 @@
-ghost use Rattle.std.specs.Prelude.{◌≡◌, [], ◌∷◌, ◌++◌, None, IfOk, IfErr, IfSome};
+ghost use Rattle.std.specs.Prelude.{◌≡◌, false, [], ◌∷◌, ◌++◌, None, IfOk, IfErr, IfSome};
 ghost use Rattle.ark_base.specs.declared.refusal.Refusal.TheVariants as refusal;
-ghost use Rattle.ark_script.specs.Text.{IsNamed};
+ghost use Rattle.ark_script.specs.Text.{IsNamed, wants_memory};
+ghost use Rattle.ark_script.specs.declared.said.Said.TheVariants as said;
 ghost use Rattle.ark_held.specs.Words.{area_at, no_room, new_area_cap, with_area};
 
 use crate::areas::{AREAS, Areas};
@@ -53,6 +54,7 @@ impl App {
     pub fn area(&self, label: &Label) -> Result<Spans, Refusal>
         ensures found { result ≡ area_at self.now.labels self.now.areas label.now }
         ensures named { IfErr result (λ e. IsNamed e) }
+        ensures enough { IfErr result (λ e. wants_memory (said.Refused e) ≡ false) }
     {
         let Some(cap) = self.labels.get(label) else {
             return Err(no_grant(*label));
@@ -71,6 +73,7 @@ impl App {
     pub fn refuses(&self, label: &Label) -> Option<Refusal>
         ensures refuses { result ≡ no_room self.now.labels self.now.areas label.now }
         ensures named { IfSome result (λ e. IsNamed e) }
+        ensures enough { IfSome result (λ e. wants_memory (said.Refused e) ≡ false) }
     {
         if self.labels.get(label).is_some() {
             return Some(Refusal::NameTaken);

@@ -1,6 +1,7 @@
 -- Lines by their words: from a row or a turn to what any line is answered.
 use Rattle.std.proofs.Common.{◌≡◌, ℕ, Bool, true, false, List, [], refl, sym, ap, subst, if◌then◌else◌}
 use Rattle.std.specs.Prelude.{Option, Some, None, Ok, Err}
+use Rattle.ark_base.specs.declared.kind.Kind.{Kind}
 use Rattle.ark_base.specs.declared.kind.Kind.TheVariants as kind
 use Rattle.ark_base.specs.declared.refusal.Refusal.{Refusal}
 use Rattle.ark_base.specs.declared.refusal.Refusal.TheVariants as r
@@ -74,16 +75,16 @@ module _ (host : Host) (told : Told) (s : System) where
   none_performed line (Some a) = ended
 
   -- the word is not built
-  pub unbuilt : (x : Step) → ((a : List ℕ) (frames : Option ℕ) → x ≡ step_of.App a frames → ⊥) → ((a l : List ℕ) (n : ℕ) → x ≡ step_of.Vsa a l n kind.Raw → ⊥) → ((a l : List ℕ) (off : ℕ) → x ≡ step_of.Peek a l off → ⊥)
+  pub unbuilt : (x : Step) → ((a : List ℕ) (frames : Option ℕ) → x ≡ step_of.App a frames → ⊥) → ((a l : List ℕ) (n : ℕ) (k : Kind) → x ≡ step_of.Vsa a l n k → ⊥) → ((a l : List ℕ) (off : ℕ) → x ≡ step_of.Peek a l off → ⊥)
       → ((a l : List ℕ) (off : ℕ) (hex : Hex) → x ≡ step_of.Poke a l off hex → ⊥) → ((n : ℕ) → x ≡ step_of.Tick n → ⊥) → is_built (line_of x) ≡ false
   unbuilt (step_of.App a frames) no_app no_vsa no_peek no_poke no_tick = absurd (no_app a frames refl)
-  unbuilt (step_of.Vsa a l n kind.Raw) no_app no_vsa no_peek no_poke no_tick = absurd (no_vsa a l n refl)
+  unbuilt (step_of.Vsa a l n k) no_app no_vsa no_peek no_poke no_tick = absurd (no_vsa a l n k refl)
   unbuilt (step_of.Peek a l off) no_app no_vsa no_peek no_poke no_tick = absurd (no_peek a l off refl)
   unbuilt (step_of.Poke a l off hex) no_app no_vsa no_peek no_poke no_tick = absurd (no_poke a l off hex refl)
   unbuilt (step_of.Tick n) no_app no_vsa no_peek no_poke no_tick = absurd (no_tick n refl)
   unbuilt _ no_app no_vsa no_peek no_poke no_tick = refl
 
-  unbuilt_line : (line : Line) → is_built line ≡ false → Stands host told s → Answered host told s (Ok line) [] (said.Refused r.UnknownWord) []
+  pub unbuilt_line : (line : Line) → is_built line ≡ false → Stands host told s → Answered host told s (Ok line) [] (said.Refused r.UnknownWord) []
   unbuilt_line line not st =
       let same : turn s (Ok line) [] false ≡ quiet_turn s (said.Refused r.UnknownWord) = ap (λ b. if b then so_far line (line_turn s line [] false) else quiet_turn s (said.Refused r.UnknownWord)) not in
       record {

@@ -12,7 +12,7 @@ mod areas;
 mod bytes;
 mod time;
 
-use ark_base::{Kind, Memory, Refusal};
+use ark_base::{Memory, Refusal};
 use ark_extents::FreeMap;
 use ark_held::App;
 use ark_media::Disk;
@@ -91,8 +91,8 @@ impl Host {
                 let said = self.make_app(name, *frames);
                 bytes::say(out, said);
             }
-            Step::Vsa(name, label, blocks, Kind::Raw) => {
-                let said = self.grant_area(name, label, *blocks);
+            Step::Vsa(name, label, blocks, kind) => {
+                let said = self.vsa(name, label, *blocks, *kind);
                 bytes::say(out, said);
             }
             Step::Peek(name, label, off) => self.peek(name, label, *off, disk, out),

@@ -1,16 +1,17 @@
-ghost use Rattle.std.specs.Prelude.{◌≡◌, ◌≤◌, ◌<◌, ◌+◌, ◌^◌, ℕ, List, [], length, IfOk, IfErr};
+ghost use Rattle.std.specs.Prelude.{◌≡◌, ◌≤◌, ◌<◌, ◌+◌, ◌^◌, ℕ, List, false, [], length, Ok, IfOk, IfErr};
 ghost use Rattle.ark_base.specs.declared.kind.Kind.TheVariants as kind;
 ghost use Rattle.ark_media.specs.Calls.{GoesBy, Told};
 ghost use Rattle.ark_script.specs.Line as w;
 ghost use Rattle.ark_script.specs.Line.{spelled};
 ghost use Rattle.ark_script.specs.Reply.{bytes_shown};
-ghost use Rattle.ark_script.specs.Text.{IsSaid, IsNamed};
+ghost use Rattle.ark_script.specs.Text.{IsSaid, IsNamed, wants_memory};
+ghost use Rattle.ark_script.specs.declared.said.Said.TheVariants as said;
 ghost use Rattle.ark_machine.specs.System.{System};
 
 use super::Host;
 use super::apps::place_of;
 use super::bytes::{BLOCK, before_zeros, block_of, say, show};
-use ark_base::{AppName, Label, Refusal};
+use ark_base::{AppName, Kind, Label, Refusal};
 use ark_extents::TakeFault;
 use ark_media::Disk;
 use ark_script::{Hex, Reply, Said};
@@ -19,16 +20,34 @@ use ark_script::{Hex, Reply, Said};
 const MAX_SLOTS: u16 = 128;
 
 impl Host {
-    ghost use Rattle.ark_host.specs.Stands.{Stands, Turned, vsa_row, peek_row, poke_row};
+    ghost use Rattle.ark_host.specs.Stands.{Stands, Turned, Answered, vsa_row, peek_row, poke_row};
     ghost use Rattle.ark_host.specs.Finds.{Finds};
 
-    // The word `vsa`, for an area with no log and no queue.
-    pub(super) fn grant_area(&mut self, name: &AppName, label: &Label, blocks: u64) -> Said
+    // The word `vsa`. Areas of logs and queues are not built yet.
+    pub(super) fn vsa(&mut self, name: &AppName, label: &Label, blocks: u64, kind: Kind) -> Said
+        requires some { 1 ≤ blocks }
+        requires few { self.old.grants < 2 ^ 32 }
+        ensures answers { (told : Told) (s : System) → Stands self.old told s → Answered self.new told s (Ok (w.vsa name.now label.now blocks kind)) [] result [] }
+        ensures said { IsSaid result }
+        ensures clock { self.new.clock ≡ self.old.clock }
+        ensures lines { self.new.lines ≡ self.old.lines }
+        ensures grants { self.new.grants ≤ self.old.grants + 1 }
+    {
+        match kind {
+            Kind::Raw => self.grant_area(name, label, blocks),
+            Kind::Log => Said::Refused(Refusal::UnknownWord),
+            Kind::Queue => Said::Refused(Refusal::UnknownWord),
+        }
+    }
+
+    // A new area with no log and no queue.
+    fn grant_area(&mut self, name: &AppName, label: &Label, blocks: u64) -> Said
         requires some { 1 ≤ blocks }
         requires few { self.old.grants < 2 ^ 32 }
         ensures turned { (told : Told) (s : System) → Stands self.old told s →
             Turned self.new told s name.now (w.vsa name.now label.now blocks kind.Raw) (vsa_row s name.now label.now blocks [] result) [] result [] }
         ensures said { IsSaid result }
+        ensures enough { wants_memory result ≡ false }
         ensures clock { self.new.clock ≡ self.old.clock }
         ensures lines { self.new.lines ≡ self.old.lines }
         ensures grants { self.new.grants ≤ self.old.grants + 1 }
@@ -62,6 +81,7 @@ impl Host {
         ensures finds { (told : Told) (s : System) → told.blocks ≡ size → Stands self.now told s → Finds told s name.now label.now off result }
         ensures inside { IfOk result (λ n. n < size) }
         ensures named { IfErr result (λ e. IsNamed e) }
+        ensures enough { IfErr result (λ e. wants_memory (said.Refused e) ≡ false) }
     {
         let Some(place) = place_of(&self.apps, name) else {
             return Err(Refusal::NoApplication);
@@ -90,6 +110,7 @@ impl Host {
         ensures turned { GoesBy D.goes disk.old disk.new (λ es. (s : System) → Stands self.now (D.told disk.old) s →
             Turned self.now (D.told disk.new) s name.now (w.peek name.now label.now off) (peek_row s name.now label.now off es out.new.said) es out.new.said (bytes_shown out.new)) }
         ensures said { IsSaid out.new.said }
+        ensures enough { wants_memory out.new.said ≡ false }
     {
         let mut block = [0; BLOCK];
         match self.find_block(name, label, off, disk.blocks()) {
@@ -111,6 +132,7 @@ impl Host {
             Turned self.now (D.told disk.new) s name.now (w.poke name.now label.now off (spelled hex.now.digits.now))
             (poke_row s name.now label.now off (spelled hex.now.digits.now) es result) es result []) }
         ensures said { IsSaid result }
+        ensures enough { wants_memory result ≡ false }
     {
         match self.find_block(name, label, off, disk.blocks()) {
             Err(refusal) => Said::Refused(refusal),
