@@ -2,3 +2,5 @@ mod Worked
 mod Commands
 mod Leaving
 mod Opening
+mod Moves
+mod Stopped
