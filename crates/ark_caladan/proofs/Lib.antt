@@ -4,3 +4,4 @@ mod Leaving
 mod Opening
 mod Moves
 mod Stopped
+mod Repaired

@@ -44,7 +44,7 @@ place_forth room start p ls lp =
 pub view_at : (room : ℕ) (header : List ℕ) (start : ℕ) (stored : List (List ℕ)) (u : ℕ) → start < room → u < room → view_of room header start stored (suc ((start + u) % room)) ≡ at stored u
 view_at room header start stored u ls lu = ap (at stored) (place_back room start u ls lu)
 
-ring_at : (image : List (List ℕ)) (rest : List ℕ) (p : ℕ) → p < length rest → block (view rest image) p ≡ block image (get_or rest p 0)
+pub ring_at : (image : List (List ℕ)) (rest : List ℕ) (p : ℕ) → p < length rest → block (view rest image) p ≡ block image (get_or rest p 0)
 ring_at image [] p lt = absurd (omega arith)
 ring_at image (n ∷ rest) zero lt = refl
 ring_at image (n ∷ rest) (suc p) lt = ring_at image rest p (omega arith)

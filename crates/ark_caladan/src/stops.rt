@@ -1,16 +1,18 @@
 // Laws of what a stop may leave of a log or queue on a disk, each the contract of a function that does nothing.
 ghost use Rattle.std.specs.Prelude.{◌≡◌, ◌≤◌, ◌<◌, ◌⊎◌, ◌∷◌, ◌+◌, ◌%◌, ℕ, suc, Bool, true, List, length, drop, get_or};
 ghost use Rattle.ark_base.specs.declared.kind.Kind.{Kind};
-ghost use Rattle.ark_media.specs.Journal.{Event, Out};
+ghost use Rattle.ark_media.specs.Journal.{Event, Out, current};
 ghost use Rattle.ark_media.specs.Calls.{Call, Writes, Syncs, Comes};
 ghost use Rattle.ark_media.specs.Stops.{MayLeave, Whole};
 ghost use Rattle.ark_entry.specs.Header.{Header};
 ghost use Rattle.ark_entry.specs.Found.{Entries, found, found_of};
+ghost use Rattle.ark_entry.specs.Reading.{reading};
+ghost use Rattle.ark_entry.specs.Repair.{used_by, blocks_read};
 ghost use Rattle.ark_entry.specs.Writing.{at, zeroed};
 ghost use Rattle.ark_caladan.specs.Chain.{Command, append, after, next_number};
 ghost use Rattle.ark_caladan.specs.Numbers.{Fits};
 ghost use Rattle.ark_caladan.specs.Leaves.{Lies, HasRoom, with_draft, with_entry, dropped_by, freed_by, HeaderAfter};
-ghost use Rattle.ark_caladan.specs.Moving.{OnDisk, Moving, Rests, Elsewhere, and, view, view_of, AllBlocks};
+ghost use Rattle.ark_caladan.specs.Moving.{OnDisk, Moving, Rests, Elsewhere, and, view, view_of, AllBlocks, area_of, repaired, Opens};
 
 /// What each event does to an area that moves from view a to view b. It goes on so at any call elsewhere, at any sync, and at any
 /// write of a block of b at its place, whether that fails or not. A write that succeeds is done. A sync that succeeds when all
@@ -70,4 +72,21 @@ pub fn deciding_stops()
         → (new_header : List ℕ) (new : Header) → HeaderAfter kind (length rest) new_header h l c new
         → (done : ℕ → Bool) → Moving (n0 ∷ rest) base j (view_of (length rest) new_header h.start stored) (view_of (length rest) new_header h.start (zeroed (freed_by l c) stored)) done
         → found_of kind (view (n0 ∷ rest) image) ≡ found (after l c) }
+{}
+
+/// What is found in an image that a stop inside an opening may leave: the list that the opening found. A sync leaves what is there;
+/// a repaired area is the ring of the list's own blocks.
+pub fn opening_stops()
+    ensures synced_rests { (blocks : List ℕ) (base : List (List ℕ)) (j : List Event) (e : Event) → Comes Syncs true e → Rests blocks base (e ∷ j) (area_of blocks (current base j)) }
+    ensures repair_stop { (n0 : ℕ) (rest : List ℕ) (base : List (List ℕ)) → OnDisk (n0 ∷ rest) base → 0 < length rest → (kind : Kind) (old : List (List ℕ)) → AllBlocks old → length old ≡ length base
+        → (h : Header) (l : Entries) (new_header : List ℕ) (new : Header) → Opens kind n0 rest old h l new_header new → (j : List Event) (image : List (List ℕ)) → MayLeave Whole base j image → AllBlocks image
+        → (done : ℕ → Bool) → Moving (n0 ∷ rest) base j (area_of (n0 ∷ rest) old) (repaired (length rest) h.start (used_by l.payloads) new_header (area_of (n0 ∷ rest) old)) done
+        → found_of kind (view (n0 ∷ rest) image) ≡ found l }
+    ensures repaired_view { (n0 : ℕ) (rest : List ℕ) (base : List (List ℕ)) → OnDisk (n0 ∷ rest) base → 0 < length rest → (kind : Kind) (old : List (List ℕ)) → AllBlocks old → length old ≡ length base
+        → (h : Header) (l : Entries) (new_header : List ℕ) (new : Header) → Opens kind n0 rest old h l new_header new → (k : ℕ) → k < length (n0 ∷ rest)
+        → repaired (length rest) h.start (used_by l.payloads) new_header (area_of (n0 ∷ rest) old) k
+        ≡ view_of (length rest) new_header h.start (blocks_read (reading (view rest old) h.start) 0 (used_by l.payloads)) k }
+    ensures repaired_lies { (n0 : ℕ) (rest : List ℕ) (base : List (List ℕ)) → OnDisk (n0 ∷ rest) base → 0 < length rest → (kind : Kind) (old : List (List ℕ)) → AllBlocks old → length old ≡ length base
+        → (h : Header) (l : Entries) (new_header : List ℕ) (new : Header) → Opens kind n0 rest old h l new_header new
+        → Lies kind (length rest) new_header new (blocks_read (reading (view rest old) h.start) 0 (used_by l.payloads)) l }
 {}
