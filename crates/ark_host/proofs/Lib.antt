@@ -1,2 +1,5 @@
 pub mod Machines
 pub mod Standing
+pub mod Apps
+pub mod Ticking
+pub mod Words

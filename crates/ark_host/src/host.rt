@@ -1,42 +1,50 @@
-ghost use Rattle.std.specs.Prelude.{◌≡◌, ◌≤◌, ◌<◌, [], List, ℕ, Some, None, length, bytes_eq};
-ghost use Rattle.std.specs.List.{list_any};
+ghost use Rattle.std.specs.Prelude.{◌≡◌, ◌+◌, ◌^◌, ◌<◌, [], Ok};
 ghost use Rattle.ark_media.specs.Calls.{GoesBy, Told};
-ghost use Rattle.ark_script.specs.Lines as w;
-ghost use Rattle.ark_script.specs.Lines.{line_of};
+ghost use Rattle.ark_script.specs.Line.{line_of};
+ghost use Rattle.ark_script.specs.Reply.{bytes_shown};
 ghost use Rattle.ark_script.specs.Text.{IsSaid};
 ghost use Rattle.ark_machine.specs.System.{System, fresh_system};
-ghost use Rattle.ark_machine.specs.Plane.{max_apps};
+ghost use Rattle.ark_host.specs.Time.{IsSound, IsTimely};
+
+mod apps;
+mod time;
 
 use ark_base::{AppName, Refusal};
 use ark_media::Disk;
-use ark_script::{Said, Step};
+use ark_script::{Reply, Said, Step};
 use std::alloc::Global;
-
-// At most so many applications are made in a run.
-const MAX_APPS: usize = 16;
 
 /// The control plane with what it granted: what a script's lines act on.
 #[derive(Drop)]
 pub struct Host {
     apps: Vec<AppName>,
+    // the tick
+    clock: u64,
+    // how many lines were served
+    lines: u32,
 }
 
-// Whether a name is among these.
-fn has(names: &[AppName], name: &AppName) -> bool
-    ensures { result ≡ list_any (λ other. bytes_eq name.now other) names.now }
+// Says this, and shows no bytes.
+fn say(out: &mut Reply, said: Said)
+    ensures said { out.new.said ≡ said }
+    ensures none { bytes_shown out.new ≡ [] }
 {
-    names.iter().any(|other| name.same(other))
+    out.say(said, 0);
 }
 
 impl Host {
-    ghost use Rattle.ark_host.specs.Stands.{Stands, Turned, Answered, app_row};
+    ghost use Rattle.ark_host.specs.Stands.{Stands, Answered};
 
     /// The host of a fresh device: nothing is granted. Takes no memory.
     pub fn new(alloc: Global) -> Host
-        ensures { (told : Told) → Stands result told (fresh_system told.blocks) }
+        ensures stands { (told : Told) → Stands result told (fresh_system told.blocks) }
+        ensures sound { IsSound result }
+        ensures none { result.lines ≡ 0 }
     {
         Host {
             apps: Vec::new(alloc),
+            clock: 0,
+            lines: 0,
         }
     }
 
@@ -47,33 +55,36 @@ impl Host {
         0
     }
 
-    /// Makes one step of a script. The reply, the device calls and the host after it are those of the machines and the plane.
-    pub fn step<D: Disk>(&mut self, disk: &mut D, step: &Step) -> Said
-        ensures answers { GoesBy D.goes disk.old disk.new (λ es. (s : System) → Stands self.old (D.told disk.old) s →
-            Answered self.new (D.told disk.new) s (Ok (line_of step.now)) es result []) }
-        ensures said { IsSaid result }
+    /// How many lines it has served.
+    pub fn lines(&self) -> u32
+        ensures { result ≡ self.now.lines }
     {
-        let _ = disk;
-        let Step::App(name, frames) = step;
-        self.make_app(name, *frames)
+        self.lines
     }
 
-    // The word `app`.
-    fn make_app(&mut self, name: &AppName, frames: Option<u64>) -> Said
-        ensures turned { (told : Told) (s : System) → Stands self.old told s →
-            Turned self.new told s name.now (w.app name.now frames) (app_row s name.now frames [] result) [] result [] }
-        ensures said { IsSaid result }
+    /// Makes one step of a script. The reply, the device calls and the host after it are those of the machines and the plane.
+    pub fn step<D: Disk>(&mut self, disk: &mut D, step: &Step<'_>, out: &mut Reply)
+        requires sound { IsSound self.old }
+        requires few { self.old.lines < 2 ^ 31 }
+        requires timely { IsTimely (line_of step.now) }
+        ensures answers { GoesBy D.goes disk.old disk.new (λ es. (s : System) → Stands self.old (D.told disk.old) s →
+            Answered self.new (D.told disk.new) s (Ok (line_of step.now)) es out.new.said (bytes_shown out.new)) }
+        ensures said { IsSaid out.new.said }
+        ensures sound { IsSound self.new }
+        ensures counted { self.new.lines ≡ self.old.lines + 1 }
     {
-        let _ = frames;
-        if has(&self.apps, name) {
-            return Said::Refused(Refusal::NameTaken);
-        }
-        if self.apps.len() >= MAX_APPS {
-            return Said::Refused(Refusal::Limit);
-        }
-        match self.apps.push(*name) {
-            Ok(()) => Said::Ok,
-            Err(_) => Said::Refused(Refusal::NoMemory),
+        let _ = disk;
+        self.lines += 1;
+        match step {
+            Step::App(name, frames) => {
+                let said = self.make_app(name, *frames);
+                say(out, said);
+            }
+            Step::Tick(ticks) => {
+                let said = self.tick(*ticks);
+                say(out, said);
+            }
+            _ => say(out, Said::Refused(Refusal::UnknownWord)),
         }
     }
 }
