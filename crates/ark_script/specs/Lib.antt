@@ -1,6 +1,16 @@
+pub mod Arguments
+pub mod Form
 pub mod Line
 pub mod Lines
-pub mod Reply
 pub mod Lending
+pub mod Listed
+pub mod Lists
+pub mod Meant
 pub mod Named
+pub mod Reading
+pub mod Reply
+pub mod Sentence
+pub mod Shape
 pub mod Text
+pub mod Word
+pub mod Words

@@ -1,11 +1,11 @@
 -- The lines of a script, and what each of them means.
-use Rattle.std.specs.Prelude.{◌≡◌, ◌⊎◌, ℕ, ◌+◌, ◌<◌, ◌≤◌, true, List, [], ◌∷◌, ◌++◌, length, codes, if◌then◌else◌, nat_eq, Option, Some, None, Result, Ok, Err}
-use Rattle.ark_base.specs.Name.{is_name}
+use Rattle.std.specs.Prelude.{◌≡◌, ℕ, ◌+◌, ◌<◌, ◌≤◌, true, List, [], ◌∷◌, ◌++◌, length, if◌then◌else◌, nat_eq, Result, Ok, Err}
 use Rattle.ark_base.specs.declared.refusal.Refusal.{Refusal}
 use Rattle.ark_base.specs.declared.refusal.Refusal.TheVariants.{Syntax, UnknownWord, TooLong}
 use Rattle.ark_script.specs.Text.{no_newline}
-use Rattle.ark_script.specs.Line as w
 use Rattle.ark_script.specs.Line.{Line}
+use Rattle.ark_script.specs.Form.{IsForm}
+use Rattle.ark_script.specs.Words.{IsKnown}
 
 -- a byte before the lines of the rest: it begins the first of them
 abbrev pub begin_first : ℕ → List (List ℕ) → List (List ℕ)
@@ -35,19 +35,6 @@ newlines (b ∷ bs) = if nat_eq b 10 then newlines bs + 1 else newlines bs
 -- a longer line is not read
 abbrev pub max_line : ℕ
 max_line = 66000
-
--- the bytes up to the first space, or all of them, are this word
-abbrev pub HasWord : List ℕ → List ℕ → Type 0
-HasWord word line = (line ≡ word) ⊎ ((rest : List ℕ) × (line ≡ word ++ 32 ∷ rest))
-
--- the line begins with a word of the language
-abbrev pub IsKnown : List ℕ → Type 0
-IsKnown line = HasWord (codes "app") line
-
--- The line is of this form: words with one space between them. A number of frames is not read yet.
-abbrev pub IsForm : Line → List ℕ → Type 0
-IsForm (w.app a None) line = (is_name a ≡ true) × (line ≡ codes "app" ++ 32 ∷ a)
-IsForm _ line = ⊥
 
 -- what a line means: what it asks for, or why it is refused at sight
 abbrev pub Meaning : Type 0

@@ -1,11 +1,30 @@
+ghost use Rattle.std.specs.Prelude.{◌≡◌, ◌≤◌, length, Ok, Err, MatchResult};
+ghost use Rattle.ark_script.specs.Line.{line_of};
+ghost use Rattle.ark_script.specs.Lines.{Says, max_line};
+
+mod argument;
+mod digits;
+mod filter;
+mod form;
+mod number;
+mod shape;
+mod single;
+mod split;
+mod word;
+
 use crate::step::Step;
 use ark_base::Refusal;
 
 /// The most bytes of a line that is read, without its newline. A longer line is refused as too long.
 pub const MAX_LINE: usize = 66_000;
 
-/// What a line asks for.
-pub fn read_line(line: &[u8]) -> Result<Step<'_>, Refusal> {
-    let _ = line;
-    Err(Refusal::Syntax)
+/// What a line asks for. The line stands without its newline.
+///
+/// A line that begins with no word of the language is refused as unknown, and one that is not of its word's form as
+/// wrong in syntax.
+pub fn read_line(line: &[u8]) -> Result<Step<'_>, Refusal>
+    requires short { length line.now ≤ max_line }
+    ensures means { MatchResult result (λ step. Says line.now (Ok (line_of step))) (λ refusal. Says line.now (Err refusal)) }
+{
+    form::read(line)
 }

@@ -1,3 +1,7 @@
+ghost use Rattle.std.specs.Prelude.{◌≡◌, ◌*◌, ◌/◌, true, length};
+ghost use Rattle.std.specs.List.{list_all};
+ghost use Rattle.hex.specs.Hex.{is_hex_digit};
+
 use ark_base::{AppName, Kind, Label};
 use ark_filters::{Direction, Filter};
 use ark_packet::Own;
@@ -7,6 +11,8 @@ use ark_packet::Own;
 pub struct Hex<'a> {
     /// The digits, in the order of the line.
     pub digits: &'a [u8],
+    ghost hex: { list_all is_hex_digit digits.now ≡ true },
+    ghost even: { length digits.now ≡ 2 * (length digits.now / 2) },
 }
 
 /// A queue of a card.
