@@ -9,6 +9,7 @@ use Rattle.ark_media.specs.Going.{onto-append}
 use Rattle.ark_media.specs.Parts.{IsUnfinished}
 use Rattle.ark_media.proofs.Composing.{takes_none, takes_then, goes_kept, goes_put}
 use Rattle.ark_script.specs.Text.{text, reply_words}
+use Rattle.ark_script.specs.declared.said.Said.{Said}
 use Rattle.ark_script.specs.declared.said.Said.TheVariants.{Ready}
 use Rattle.ark_script.proofs.Clean.{words_clean}
 use Rattle.ark_table.specs.Superblock.{format_calls}
@@ -41,6 +42,10 @@ since_then size es fs xs ys t1 t2 b0 b1 b2 p q = record {
   source = le_trans p.source q.source;
   sink = le_trans p.sink q.sink;
 }
+
+-- the line that says that the device is ready shows no bytes
+pub ready_line : (size : ℕ) (reply : Said) (shown line : List ℕ) → reply ≡ Ready size 0 → line ≡ text reply shown → line ≡ text (Ready size 0) []
+ready_line size reply shown line same is = is ∙ ap (λ (x : Said). text x shown) same
 
 -- made, formatted, and its line put or not
 module _ (size : ℕ) (t0 t1 t2 t3 : Told) (b0 b1 b2 b3 : Beside) (events : List Event) (calls : Makes (format_calls size) true events) (shown : List ℕ) (is : shown ≡ text (Ready size 0) [])

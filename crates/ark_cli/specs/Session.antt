@@ -21,10 +21,10 @@ pub record Acts (told0 told1 : Told) (beside0 beside1 : Beside) (P : List Event 
   pub does : P events
 
 -- a line was read and served: what it means, and what the host answered to that
-pub record ServesLine (s : System) (line : List ℕ) (es : List Event) (host : Host) (told : Told) (reply : Said) : Type 0 where
+pub record ServesLine (s : System) (line : List ℕ) (es : List Event) (host : Host) (told : Told) (reply : Said) (shown : List ℕ) : Type 0 where
   pub meaning : Meaning
   pub says : Says line meaning
-  pub answered : Answered host told s meaning es reply []
+  pub answered : Answered host told s meaning es reply shown
 
 -- the part answers the line in whole, and the host stands for the system after it
 pub record IsAnswer (s : System) (line : List ℕ) (part : List Event) (host : Host) (told : Told) : Type 0 where
