@@ -1,8 +1,8 @@
 -- A line that was served, and its reply put out: the part of the line.
 use Rattle.std.proofs.Common.{◌≡◌, ℕ, Bool, true, false, nat_eq, List, [], ◌∷◌, ◌++◌, refl, sym, ◌∙◌, ap, subst, append-nil, inl, inr, bytes_eq}
-use Rattle.std.specs.Prelude.{◌⊎◌}
+use Rattle.std.specs.Prelude.{◌⊎◌, Some}
 use Rattle.ark_base.specs.declared.refusal.Refusal.TheVariants as r
-use Rattle.ark_media.specs.Journal.{Event, Out, output_of, device_events}
+use Rattle.ark_media.specs.Journal.{Event, Out, History, output_of, device_events}
 use Rattle.ark_media.specs.Calls.{Told, Puts, Rests}
 use Rattle.ark_media.specs.Parts.{ends_with_newline, ends_reply}
 use Rattle.ark_media.proofs.Parting.{whole_with, devices_unfinished, unfinished_then}
@@ -20,6 +20,7 @@ use Rattle.ark_machine.proofs.Runs.{performs_devices}
 use Rattle.ark_host.specs.declared.host.Host.{Host}
 use Rattle.ark_host.specs.Stands.{Stands}
 use Rattle.ark_host.proofs.Standing.{stands_rests}
+use Rattle.ark_cli.specs.Cut.{IsFront, cut_turn}
 use Rattle.ark_cli.specs.Session.{ServesLine, IsAnswer, IsCut, AnswersLine}
 
 newline_last : (words : List ℕ) → ends_with_newline (words ++ 10 ∷ []) ≡ true
@@ -112,12 +113,31 @@ module _ (s : System) (whole : List ℕ) (es : List Event) (t0 t1 : Told) (host 
         (subst (λ (b : Bool). Performs s served.meaning (turn s served.meaning (ends_of es) b).calls es) is served.answered.calls);
   })
 
+  -- its calls were made, and the first bytes of its text came out
+  front : (bytes more : List ℕ) → text reply shown ≡ bytes ++ more → Rests (Out bytes ∷ []) t0 t1 → (h : History) → t1.history ≡ Some h → IsFront s served.meaning (part bytes)
+  front bytes more is rests h told =
+      let before = told_before (Out bytes ∷ []) t0.history t1.history rests.adds h told in
+      let same : cut_turn s served.meaning (part bytes) (wants_memory reply) ≡ turn s served.meaning (ends_of es) (wants_memory reply) =
+      ap (λ (x : List Event). turn s served.meaning (ends_of x) (wants_memory reply)) (part_devices bytes) in
+      record {
+        lacked = wants_memory reply;
+        memory = served.answered.memory;
+        calls = subst (λ (x : List Event). Performs s served.meaning (cut_turn s served.meaning (part bytes) (wants_memory reply)).calls x) (sym (part_devices bytes))
+            (subst (λ (t : Turn). Performs s served.meaning t.calls es) (sym same) served.answered.calls);
+        more = more;
+        front = ap (λ (t : Turn). text t.said t.bytes) same
+            ∙ sym (ap (λ (x : Said). text x shown) served.answered.said
+            ∙ ap (λ (b : List ℕ). text (turn s served.meaning (ends_of es) (wants_memory reply)).said b) (served.answered.bytes before.0 before.1))
+            ∙ is ∙ ap (λ (b : List ℕ). b ++ more) (sym (output_of-put es bytes silent));
+      }
+
   -- a part of it was, with no newline
-  answer_cut : (bytes : List ℕ) → no_newline bytes ≡ true → IsCut s whole (part bytes)
-  answer_cut bytes clean = record {
+  answer_cut : (bytes more : List ℕ) → text reply shown ≡ bytes ++ more → Rests (Out bytes ∷ []) t0 t1 → no_newline bytes ≡ true → IsCut s whole (part bytes) t1
+  answer_cut bytes more is rests clean = record {
     meaning = served.meaning;
     says = served.says;
     rest = unfinished_then es (Out bytes ∷ []) (devices_unfinished es devices) (clean_goes_on bytes clean, tt);
+    front = front bytes more is rests;
     begun = subst (λ (x : List Event). (x ≡ []) ⊎ IsBegun s served.meaning x) (sym (part_devices bytes)) (begun (wants_memory reply) refl);
   }
 
@@ -127,7 +147,7 @@ module _ (s : System) (whole : List ℕ) (es : List Event) (t0 t1 : Told) (host 
     done = λ is. all_of (all_put t0 t1 (text reply shown) ok is p);
     cut = elim (cut_line (reply_words reply shown) p.part p.more (words_clean reply shown named) p.prefix) [
       | inl same ↦ inl (all_of same)
-      | inr clean ↦ inr (answer_cut p.part clean)
+      | inr clean ↦ inr (answer_cut p.part p.more p.prefix p.rests clean)
     ];
   }
     where

@@ -67,7 +67,7 @@ module _ (size : ℕ) (t0 t1 t2 t3 : Told) (b0 b1 b2 b3 : Beside) (events : List
   pub opens_unshown : Puts t2 t3 shown false → Opens size t0 t3 b0 b3 (Err Sink)
   opens_unshown p = record {
     ready = search rules;
-    failed = inr (inr (refl, record { events = events; part = p.part; calls = calls; cut = cut; since = since_put false p }));
+    failed = inr (inr (refl, record { events = events; part = p.part; calls = calls; more = p.more; front = sym is ∙ p.prefix; cut = cut; since = since_put false p }));
   }
     where
       cut : (p.part ≡ text (Ready size 0) []) ⊎ IsUnfinished (Out p.part ∷ [])
