@@ -4,7 +4,7 @@ use Rattle.std.specs.Prelude.{◌⊎◌, ◌↔◌}
 use Rattle.ark_base.specs.declared.status.Status.{Status}
 use Rattle.ark_base.specs.declared.status.Status.TheVariants.{Done, Usage, Source, Sink, Device, Memory, Damaged, Long}
 use Rattle.ark_media.specs.Journal.{Event, Out, device_events}
-use Rattle.ark_media.specs.Calls.{Told, Beside, Goes, Puts, KeepsAtPut, Rose}
+use Rattle.ark_media.specs.Calls.{Told, Beside, Adds, Goes, Puts, KeepsAtPut, Rose}
 use Rattle.ark_media.specs.Going.{rose_later, adds_then}
 use Rattle.ark_media.specs.Parts.{Parts, parts, ends_reply}
 use Rattle.ark_media.proofs.Parting.{parts-more}
@@ -91,13 +91,25 @@ module _ (u closing : List Event) (silent : device_events closing ≡ []) where
     },
   )
 
-pub ends_undamaged : (status : Status) (script : List ℕ) (whole : List (List Event)) (rest : List Event) → Ends status script whole rest → IsUndamaged status
-ends_undamaged (Damaged block) script whole rest h = h
-ends_undamaged _ script whole rest h = tt
+pub ends_undamaged : (size : ℕ) (told : Told) (status : Status) (script : List ℕ) (whole : List (List Event)) (rest : List Event) → Ends size told status script whole rest → IsUndamaged status
+ends_undamaged size told (Damaged block) script whole rest h = h
+ends_undamaged size told _ script whole rest h = tt
+
+-- what was said of a run that ended stays so when the closing line was put
+ends_later : (size : ℕ) (t1 t2 : Told) (status : Status) (closing : List Event) (script : List ℕ) (whole : List (List Event)) (rest : List Event) → Adds t1.history t2.history closing → Ends size t1 status script whole rest → Ends size t2 status script whole rest
+ends_later size t1 t2 Sink closing script [] rest adds e = e
+ends_later size t1 t2 Sink closing script (first ∷ whole) rest adds e = λ h is. let before = told_before closing t1.history t2.history adds h is in e before.0 before.1
+ends_later size t1 t2 Done closing script whole rest adds e = e
+ends_later size t1 t2 Source closing script whole rest adds e = e
+ends_later size t1 t2 Long closing script whole rest adds e = e
+ends_later size t1 t2 Device closing script whole rest adds e = e
+ends_later size t1 t2 Usage closing script whole rest adds e = e
+ends_later size t1 t2 Memory closing script whole rest adds e = e
+ends_later size t1 t2 (Damaged block) closing script whole rest adds e = e
 
 closed : (size : ℕ) (t1 t2 : Told) (b0 b1 b2 : Beside) (status : Status) (closing : List Event) → IsOpen size t1 b0 b1 status → Closes status closing → Goes closing [] t1 t2 b1 b2 → IsClosed size t2 b0 b2 status
 closed size t1 t2 b0 b1 b2 status closing o c goes =
-    let none : IsNoReply closing = closes_no_reply status closing (ends_undamaged status o.script (parts o.events).whole (parts o.events).unfinished o.ends) c in
+    let none : IsNoReply closing = closes_no_reply status closing (ends_undamaged size t1 status o.script (parts o.events).whole (parts o.events).unfinished o.ends) c in
     let are : parts (o.events ++ closing) ≡ record { whole = (parts o.events).whole; unfinished = (parts o.events).unfinished ++ closing } = parts_closed o.events closing none in
     record {
       script = o.script;
@@ -111,7 +123,8 @@ closed size t1 t2 b0 b1 b2 status closing o c goes =
       closing = closing;
       unfinished = ap (λ (p : Parts). p.unfinished) are;
       closes = c;
-      ends = subst (λ (w : List (List Event)). Ends status o.script w (parts o.events).unfinished) (sym (ap (λ (p : Parts). p.whole) are)) o.ends;
+      ends = subst (λ (w : List (List Event)). Ends size t2 status o.script w (parts o.events).unfinished) (sym (ap (λ (p : Parts). p.whole) are))
+          (ends_later size t1 t2 status closing o.script (parts o.events).whole (parts o.events).unfinished goes.tells.adds o.ends);
       at_end = λ e. still_at_end b1.script b2.script (o.at_end e) goes.takes;
       long = o.long;
       short = o.short;
@@ -142,7 +155,7 @@ module _ (words : List (List ℕ)) (t0 t1 t2 : Told) (b0 b1 b2 : Beside) (status
 undamaged_run : (size : ℕ) (t0 t1 : Told) (b0 b1 : Beside) (status : Status) → RunsNew size t0 t1 b0 b1 status → IsUndamaged status
 undamaged_run size t0 t1 b0 b1 status (inl m) = subst (λ (e : Status). IsUndamaged e) (sym m.0) tt
 undamaged_run size t0 t1 b0 b1 status (inr (inl d)) = subst (λ (e : Status). IsUndamaged e) (sym d.0) tt
-undamaged_run size t0 t1 b0 b1 status (inr (inr o)) = ends_undamaged status o.script (parts o.events).whole (parts o.events).unfinished o.ends
+undamaged_run size t0 t1 b0 b1 status (inr (inr o)) = ends_undamaged size t1 status o.script (parts o.events).whole (parts o.events).unfinished o.ends
 
 pub undamaged : (words : List (List ℕ)) (t0 t1 : Told) (b0 b1 : Beside) (status : Status) → Commands words t0 t1 b0 b1 status → IsUndamaged status
 undamaged words t0 t1 b0 b1 status (inl u) = subst (λ (e : Status). IsUndamaged e) (sym u.0) tt
@@ -163,7 +176,7 @@ cause_closed t0 t1 t2 b0 b1 b2 (Damaged block) closing g h = absurd h
 -- the status of usage comes exactly where the words are no command
 module _ (words : List (List ℕ)) (t0 t1 : Told) (b0 b1 : Beside) (status : Status) where
   usage_runs : (size : ℕ) → IsClosed size t1 b0 b1 status → status ≡ Usage → ⊥
-  usage_runs size r is = subst (λ (e : Status). Ends e r.script (parts r.events).whole r.rest) is r.ends
+  usage_runs size r is = subst (λ (e : Status). Ends size t1 e r.script (parts r.events).whole r.rest) is r.ends
 
   usage_only : Does words t0 t1 b0 b1 status → status ≡ Usage → (size : ℕ) (device : List ℕ) → IsRun words size device → ⊥
   usage_only (no_command is none quiet) u = none

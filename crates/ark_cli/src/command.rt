@@ -3,11 +3,13 @@ ghost use Rattle.ark_media.specs.Journal.{Event};
 ghost use Rattle.ark_media.specs.Calls.{Told, Goes, Rose};
 ghost use Rattle.ark_machine.specs.System.{fresh_system};
 ghost use Rattle.ark_host.specs.Stands.{Stands};
+ghost use Rattle.ark_host.specs.Time.{IsSound};
 ghost use Rattle.ark_cli.specs.Words.{IsRun};
 ghost use Rattle.ark_cli.specs.Ending.{RunsNew, Commands, Closes, Does, IsCause, IsUndamaged};
 
 use crate::line::LineBuffer;
 use crate::opening::open_new;
+use crate::reply::ReplyBuffer;
 use crate::script::run_script;
 use crate::words::read_words;
 use ark_base::Status;
@@ -21,18 +23,21 @@ fn run_with<W: Outside>(
     device: &str,
     host: &mut Host,
     line: &mut LineBuffer,
+    out: &mut ReplyBuffer,
     world: &mut W,
 ) -> Status
     requires low { 130 ≤ blocks }
     requires high { blocks ≤ 1048576 }
     requires host { (told : Told) → Stands host.old told (fresh_system told.blocks) }
+    requires sound { IsSound host.old }
+    requires none { host.old.lines ≡ 0 }
     requires line { line.old ≡ [] }
     ensures runs { RunsNew blocks (W.told world.old) (W.told world.new) (W.beside world.old) (W.beside world.new) result }
     ensures cause { IsCause (W.told world.old) (W.told world.new) (W.beside world.old) (W.beside world.new) result }
 {
-    match open_new(blocks, device, world) {
+    match open_new(blocks, device, out, world) {
         Err(status) => status,
-        Ok(()) => run_script(host, line, world),
+        Ok(()) => run_script(host, line, out, world),
     }
 }
 
@@ -46,8 +51,11 @@ fn run_new<W: Outside>(alloc: Global, blocks: u32, device: &str, world: &mut W) 
     let Ok(mut line) = LineBuffer::new(alloc) else {
         return Status::Memory;
     };
+    let Ok(mut out) = ReplyBuffer::new(alloc) else {
+        return Status::Memory;
+    };
     let mut host = Host::new(alloc);
-    run_with(blocks, device, &mut host, &mut line, world)
+    run_with(blocks, device, &mut host, &mut line, &mut out, world)
 }
 
 // What the words ask for, up to the closing line.

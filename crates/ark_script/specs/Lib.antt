@@ -1,5 +1,6 @@
 pub mod Arguments
 pub mod Form
+pub mod Lending
 pub mod Line
 pub mod Lines
 pub mod Listed
@@ -8,7 +9,6 @@ pub mod Meant
 pub mod Named
 pub mod Reading
 pub mod Reply
-pub mod Lending
 pub mod Sentence
 pub mod Shape
 pub mod Text
