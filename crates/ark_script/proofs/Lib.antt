@@ -3,6 +3,7 @@ pub mod Arguing
 pub mod Choosing
 pub mod Completing
 pub mod Digits
+pub mod Examples
 pub mod Grammar
 pub mod Lining
 pub mod Listing

@@ -10,6 +10,8 @@ mod number;
 mod shape;
 mod single;
 mod split;
+#[cfg(test)]
+mod tests;
 mod word;
 
 use crate::step::Step;
