@@ -1,5 +1,5 @@
 -- Lines that have their form, and lines that begin with no word of the language.
-use Rattle.std.proofs.Common.{◌≡◌, ℕ, ◌≤◌, ◌∷◌, [], false, List, codes, Some, None, inl, inr, refl, arith}
+use Rattle.std.proofs.Common.{◌≡◌, ◌∷◌, [], codes, Some, None, inl, inr, refl, arith}
 use Rattle.std.specs.Fmt.{digits}
 use Rattle.ark_base.specs.declared.kind.Kind.TheVariants as kind
 use Rattle.ark_filters.specs.declared.filter.Direction.TheVariants as direction

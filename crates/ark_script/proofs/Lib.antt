@@ -5,8 +5,10 @@ pub mod Completing
 pub mod Digits
 pub mod Examples
 pub mod Grammar
+pub mod WordOf
 pub mod Lining
 pub mod Listing
+pub mod Meant
 pub mod Numbers
 pub mod Parts
 pub mod Readers

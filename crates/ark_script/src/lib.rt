@@ -7,6 +7,6 @@ mod said;
 mod step;
 
 pub use printing::{TEXT_ROOM, print};
-pub use reading::{MAX_LINE, read_line};
+pub use reading::{MAX_LINE, one_meaning, read_line};
 pub use said::Said;
 pub use step::{Hex, Side, Step};

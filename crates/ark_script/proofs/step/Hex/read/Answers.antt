@@ -1,6 +1,5 @@
 use Rattle.std.proofs.Common.{◌≡◌, ◌*◌, ◌/◌, ◌≤◌, length, take, arith}
 use Rattle.std.proofs.lemmas.List.{length-take-le}
-use Rattle.ark_script.specs.Line.{spelled}
 use Rattle.ark_script.proofs.Digits.{length-spelled_half}
 use Rattle.ark_script.proofs.step.Hex.read.Goals as goal
 
