@@ -18,17 +18,18 @@ use Rattle.ark_script.specs.Words.{first_word, known_words, words_of}
 use Rattle.ark_script.proofs.Completing.{complete}
 use Rattle.ark_script.proofs.Parts.{parts_some}
 use Rattle.ark_script.proofs.Sounding.{sound}
-use Rattle.ark_script.proofs.Wording.{word_spelled, spelling, spelling_of, word_at-word_of, kind_of_line, is_known, first_of_words}
+use Rattle.ark_script.proofs.WordOf.{spelling, spelling_of, word_at-word_of, kind_of_line}
+use Rattle.ark_script.proofs.Wording.{word_spelled, is_known, first_of_words}
 
 -- whether the first word is known
-known_is : (line first : List ℕ) (words : List (List ℕ)) (o : Option Word) → words_of line ≡ first ∷ words → word_at first ≡ o
+pub known_is : (line first : List ℕ) (words : List (List ℕ)) (o : Option Word) → words_of line ≡ first ∷ words → word_at first ≡ o
     → list_any (bytes_eq (first_word line)) known_words ≡ is_some o
 known_is line first words o e h = rw (first_of_words line first words e) (is_known first ∙ ap is_some h)
 
-form_is : (line first : List ℕ) (words : List (List ℕ)) (asked : Line) → words_of line ≡ first ∷ words → IsForm asked line → (first ≡ word_of asked) × AreArguments asked words
+pub form_is : (line first : List ℕ) (words : List (List ℕ)) (asked : Line) → words_of line ≡ first ∷ words → IsForm asked line → (first ≡ word_of asked) × AreArguments asked words
 form_is line first words asked e h = subst (λ (ws : List (List ℕ)). Sentence (word_of asked) (AreArguments asked) ws) e h
 
-is_form : (line first : List ℕ) (words : List (List ℕ)) (asked : Line) → words_of line ≡ first ∷ words → first ≡ word_of asked → AreArguments asked words → IsForm asked line
+pub is_form : (line first : List ℕ) (words : List (List ℕ)) (asked : Line) → words_of line ≡ first ∷ words → first ≡ word_of asked → AreArguments asked words → IsForm asked line
 is_form line first words asked e h k = subst (λ (ws : List (List ℕ)). Sentence (word_of asked) (AreArguments asked) ws) (sym e) (h, k)
 
 -- a known word, by what it gives with the words behind it

@@ -4,10 +4,12 @@ pub mod Choosing
 pub mod Clean
 pub mod Completing
 pub mod Digits
+pub mod Examples
 pub mod Grammar
 pub mod Limits
 pub mod Lining
 pub mod Listing
+pub mod Meant
 pub mod Numbers
 pub mod Parts
 pub mod Readers
@@ -16,4 +18,5 @@ pub mod Shaping
 pub mod Showing
 pub mod Singling
 pub mod Sounding
+pub mod WordOf
 pub mod Wording

@@ -1,6 +1,6 @@
-ghost use Rattle.std.specs.Prelude.{◌≡◌, ◌≤◌, length, Ok, Err, MatchResult};
+ghost use Rattle.std.specs.Prelude.{◌≡◌, ◌≤◌, ℕ, List, length, Ok, Err, MatchResult};
 ghost use Rattle.ark_script.specs.Line.{line_of};
-ghost use Rattle.ark_script.specs.Lines.{Says, max_line};
+ghost use Rattle.ark_script.specs.Lines.{Meaning, Says, max_line};
 
 mod argument;
 mod digits;
@@ -10,6 +10,8 @@ mod number;
 mod shape;
 mod single;
 mod split;
+#[cfg(test)]
+mod tests;
 mod word;
 
 use crate::step::Step;
@@ -28,3 +30,9 @@ pub fn read_line(line: &[u8]) -> Result<Step<'_>, Refusal>
 {
     form::read(line)
 }
+
+/// Each line means something, and nothing else.
+pub fn one_meaning()
+    ensures some { (line : List ℕ) → (m : Meaning) × Says line m }
+    ensures only { (line : List ℕ) (m n : Meaning) → Says line m → Says line n → m ≡ n }
+{}
