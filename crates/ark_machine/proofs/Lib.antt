@@ -11,3 +11,6 @@ pub mod Logs
 pub mod Images
 pub mod Stops
 pub mod FailedGrant
+pub mod Paced
+pub mod Steady
+pub mod Rows

@@ -24,3 +24,5 @@ pub mod Sending
 pub mod Confined
 pub mod Start
 pub mod Recovers
+pub mod Paced
+pub mod Refused
