@@ -14,3 +14,5 @@ pub mod FailedGrant
 pub mod Paced
 pub mod Steady
 pub mod Rows
+pub mod Listed
+pub mod Privacy

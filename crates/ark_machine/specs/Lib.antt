@@ -26,3 +26,4 @@ pub mod Start
 pub mod Recovers
 pub mod Paced
 pub mod Refused
+pub mod Private
