@@ -16,3 +16,5 @@ pub mod Steady
 pub mod Rows
 pub mod Listed
 pub mod Privacy
+pub mod Refusing
+pub mod Faults

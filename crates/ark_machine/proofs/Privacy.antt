@@ -39,7 +39,7 @@ abbrev Fits : List ℕ → System → Turn → Option (List ℕ) → List Input 
 Fits a s t whom is = (cond (is_label a whom) (reply_of t ∷ []) [] ≡ private_replies a (machine_of s a) is) × (machine_of t.after a ≡ private_machine a (machine_of s a) is)
 
 -- the machine that a line of the application leaves
-own_machine : (s : System) (a : List ℕ) (line : Line) (g : Given) → listed_machine (set_machine s.machines a (step (machine_of s a) line g).machine) s.now a ≡ (step (machine_of s a) line g).machine
+pub own_machine : (s : System) (a : List ℕ) (line : Line) (g : Given) → listed_machine (set_machine s.machines a (step (machine_of s a) line g).machine) s.now a ≡ (step (machine_of s a) line g).machine
 own_machine s a line g = set_here s.machines s.now a (step (machine_of s a) line g).machine made
   where
     made : is_unlisted s.machines a ≡ true → ((step (machine_of s a) line g).machine.made ≡ true) ⊎ ((step (machine_of s a) line g).machine ≡ unmade_at s.now)

@@ -1,9 +1,10 @@
 -- What a refused line may leave behind it.
-use Rattle.std.specs.Prelude.{Bool, true, false, ◌&&◌, ◌||◌, List, ℕ}
+use Rattle.std.specs.Prelude.{Bool, true, false, ◌&&◌, ◌||◌, List, map, ℕ}
 use Rattle.ark_base.specs.declared.refusal.Refusal.{Refusal}
 use Rattle.ark_base.specs.declared.refusal.Refusal.TheVariants as r
 use Rattle.ark_script.specs.Line as w
 use Rattle.ark_script.specs.Line.{Line}
+use Rattle.ark_machine.specs.Machine.{Machine}
 
 -- only device calls tell
 abbrev pub is_told_late : Refusal → Bool
@@ -24,3 +25,21 @@ reaps_first _ = false
 -- whether a line that is refused so may have changed something
 abbrev pub may_leave : Line → Refusal → Bool
 may_leave line x = is_told_late x || (reaps_first line && is_of_sending x)
+
+-- the line gives its application an area, more blocks, or an open log
+abbrev pub is_gain : Line → Bool
+is_gain (w.vsa a s n k) = true
+is_gain (w.grow a s n) = true
+is_gain (w.log a s v) = true
+is_gain (w.queue a s v) = true
+is_gain _ = false
+
+-- the line reads the device and changes nothing
+abbrev pub is_look : Line → Bool
+is_look (w.peek a s off) = true
+is_look (w.walk a s n) = true
+is_look _ = false
+
+-- the labels that are held
+abbrev pub labels : Machine → List (List ℕ)
+labels m = map (λ h. h.label) m.held
