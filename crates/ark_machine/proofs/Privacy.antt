@@ -11,6 +11,7 @@ use Rattle.ark_machine.specs.Objects.{Vnic, Place}
 use Rattle.ark_machine.specs.Machine.{Machine, unmade, vnic_at}
 use Rattle.ark_machine.specs.Row.{Row, Ended, Given, says}
 use Rattle.ark_machine.specs.Control.{is_label}
+use Rattle.ark_machine.specs.Asked.{part_for}
 use Rattle.ark_machine.specs.Rates.{may_pass}
 use Rattle.ark_machine.specs.Network.{bytes_in, received, arrival, arrive}
 use Rattle.ark_machine.specs.Step.{step, ticked}
@@ -52,14 +53,65 @@ own_machine s a line g = set_here s.machines s.now a (step (machine_of s a) line
         by none (inl made) = inl made
         by none (inr same) = inr (same ∙ none)
 
+-- a word asks for no more than its part
+step_part : (m : Machine) (line : Line) (g : Given) → step m line g ≡ step m line (part_for line g)
+unfolding step
+step_part m (w.nic x0) g = refl
+step_part m (w.app x0 x1) g = refl
+step_part m (w.vsic x0 x1 x2) g = refl
+step_part m (w.vnic x0 x1 x2 x3) g = refl
+step_part m (w.vsa x0 x1 x2 x3) g = refl
+step_part m (w.grow x0 x1 x2) g = refl
+step_part m (w.bind x0 x1 x2) g = refl
+step_part m (w.unbind x0 x1 x2) g = refl
+step_part m (w.filter x0 x1 x2) g = refl
+step_part m (w.assign x0 x1 x2) g = refl
+step_part m (w.rate x0 x1 x2 x3) g = refl
+step_part m (w.pace x0 x1 x2 x3) g = refl
+step_part m (w.door x0 x1) g = refl
+step_part m (w.watch x0 x1 x2 x3) g = refl
+step_part m (w.drop x0 x1) g = refl
+step_part m (w.buf x0 x1 x2) g = refl
+step_part m (w.fill x0 x1 x2 x3) g = refl
+step_part m (w.show x0 x1 x2 x3) g = refl
+step_part m (w.copy x0 x1 x2 x3) g = refl
+step_part m (w.free x0 x1) g = refl
+step_part m (w.peek x0 x1 x2) g = refl
+step_part m (w.poke x0 x1 x2 x3) g = refl
+step_part m (w.get x0 x1 x2 x3 x4 x5) g = refl
+step_part m (w.put x0 x1 x2 x3 x4 x5) g = refl
+step_part m (w.flush x0 x1) g = refl
+step_part m (w.reap x0 x1) g = refl
+step_part m (w.post x0 x1 x2) g = refl
+step_part m (w.send x0 x1 x2 x3) g = refl
+step_part m (w.take x0 x1 x2) g = refl
+step_part m (w.sock x0 x1 x2 x3) g = refl
+step_part m (w.sendto x0 x1 x2 x3 x4) g = refl
+step_part m (w.recv x0 x1) g = refl
+step_part m (w.look x0 x1) g = refl
+step_part m (w.log x0 x1 x2) g = refl
+step_part m (w.queue x0 x1 x2) g = refl
+step_part m (w.append x0 x1 x2) g = refl
+step_part m (w.push x0 x1 x2) g = refl
+step_part m (w.trim x0 x1 x2) g = refl
+step_part m (w.pop x0 x1) g = refl
+step_part m (w.walk x0 x1 x2) g = refl
+step_part m (w.poll x0 x1) g = refl
+step_part m (w.settle x0 x1) g = refl
+step_part m (w.close x0 x1) g = refl
+step_part m (w.dev x0 x1) g = refl
+step_part m (w.wire x0) g = refl
+step_part m (w.tick x0) g = refl
+
 own_fits : (a b : List ℕ) (s : System) (line : Line) (g : Given)
     → Fits a s (own_turn s b line (step (machine_of s b) line g)) (Some b) (line_inputs a b line g)
 own_fits a b s line g = by (bytes_eq a b) refl
   where
-    by : (t : Bool) → bytes_eq a b ≡ t → (cond t (reply_of (own_turn s b line (step (machine_of s b) line g)) ∷ []) [] ≡ private_replies a (machine_of s a) (cond t (asks line g ∷ []) []))
-        × (listed_machine (set_machine s.machines b (step (machine_of s b) line g).machine) s.now a ≡ private_machine a (machine_of s a) (cond t (asks line g ∷ []) []))
-    by true e = subst (λ c. (reply_of (own_turn s c line (step (machine_of s c) line g)) ∷ [] ≡ private_replies a (machine_of s a) (asks line g ∷ []))
-        × (listed_machine (set_machine s.machines c (step (machine_of s c) line g).machine) s.now a ≡ private_machine a (machine_of s a) (asks line g ∷ []))) (same_bytes a b e) (refl, own_machine s a line g)
+    by : (t : Bool) → bytes_eq a b ≡ t → (cond t (reply_of (own_turn s b line (step (machine_of s b) line g)) ∷ []) [] ≡ private_replies a (machine_of s a) (cond t (asks line (part_for line g) ∷ []) []))
+        × (listed_machine (set_machine s.machines b (step (machine_of s b) line g).machine) s.now a ≡ private_machine a (machine_of s a) (cond t (asks line (part_for line g) ∷ []) []))
+    by true e = subst (λ c. (reply_of (own_turn s c line (step (machine_of s c) line g)) ∷ [] ≡ private_replies a (machine_of s a) (asks line (part_for line g) ∷ []))
+        × (listed_machine (set_machine s.machines c (step (machine_of s c) line g).machine) s.now a ≡ private_machine a (machine_of s a) (asks line (part_for line g) ∷ []))) (same_bytes a b e)
+        (ap (λ row. (record { said = row.said; bytes = row.bytes; calls = row.calls }) ∷ []) (step_part (machine_of s a) line g), own_machine s a line g ∙ ap (λ row. row.machine) (step_part (machine_of s a) line g))
     by false e = (refl, set_there s.machines s.now a b (step (machine_of s b) line g).machine e)
 
 -- A frame that arrives.

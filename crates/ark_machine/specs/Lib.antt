@@ -26,4 +26,5 @@ pub mod Start
 pub mod Recovers
 pub mod Paced
 pub mod Refused
+pub mod Asked
 pub mod Private

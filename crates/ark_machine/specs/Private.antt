@@ -8,6 +8,7 @@ use Rattle.ark_script.specs.declared.said.Said.TheVariants as said
 use Rattle.ark_machine.specs.Machine.{Machine}
 use Rattle.ark_machine.specs.Row.{Row, Call, Ended, Given, says}
 use Rattle.ark_machine.specs.Control.{is_label}
+use Rattle.ark_machine.specs.Asked.{part_for}
 use Rattle.ark_machine.specs.Network.{arrive}
 use Rattle.ark_machine.specs.Step.{step, ticked}
 use Rattle.ark_machine.specs.Plane.{LiveFilter, recorded}
@@ -36,7 +37,7 @@ pub record Reply : Type 0 where
 -- What comes to an application.
 
 pub data Input : Type 0 where
-  -- a line of its own, with what the plane records for it
+  -- a line of its own, with what its word asks for of what is given beside the machine
   asks : Line → Given → Input
   -- a frame at its card of this label
   comes : List ℕ → List ℕ → Input
@@ -45,7 +46,7 @@ pub data Input : Type 0 where
 
 -- a line of application b
 abbrev pub line_inputs : List ℕ → List ℕ → Line → Given → List Input
-line_inputs a b line g = if bytes_eq a b then asks line g ∷ [] else []
+line_inputs a b line g = if bytes_eq a b then asks line (part_for line g) ∷ [] else []
 
 -- a frame, by the filter that takes it
 abbrev pub frame_inputs : List ℕ → List ℕ → Option LiveFilter → List Input
