@@ -18,3 +18,4 @@ pub mod Listed
 pub mod Privacy
 pub mod Refusing
 pub mod Faults
+pub mod Lawful
