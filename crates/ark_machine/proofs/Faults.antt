@@ -21,51 +21,10 @@ use Rattle.ark_machine.specs.Granting.{after_refusal, change_of, failed_change, 
 use Rattle.ark_machine.specs.Step.{step}
 use Rattle.ark_machine.specs.System.{System, machine_of, owner, owned_turn, line_turn}
 use Rattle.ark_machine.specs.Refused.{is_told_late, is_gain, is_look, labels}
+use Rattle.ark_machine.proofs.Early.{same_refusal, early_not_told}
 use Rattle.ark_machine.proofs.Steady.{is_plain}
 use Rattle.ark_machine.proofs.Rows.{plain_not_refused}
 use Rattle.ark_machine.proofs.Privacy.{own_machine}
-
-some_refusal : (y z : Refusal) → ◌≡◌ {A = Option Refusal} (Some y) (Some z) → y ≡ z
-some_refusal y z e = cc
-
-same_refusal : (x y : Refusal) → said.Refused x ≡ said.Refused y → x ≡ y
-same_refusal x y h = cc
-
--- What comes before a device call is none of the late refusals.
-
-unless_when : (x : Refusal) (b : Bool) (y : Refusal) (later : Option Refusal) → is_told_late y ≡ false → (later ≡ Some x → is_told_late x ≡ false) → when b y later ≡ Some x → is_told_late x ≡ false
-unless_when x true y later plain next h = subst (λ z. is_told_late z ≡ false) (some_refusal y x h) plain
-unless_when x false y later plain next h = next h
-
-unless_some : {A : Type 0} (x : Refusal) (o : Option A) (f : A → Refusal) (later : Option Refusal) → ((y : A) → is_told_late (f y) ≡ false) → (later ≡ Some x → is_told_late x ≡ false)
-    → when_some o f later ≡ Some x → is_told_late x ≡ false
-unless_some x (Some y) f later plain next h = subst (λ z. is_told_late z ≡ false) (some_refusal (f y) x h) (plain y)
-unless_some x None f later plain next h = next h
-
-early_plain : (c : Conditions) (x : Refusal) → early c ≡ Some x → is_told_late x ≡ false
-early_plain c x =
-    unless_when x c.too_long r.TooLong _ refl (
-    unless_when x c.unknown_word r.UnknownWord _ refl (
-    unless_when x c.syntax_fault r.Syntax _ refl (
-    unless_when x c.no_application r.NoApplication _ refl (
-    unless_when x c.name_taken r.NameTaken _ refl (
-    unless_some x c.no_grant (λ l. r.NoGrant l) _ (λ l. refl) (
-    unless_when x c.wrong_kind r.WrongKind _ refl (
-    unless_when x c.limit r.Limit _ refl (
-    unless_when x c.no_nic r.NoNic _ refl (
-    unless_when x c.out_of_range r.OutOfRange _ refl (
-    unless_when x c.table_failed r.TableFailed _ refl (
-    unless_when x c.log_failed r.LogFailed _ refl (
-    unless_when x c.busy r.Busy _ refl (
-    unless_when x c.lent r.Lent _ refl (
-    unless_when x c.ring_full r.RingFull _ refl (
-    unless_when x c.log_full r.LogFull _ refl (
-    unless_when x c.no_entry r.NoEntry _ refl (
-    unless_when x c.no_buffer r.NoBuffer _ refl (
-    unless_when x c.no_space r.NoSpace _ refl (
-    unless_when x c.scattered r.Scattered _ refl (
-    unless_some x c.overlap (λ f. r.Overlap f.0 f.1) _ (λ f. refl) (
-    unless_when x c.no_memory r.NoMemory None refl (λ h. absurd cc))))))))))))))))))))))
 
 -- a late refusal comes with the row's machine
 late_machine : (m : Machine) (c : Conditions) (row : Row) (x : Refusal) → is_plain row.said ≡ true → (answer m c row).said ≡ said.Refused x → is_told_late x ≡ true
@@ -74,7 +33,7 @@ unfolding answer
 late_machine m c row x plain h told = by (early c) (late c) refl h
   where
     by : (one two : Option Refusal) → early c ≡ one → (unless_refused one two m row).said ≡ said.Refused x → ((unless_refused one two m row).machine ≡ row.machine) × (two ≡ Some x)
-    by (Some y) two is e = absurd (false≢true (sym (early_plain c y is) ∙ subst (λ z. is_told_late z ≡ true) (sym (same_refusal y x e)) told))
+    by (Some y) two is e = absurd (early_not_told c y is (subst (λ z. is_told_late z ≡ true) (sym (same_refusal y x e)) told))
     by None (Some y) is e = (refl, ap (λ z. Some z) (same_refusal y x e))
     by None None is e = absurd (plain_not_refused row.said x plain e)
 

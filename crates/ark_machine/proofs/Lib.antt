@@ -13,6 +13,7 @@ pub mod Stops
 pub mod FailedGrant
 pub mod Paced
 pub mod Steady
+pub mod Early
 pub mod Rows
 pub mod Listed
 pub mod Privacy

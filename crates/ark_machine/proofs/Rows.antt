@@ -40,9 +40,10 @@ use Rattle.ark_machine.specs.Moves.{Move, moves, move, first_end, row_of}
 use Rattle.ark_machine.specs.Polls.{polled, next_call, settling}
 use Rattle.ark_machine.specs.Devices.{card_moves}
 use Rattle.ark_machine.specs.Step.{step}
-use Rattle.ark_machine.specs.Refused.{is_told_late, is_of_sending, may_leave}
+use Rattle.ark_machine.specs.Refused.{is_told_late, is_of_sending, may_leave, may_fault}
 use Rattle.ark_machine.specs.Paced.{IsPacedAt, ArePacedAt, MachinePacedAt}
 use Rattle.ark_machine.proofs.Paced.{VnicPaced, passed_paced, new_paced, object_paced, each_paced, without_paced, synced_paced, vnic_at_paced, vsic_paced, vnic_paced, log_paced, buffer_paced, socket_paced, raw_paced, rung_paced}
+use Rattle.ark_machine.proofs.Early.{some_refusal, same_refusal, early_not_told, told_not_sending}
 use Rattle.ark_machine.proofs.Steady.{is_plain, Leads, IsSteady, RowSteady, behind, move_steady, polled_steady, settling_steady, next_call_steady}
 
 -- only the move of a card sends, what a filter of the card lets out
@@ -54,6 +55,8 @@ pub record IsRow (line : Line) (m : Machine) (own : Option Own) (row : Row) : Ty
   pub sent : row.said ≡ said.Sent → MaySend m own line row.bytes
   pub refused : (x : Refusal) → row.said ≡ said.Refused x → may_leave line x ≡ false → row ≡ says m (said.Refused x)
   pub paced : Leads m row.machine
+  -- only the words that are refused for a call that failed
+  pub told : (x : Refusal) → row.said ≡ said.Refused x → is_told_late x ≡ true → may_fault line ≡ true
   -- an application that is not made is made, or stays as it is
   pub unmade : m.made ≡ false → (row.machine.made ≡ true) ⊎ (row.machine ≡ m)
 
@@ -64,9 +67,6 @@ plain_not_sent x h e = false≢true (subst (λ y. is_plain y ≡ true) e h)
 
 pub plain_not_refused : (x : Said) (y : Refusal) → is_plain x ≡ true → x ≡ said.Refused y → ⊥
 plain_not_refused x y h e = false≢true (subst (λ z. is_plain z ≡ true) e h)
-
-same_refusal : (x y : Refusal) → said.Refused x ≡ said.Refused y → x ≡ y
-same_refusal x y h = cc
 
 -- The conditions of a row.
 
@@ -100,35 +100,42 @@ told_leaves : (line : Line) (x : Refusal) → is_told_late x ≡ true → may_le
 told_leaves line x h e = false≢true (sym e ∙ rw h refl)
 
 -- a row that answers by its conditions
-of_answer : (line : Line) (m : Machine) (own : Option Own) (c : Conditions) (row : Row) → is_plain row.said ≡ true → Leads m row.machine
+of_answer : (line : Line) (m : Machine) (own : Option Own) (c : Conditions) (row : Row) → (late c ≡ None) ⊎ (may_fault line ≡ true) → is_plain row.said ≡ true → Leads m row.machine
     → (m.made ≡ false → early c ≡ None → (row.machine.made ≡ true) ⊎ (row.machine ≡ m)) → IsRow line m own (answer m c row)
 unfolding answer
-of_answer line m own c row plain lead un = by (early c) (late c) refl refl
+of_answer line m own c row faults plain lead un = by (early c) (late c) refl refl
   where
+    may : {x : Refusal} → (late c ≡ None) ⊎ (may_fault line ≡ true) → late c ≡ Some x → may_fault line ≡ true
+    may (inl none) also = absurd cc
+    may (inr yet) also = yet
+
     by : (first then : Option Refusal) → early c ≡ first → late c ≡ then → IsRow line m own (unless_refused first then m row)
     by (Some x) then is also = record {
       sent = λ h. absurd cc;
       refused = λ y h no. ap (λ z. says m z) h;
+      told = λ y h late_one. absurd (early_not_told c x is (subst (λ z. is_told_late z ≡ true) (sym (same_refusal x y h)) late_one));
       paced = λ t h. h;
       unmade = λ no. inr refl;
     }
     by None (Some x) is also = record {
       sent = λ h. absurd cc;
       refused = λ y h no. absurd (told_leaves line y (subst (λ z. is_told_late z ≡ true) (same_refusal x y h) (told_late c x also)) no);
+      told = λ y h late_one. may faults also;
       paced = lead;
       unmade = λ no. un no is;
     }
     by None None is also = record {
       sent = λ h. absurd (plain_not_sent row.said plain h);
       refused = λ y h no. absurd (plain_not_refused row.said y plain h);
+      told = λ y h late_one. absurd (plain_not_refused row.said y plain h);
       paced = lead;
       unmade = λ no. un no is;
     }
 
 -- a row of a word that asks for an application that is made
-of_made : (line : Line) (m : Machine) (own : Option Own) (c : Conditions) (row : Row) → c.no_application ≡ not m.made → is_plain row.said ≡ true → Leads m row.machine
+of_made : (line : Line) (m : Machine) (own : Option Own) (c : Conditions) (row : Row) → c.no_application ≡ not m.made → (late c ≡ None) ⊎ (may_fault line ≡ true) → is_plain row.said ≡ true → Leads m row.machine
     → IsRow line m own (answer m c row)
-of_made line m own c row asks plain lead = of_answer line m own c row plain lead (λ no is. absurd (needs_application c (asks ∙ rw no refl) is))
+of_made line m own c row asks faults plain lead = of_answer line m own c row faults plain lead (λ no is. absurd (needs_application c (asks ∙ rw no refl) is))
 
 -- Machines of the rows.
 
@@ -264,9 +271,6 @@ with_opened_leads m s f t h = log_paced t m s _ h
 
 -- `sendto`: reaped first, and then refused or posted
 
-some_refusal : (y z : Refusal) → ◌≡◌ {A = Option Refusal} (Some y) (Some z) → y ≡ z
-some_refusal y z e = cc
-
 of_sending : (a b : Bool) (x : Refusal) → when a r.RingFull (when b r.NoBuffer None) ≡ Some x → is_of_sending x ≡ true
 of_sending true b x h = subst (λ y. is_of_sending y ≡ true) (some_refusal r.RingFull x h) refl
 of_sending false true x h = subst (λ y. is_of_sending y ≡ true) (some_refusal r.NoBuffer x h) refl
@@ -296,6 +300,7 @@ sendto_row a m own k ip port payload c g asks none_late =
     by (Some x) full lacks is = record {
       sent = λ h. absurd cc;
       refused = λ y h no. ap (λ z. says m z) h;
+      told = λ y h late_one. absurd (early_not_told c x is (subst (λ z. is_told_late z ≡ true) (sym (same_refusal x y h)) late_one));
       paced = λ t h. h;
       unmade = λ no. inr refl;
     }
@@ -304,6 +309,7 @@ sendto_row a m own k ip port payload c g asks none_late =
         then : (next : Option Refusal) → when full r.RingFull (when lacks r.NoBuffer None) ≡ next → IsRow (w.sendto a k ip port payload) m own (unless_refused next None n row)
         then (Some x) also = record {
           sent = λ h. absurd cc;
+          told = λ y h late_one. absurd (told_not_sending y late_one (subst (λ z. is_of_sending z ≡ true) (same_refusal x y h) (of_sending full lacks x also)));
           refused = λ y h no. absurd (sending_leaves y (subst (λ z. is_of_sending z ≡ true) (same_refusal x y h) (of_sending full lacks x also)) no);
           paced = sent_reaped_leads m k;
           unmade = λ no. absurd (needs_application c (asks ∙ rw no refl) is);
@@ -311,6 +317,7 @@ sendto_row a m own k ip port payload c g asks none_late =
         then None also = record {
           sent = λ h. absurd cc;
           refused = λ y h no. absurd cc;
+          told = λ y h late_one. absurd cc;
           paced = λ t h. posted_leads n (card_at n k) (framed n k g.own ip port payload) (room_for n (frame_frames payload)) t (sent_reaped_leads m k t h);
           unmade = λ no. absurd (needs_application c (asks ∙ rw no refl) is);
         }
@@ -376,72 +383,74 @@ dev_row a v m own c row asks none_late sent unrefused lead = by (early c) refl
     by (Some x) is = record {
       sent = λ h. absurd cc;
       refused = λ y h no. ap (λ z. says m z) h;
+      told = λ y h late_one. absurd (early_not_told c x is (subst (λ z. is_told_late z ≡ true) (sym (same_refusal x y h)) late_one));
       paced = λ t h. h;
       unmade = λ no. inr refl;
     }
     by None is = rw none_late (record {
       sent = sent;
       refused = λ y h no. absurd (unrefused y h);
+      told = λ y h late_one. absurd (unrefused y h);
       paced = lead;
       unmade = λ no. absurd (needs_application c (asks ∙ rw no refl) is);
     })
 
 quiet_row : (line : Line) (m : Machine) (own : Option Own) → IsRow line m own (says m said.Ok)
-quiet_row line m own = record { sent = λ h. absurd cc; refused = λ y h no. absurd cc; paced = λ t h. h; unmade = λ no. inr refl }
+quiet_row line m own = record { sent = λ h. absurd cc; refused = λ y h no. absurd cc; told = λ y h late_one. absurd cc; paced = λ t h. h; unmade = λ no. inr refl }
 
 -- the row of every line
 pub row_is : (m : Machine) (line : Line) (g : Given) → IsRow line m g.own (step m line g)
 unfolding step
-row_is m (w.app a x1) g = of_answer (w.app a x1) m g.own _ _ refl (λ t h. h) (λ no is. inl refl)
-row_is m (w.vsic a x1 x2) g = of_made (w.vsic a x1 x2) m g.own _ _ refl refl (λ t h. new_paced t m x1 _ h tt)
-row_is m (w.vnic a x1 x2 x3) g = of_made (w.vnic a x1 x2 x3) m g.own _ _ refl refl (λ t h. new_paced t m x1 _ h (tt, tt))
-row_is m (w.vsa a x1 x2 x3) g = of_made (w.vsa a x1 x2 x3) m g.own _ _ refl refl
+row_is m (w.app a x1) g = of_answer (w.app a x1) m g.own _ _ (inl refl) refl (λ t h. h) (λ no is. inl refl)
+row_is m (w.vsic a x1 x2) g = of_made (w.vsic a x1 x2) m g.own _ _ refl (inl refl) refl (λ t h. new_paced t m x1 _ h tt)
+row_is m (w.vnic a x1 x2 x3) g = of_made (w.vnic a x1 x2 x3) m g.own _ _ refl (inl refl) refl (λ t h. new_paced t m x1 _ h (tt, tt))
+row_is m (w.vsa a x1 x2 x3) g = of_made (w.vsa a x1 x2 x3) m g.own _ _ refl (inr refl) refl
     (synced_leads m _ _ (unless_leads m m _ (has_fault g.ended) (λ t h. h) (λ t h. new_paced t m x1 (new_area x3 x2) h (area_paced t x3 x2))))
-row_is m (w.grow a x1 x2) g = of_made (w.grow a x1 x2) m g.own _ _ refl refl
+row_is m (w.grow a x1 x2) g = of_made (w.grow a x1 x2) m g.own _ _ refl (inr refl) refl
     (synced_leads m _ _ (unless_leads m m _ (has_fault g.ended) (λ t h. h) (λ t h. raw_paced t m x1 (grown x2) h)))
-row_is m (w.bind a x1 x2) g = of_made (w.bind a x1 x2) m g.own _ _ refl refl (λ t h. vsic_paced t m x1 _ (λ y q. q) h)
-row_is m (w.unbind a x1 x2) g = of_made (w.unbind a x1 x2) m g.own _ _ refl refl (λ t h. vsic_paced t m x1 _ (λ y q. q) h)
-row_is m (w.filter a x1 x2) g = of_made (w.filter a x1 x2) m g.own _ _ refl refl (λ t h. new_paced t m x1 _ h tt)
-row_is m (w.assign a x1 x2) g = of_made (w.assign a x1 x2) m g.own _ _ refl refl (assigned_leads m x1 x2 (filter_at m x2))
-row_is m (w.rate a x1 x2 x3) g = of_made (w.rate a x1 x2 x3) m g.own _ _ refl refl (λ t h. new_paced t m x1 _ h tt)
-row_is m (w.pace a x1 x2 x3) g = of_made (w.pace a x1 x2 x3) m g.own _ _ refl refl (with_pace_leads m x1 x3 (pace_of m x2) (λ t. pace_of_paced t m x2))
-row_is m (w.door a x1) g = of_made (w.door a x1) m g.own _ _ refl refl (λ t h. new_paced t m x1 _ h tt)
-row_is m (w.watch a x1 x2 x3) g = of_made (w.watch a x1 x2 x3) m g.own _ _ refl refl (with_door_leads m x1 x3 x2)
-row_is m (w.drop a x) g = of_made (w.drop a x) m g.own _ _ refl refl
+row_is m (w.bind a x1 x2) g = of_made (w.bind a x1 x2) m g.own _ _ refl (inl refl) refl (λ t h. vsic_paced t m x1 _ (λ y q. q) h)
+row_is m (w.unbind a x1 x2) g = of_made (w.unbind a x1 x2) m g.own _ _ refl (inl refl) refl (λ t h. vsic_paced t m x1 _ (λ y q. q) h)
+row_is m (w.filter a x1 x2) g = of_made (w.filter a x1 x2) m g.own _ _ refl (inl refl) refl (λ t h. new_paced t m x1 _ h tt)
+row_is m (w.assign a x1 x2) g = of_made (w.assign a x1 x2) m g.own _ _ refl (inl refl) refl (assigned_leads m x1 x2 (filter_at m x2))
+row_is m (w.rate a x1 x2 x3) g = of_made (w.rate a x1 x2 x3) m g.own _ _ refl (inl refl) refl (λ t h. new_paced t m x1 _ h tt)
+row_is m (w.pace a x1 x2 x3) g = of_made (w.pace a x1 x2 x3) m g.own _ _ refl (inl refl) refl (with_pace_leads m x1 x3 (pace_of m x2) (λ t. pace_of_paced t m x2))
+row_is m (w.door a x1) g = of_made (w.door a x1) m g.own _ _ refl (inl refl) refl (λ t h. new_paced t m x1 _ h tt)
+row_is m (w.watch a x1 x2 x3) g = of_made (w.watch a x1 x2 x3) m g.own _ _ refl (inl refl) refl (with_door_leads m x1 x3 x2)
+row_is m (w.drop a x) g = of_made (w.drop a x) m g.own _ _ refl (inr refl) refl
     (synced_leads m _ _ (λ t h. each_paced t (lets_go x (serial_at m x)) (without m x) (lets_go_paced x (serial_at m x) t) (without_paced t m x h)))
-row_is m (w.buf a x1 x2) g = of_made (w.buf a x1 x2) m g.own _ _ refl refl (new_buffer_leads m x1 x2 _)
-row_is m (w.fill a x1 x2 x3) g = of_made (w.fill a x1 x2 x3) m g.own _ _ refl refl (λ t h. buffer_paced t m x1 _ h)
-row_is m (w.show a x1 x2 x3) g = of_made (w.show a x1 x2 x3) m g.own _ _ refl refl (λ t h. h)
-row_is m (w.copy a x1 x2 x3) g = of_made (w.copy a x1 x2 x3) m g.own _ _ refl refl (λ t h. buffer_paced t m x2 _ h)
-row_is m (w.free a x1) g = of_made (w.free a x1) m g.own _ _ refl refl (λ t h. without_paced t m x1 h)
-row_is m (w.peek a x1 x2) g = of_made (w.peek a x1 x2) m g.own _ _ refl refl (λ t h. h)
-row_is m (w.poke a x1 x2 x3) g = of_made (w.poke a x1 x2 x3) m g.own _ _ refl refl (block_written_leads m x1 x2 (padded x3) g.ended)
-row_is m (w.get a x1 x2 x3 x4 x5) g = of_made (w.get a x1 x2 x3 x4 x5) m g.own _ _ refl refl (λ t h. vsic_paced t m x1 _ (λ y q. q) h)
-row_is m (w.put a x1 x2 x3 x4 x5) g = of_made (w.put a x1 x2 x3 x4 x5) m g.own _ _ refl refl (λ t h. vsic_paced t m x1 _ (λ y q. q) h)
-row_is m (w.flush a x1) g = of_made (w.flush a x1) m g.own _ _ refl refl (λ t h. vsic_paced t m x1 _ (λ y q. q) h)
-row_is m (w.reap a x1) g = of_made (w.reap a x1) m g.own _ _ refl (reap_steady m x1 (unreaped_at m x1)).plain (reap_steady m x1 (unreaped_at m x1)).paced
-row_is m (w.post a x1 x2) g = of_made (w.post a x1 x2) m g.own _ _ refl refl (λ t h. vnic_paced t m x1 _ (λ y q. q) h)
-row_is m (w.send a x1 x2 x3) g = of_made (w.send a x1 x2 x3) m g.own _ _ refl refl (λ t h. vnic_paced t m x1 _ (λ y q. q) h)
-row_is m (w.take a x1 x2) g = of_made (w.take a x1 x2) m g.own _ _ refl (oldest_steady x2 m x1).plain (oldest_steady x2 m x1).paced
-row_is m (w.sock a x1 x2 x3) g = of_made (w.sock a x1 x2 x3) m g.own _ _ refl refl (λ t h. new_paced t (with_socket_card m x2) x1 _ (socket_card_leads m x2 t h) tt)
+row_is m (w.buf a x1 x2) g = of_made (w.buf a x1 x2) m g.own _ _ refl (inl refl) refl (new_buffer_leads m x1 x2 _)
+row_is m (w.fill a x1 x2 x3) g = of_made (w.fill a x1 x2 x3) m g.own _ _ refl (inl refl) refl (λ t h. buffer_paced t m x1 _ h)
+row_is m (w.show a x1 x2 x3) g = of_made (w.show a x1 x2 x3) m g.own _ _ refl (inl refl) refl (λ t h. h)
+row_is m (w.copy a x1 x2 x3) g = of_made (w.copy a x1 x2 x3) m g.own _ _ refl (inl refl) refl (λ t h. buffer_paced t m x2 _ h)
+row_is m (w.free a x1) g = of_made (w.free a x1) m g.own _ _ refl (inl refl) refl (λ t h. without_paced t m x1 h)
+row_is m (w.peek a x1 x2) g = of_made (w.peek a x1 x2) m g.own _ _ refl (inr refl) refl (λ t h. h)
+row_is m (w.poke a x1 x2 x3) g = of_made (w.poke a x1 x2 x3) m g.own _ _ refl (inr refl) refl (block_written_leads m x1 x2 (padded x3) g.ended)
+row_is m (w.get a x1 x2 x3 x4 x5) g = of_made (w.get a x1 x2 x3 x4 x5) m g.own _ _ refl (inl refl) refl (λ t h. vsic_paced t m x1 _ (λ y q. q) h)
+row_is m (w.put a x1 x2 x3 x4 x5) g = of_made (w.put a x1 x2 x3 x4 x5) m g.own _ _ refl (inl refl) refl (λ t h. vsic_paced t m x1 _ (λ y q. q) h)
+row_is m (w.flush a x1) g = of_made (w.flush a x1) m g.own _ _ refl (inl refl) refl (λ t h. vsic_paced t m x1 _ (λ y q. q) h)
+row_is m (w.reap a x1) g = of_made (w.reap a x1) m g.own _ _ refl (inl refl) (reap_steady m x1 (unreaped_at m x1)).plain (reap_steady m x1 (unreaped_at m x1)).paced
+row_is m (w.post a x1 x2) g = of_made (w.post a x1 x2) m g.own _ _ refl (inl refl) refl (λ t h. vnic_paced t m x1 _ (λ y q. q) h)
+row_is m (w.send a x1 x2 x3) g = of_made (w.send a x1 x2 x3) m g.own _ _ refl (inl refl) refl (λ t h. vnic_paced t m x1 _ (λ y q. q) h)
+row_is m (w.take a x1 x2) g = of_made (w.take a x1 x2) m g.own _ _ refl (inl refl) (oldest_steady x2 m x1).plain (oldest_steady x2 m x1).paced
+row_is m (w.sock a x1 x2 x3) g = of_made (w.sock a x1 x2 x3) m g.own _ _ refl (inl refl) refl (λ t h. new_paced t (with_socket_card m x2) x1 _ (socket_card_leads m x2 t h) tt)
 row_is m (w.sendto a x1 x2 x3 x4) g = sendto_row a m g.own x1 x2 x3 x4 _ g refl refl
 row_is m (w.recv a x1) g =
     let k : Machine = pulled m (card_at m x1) g.own in
     let s : RowSteady m (give_oldest k x1 (datagrams_at k x1)) = behind (pulled_leads m (card_at m x1) g.own) (give_steady k x1 (datagrams_at k x1)) in
-    of_made (w.recv a x1) m g.own _ _ refl s.plain s.paced
-row_is m (w.look a x1) g = of_made (w.look a x1) m g.own _ _ refl refl (λ t h. object_paced t m x1 _ h tt)
-row_is m (w.log a x1 x2) g = of_made (w.log a x1 x2) m g.own _ _ refl refl (opened_leads m x1 x2 g)
-row_is m (w.queue a x1 x2) g = of_made (w.queue a x1 x2) m g.own _ _ refl refl (opened_leads m x1 x2 g)
-row_is m (w.append a x1 x2) g = of_made (w.append a x1 x2) m g.own _ _ refl refl (with_opened_leads m x1 _)
-row_is m (w.push a x1 x2) g = of_made (w.push a x1 x2) m g.own _ _ refl refl (with_opened_leads m x1 _)
-row_is m (w.trim a x1 x2) g = of_made (w.trim a x1 x2) m g.own _ _ refl refl (with_opened_leads m x1 _)
-row_is m (w.pop a x1) g = of_made (w.pop a x1) m g.own _ _ refl refl (with_opened_leads m x1 _)
-row_is m (w.walk a x1 x2) g = of_made (w.walk a x1 x2) m g.own _ _ refl refl (λ t h. h)
-row_is m (w.poll a x1) g = of_made (w.poll a x1) m g.own _ _ refl (polled_steady m x1).plain (polled_steady m x1).paced
+    of_made (w.recv a x1) m g.own _ _ refl (inl refl) s.plain s.paced
+row_is m (w.look a x1) g = of_made (w.look a x1) m g.own _ _ refl (inl refl) refl (λ t h. object_paced t m x1 _ h tt)
+row_is m (w.log a x1 x2) g = of_made (w.log a x1 x2) m g.own _ _ refl (inr refl) refl (opened_leads m x1 x2 g)
+row_is m (w.queue a x1 x2) g = of_made (w.queue a x1 x2) m g.own _ _ refl (inr refl) refl (opened_leads m x1 x2 g)
+row_is m (w.append a x1 x2) g = of_made (w.append a x1 x2) m g.own _ _ refl (inl refl) refl (with_opened_leads m x1 _)
+row_is m (w.push a x1 x2) g = of_made (w.push a x1 x2) m g.own _ _ refl (inl refl) refl (with_opened_leads m x1 _)
+row_is m (w.trim a x1 x2) g = of_made (w.trim a x1 x2) m g.own _ _ refl (inl refl) refl (with_opened_leads m x1 _)
+row_is m (w.pop a x1) g = of_made (w.pop a x1) m g.own _ _ refl (inl refl) refl (with_opened_leads m x1 _)
+row_is m (w.walk a x1 x2) g = of_made (w.walk a x1 x2) m g.own _ _ refl (inr refl) refl (λ t h. h)
+row_is m (w.poll a x1) g = of_made (w.poll a x1) m g.own _ _ refl (inl refl) (polled_steady m x1).plain (polled_steady m x1).paced
 row_is m (w.settle a x1) g =
     let s : RowSteady m (settling g.ended x1 (next_call m x1)) = settling_steady m g.ended x1 (next_call m x1) (next_call_steady m x1) in
-    of_made (w.settle a x1) m g.own _ _ refl s.plain s.paced
-row_is m (w.close a x1) g = of_made (w.close a x1) m g.own _ _ refl refl (λ t h. vsic_paced t (with_log m x1 closing) (card_of m x1) _ (λ y q. q) (log_paced t m x1 closing h))
+    of_made (w.settle a x1) m g.own _ _ refl (inl refl) s.plain s.paced
+row_is m (w.close a x1) g = of_made (w.close a x1) m g.own _ _ refl (inl refl) refl (λ t h. vsic_paced t (with_log m x1 closing) (card_of m x1) _ (λ y q. q) (log_paced t m x1 closing h))
 row_is m (w.dev a x1) g =
     let s : IsMove m g.own x1 (card_moves m x1 g (vnic_at m x1)) = card_is m x1 g (vnic_at m x1) (λ t h. vnic_at_paced t m x1 h) in
     dev_row a x1 m g.own _ _ refl refl s.sent s.unrefused s.paced

@@ -34,6 +34,23 @@ is_gain (w.log a s v) = true
 is_gain (w.queue a s v) = true
 is_gain _ = false
 
+-- the line calls the device, and is refused where a call fails
+abbrev pub may_fault : Line → Bool
+may_fault (w.vsa a s n k) = true
+may_fault (w.grow a s n) = true
+may_fault (w.drop a x) = true
+may_fault (w.peek a s off) = true
+may_fault (w.poke a s off bytes) = true
+may_fault (w.log a s v) = true
+may_fault (w.queue a s v) = true
+may_fault (w.walk a s n) = true
+may_fault _ = false
+
+-- the line gives a label up
+abbrev pub gives_up : Line → Bool
+gives_up (w.drop a x) = true
+gives_up _ = false
+
 -- the line reads the device and changes nothing
 abbrev pub is_look : Line → Bool
 is_look (w.peek a s off) = true
