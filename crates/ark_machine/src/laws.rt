@@ -11,6 +11,7 @@ ghost use Rattle.ark_script.specs.declared.said.Said.TheVariants as said;
 ghost use Rattle.ark_machine.specs.Machine.{Machine, at};
 ghost use Rattle.ark_machine.specs.Row.{Row, Ended, answer, synced_by};
 ghost use Rattle.ark_machine.specs.System.{System, fresh_system, machine_of, owner, line_turn};
+ghost use Rattle.ark_machine.specs.Sockets.{sent_reaped};
 ghost use Rattle.ark_machine.specs.Start.{start_system};
 ghost use Rattle.ark_machine.specs.Follow.{PerformsFor};
 ghost use Rattle.ark_machine.specs.Replies.{Answers, EachAnswers, turn_for, system_after, Replies};
@@ -18,7 +19,7 @@ ghost use Rattle.ark_machine.specs.Sending.{IsLetOut, SendsWithin, AllKeep};
 ghost use Rattle.ark_machine.specs.Paced.{StandsPaced};
 ghost use Rattle.ark_machine.specs.Confined.{AllAllowed, EndsAtFailure, Confined};
 ghost use Rattle.ark_machine.specs.Private.{Play, after_plays, inputs_of, replies_to, private_replies, private_machine};
-ghost use Rattle.ark_machine.specs.Refused.{is_told_late, may_leave, is_gain, is_look, labels};
+ghost use Rattle.ark_machine.specs.Refused.{is_told_late, is_of_sending, may_leave, gives_up, is_gain, is_look, labels};
 
 /// Every line is confined. What follows its device calls touches only the blocks that the grants of its application allow it,
 /// and ends at the first call that fails. A frame goes out only by a move of a card, and only where a transmit filter that is
@@ -46,14 +47,16 @@ pub fn privacy_laws()
 {}
 
 /// A refused line leaves the system as it was and calls no device, but for the refusals that only device calls tell, and for
-/// `sendto`, which reaps before it is refused. With those, an application that asks for an area, for more blocks or for an open
-/// log gains nothing, one that gives a label up has it no more, and one that looks at blocks or entries changes nothing. The
-/// refusal is the first, in the one order, of those whose conditions hold.
+/// `sendto`, which reaps its ring before it finds no place, and does no more. With those that device calls tell, a line that
+/// asks for an area, for more blocks or for an open log gains nothing, one that gives a label up takes it away all the same, and
+/// one that looks at blocks or entries changes nothing. No refused line gives a label, and no other takes one. The refusal is
+/// the first, in the one order, of those whose conditions hold.
 pub fn refusal_laws()
     ensures unchanged { (s : System) (line : Line) (ends : List Ended) (memory : Bool) (x : Refusal) → (line_turn s line ends memory).said ≡ said.Refused x → may_leave line x ≡ false → (line_turn s line ends memory).after ≡ s }
-    ensures no_call { (s : System) (line : Line) (ends : List Ended) (memory : Bool) (x : Refusal) → (line_turn s line ends memory).said ≡ said.Refused x → may_leave line x ≡ false → (line_turn s line ends memory).calls ≡ [] }
+    ensures no_call { (s : System) (line : Line) (ends : List Ended) (memory : Bool) (x : Refusal) → (line_turn s line ends memory).said ≡ said.Refused x → is_told_late x ≡ false → (line_turn s line ends memory).calls ≡ [] }
+    ensures reaped { (s : System) (a k ip : List ℕ) (port : ℕ) (payload : List ℕ) (ends : List Ended) (memory : Bool) (x : Refusal) → (line_turn s (w.sendto a k ip port payload) ends memory).said ≡ said.Refused x → is_of_sending x ≡ true → machine_of (line_turn s (w.sendto a k ip port payload) ends memory).after a ≡ sent_reaped (machine_of s a) k }
     ensures no_gain { (s : System) (a : List ℕ) (line : Line) (ends : List Ended) (memory : Bool) (x : Refusal) → owner line ≡ Some a → is_gain line ≡ true → (line_turn s line ends memory).said ≡ said.Refused x → is_told_late x ≡ true → machine_of (line_turn s line ends memory).after a ≡ synced_by ends (machine_of s a) }
-    ensures no_label { (m : Machine) (ends : List Ended) → labels (synced_by ends m) ≡ labels m }
+    ensures no_label { (s : System) (a : List ℕ) (line : Line) (ends : List Ended) (memory : Bool) (x : Refusal) → owner line ≡ Some a → gives_up line ≡ false → (line_turn s line ends memory).said ≡ said.Refused x → labels (machine_of (line_turn s line ends memory).after a) ≡ labels (machine_of s a) }
     ensures no_slot { (s : System) (a : List ℕ) (line : Line) (ends : List Ended) (memory : Bool) (x : Refusal) → owner line ≡ Some a → is_gain line ≡ true → (line_turn s line ends memory).said ≡ said.Refused x → (line_turn s line ends memory).after.plane.slots ≡ s.plane.slots }
     ensures given_up { (s : System) (a l : List ℕ) (ends : List Ended) (memory : Bool) (x : Refusal) → (line_turn s (w.drop a l) ends memory).said ≡ said.Refused x → is_told_late x ≡ true → at (machine_of (line_turn s (w.drop a l) ends memory).after a) l ≡ None }
     ensures looked { (s : System) (a : List ℕ) (line : Line) (ends : List Ended) (memory : Bool) (x : Refusal) → owner line ≡ Some a → is_look line ≡ true → (line_turn s line ends memory).said ≡ said.Refused x → is_told_late x ≡ true → machine_of (line_turn s line ends memory).after a ≡ machine_of s a }
