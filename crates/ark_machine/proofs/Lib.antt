@@ -20,3 +20,4 @@ pub mod Privacy
 pub mod Refusing
 pub mod Faults
 pub mod Lawful
+pub mod Ranks

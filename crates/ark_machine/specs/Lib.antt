@@ -28,3 +28,4 @@ pub mod Paced
 pub mod Refused
 pub mod Asked
 pub mod Private
+pub mod Ranks

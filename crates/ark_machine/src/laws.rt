@@ -1,5 +1,5 @@
 // Laws of the definitions, each the contract of a function that does nothing.
-ghost use Rattle.std.specs.Prelude.{◌≡◌, ◌++◌, ℕ, Bool, true, false, List, [], ◌∷◌, Some, None, Ok, Option, bytes_eq, length};
+ghost use Rattle.std.specs.Prelude.{◌≡◌, ◌≤◌, ◌++◌, ℕ, Bool, true, false, List, [], ◌∷◌, Some, None, Ok, Option, bytes_eq, length};
 ghost use Rattle.ark_base.specs.Conditions.{Conditions, first};
 ghost use Rattle.ark_base.specs.declared.refusal.Refusal.{Refusal};
 ghost use Rattle.ark_media.specs.Journal.{Event, output_of, device_events};
@@ -19,6 +19,7 @@ ghost use Rattle.ark_machine.specs.Sending.{IsLetOut, SendsWithin, AllKeep};
 ghost use Rattle.ark_machine.specs.Paced.{StandsPaced};
 ghost use Rattle.ark_machine.specs.Confined.{AllAllowed, EndsAtFailure, Confined};
 ghost use Rattle.ark_machine.specs.Private.{Play, after_plays, inputs_of, replies_to, private_replies, private_machine};
+ghost use Rattle.ark_machine.specs.Ranks.{rank, Holds};
 ghost use Rattle.ark_machine.specs.Refused.{is_told_late, is_of_sending, may_leave, gives_up, is_gain, is_look, labels};
 
 /// Every line is confined. What follows its device calls touches only the blocks that the grants of its application allow it,
@@ -49,8 +50,8 @@ pub fn privacy_laws()
 /// A refused line leaves the system as it was and calls no device, but for the refusals that only device calls tell, and for
 /// `sendto`, which reaps its ring before it finds no place, and does no more. With those that device calls tell, a line that
 /// asks for an area, for more blocks or for an open log gains nothing, one that gives a label up takes it away all the same, and
-/// one that looks at blocks or entries changes nothing. No refused line gives a label, and no other takes one. The refusal is
-/// the first, in the one order, of those whose conditions hold.
+/// one that looks at blocks or entries changes nothing. No refused line gives a label, and no other takes one. Where a
+/// condition of a word holds, the line is refused, with the refusal of least rank in the one order whose condition holds.
 pub fn refusal_laws()
     ensures unchanged { (s : System) (line : Line) (ends : List Ended) (memory : Bool) (x : Refusal) → (line_turn s line ends memory).said ≡ said.Refused x → may_leave line x ≡ false → (line_turn s line ends memory).after ≡ s }
     ensures no_call { (s : System) (line : Line) (ends : List Ended) (memory : Bool) (x : Refusal) → (line_turn s line ends memory).said ≡ said.Refused x → is_told_late x ≡ false → (line_turn s line ends memory).calls ≡ [] }
@@ -60,6 +61,9 @@ pub fn refusal_laws()
     ensures no_slot { (s : System) (a : List ℕ) (line : Line) (ends : List Ended) (memory : Bool) (x : Refusal) → owner line ≡ Some a → is_gain line ≡ true → (line_turn s line ends memory).said ≡ said.Refused x → (line_turn s line ends memory).after.plane.slots ≡ s.plane.slots }
     ensures given_up { (s : System) (a l : List ℕ) (ends : List Ended) (memory : Bool) (x : Refusal) → (line_turn s (w.drop a l) ends memory).said ≡ said.Refused x → is_told_late x ≡ true → at (machine_of (line_turn s (w.drop a l) ends memory).after a) l ≡ None }
     ensures looked { (s : System) (a : List ℕ) (line : Line) (ends : List Ended) (memory : Bool) (x : Refusal) → owner line ≡ Some a → is_look line ≡ true → (line_turn s line ends memory).said ≡ said.Refused x → is_told_late x ≡ true → machine_of (line_turn s line ends memory).after a ≡ machine_of s a }
+    ensures holds { (c : Conditions) (x : Refusal) → first c ≡ Some x → Holds c x }
+    ensures least { (c : Conditions) (x y : Refusal) → first c ≡ Some x → Holds c y → rank x ≤ rank y }
+    ensures refuses { (c : Conditions) (x : Refusal) → Holds c x → first c ≡ None → ⊥ }
     ensures first_chosen { (m : Machine) (c : Conditions) (row : Row) (x : Refusal) → first c ≡ Some x → (answer m c row).said ≡ said.Refused x }
     ensures none_chosen { (m : Machine) (c : Conditions) (row : Row) → first c ≡ None → answer m c row ≡ row }
 {}
