@@ -92,7 +92,7 @@ open_ran size t1 t2 b0 b1 b2 host line status ready stands none r =
       events = first ++ r.events;
       since = since_then size first r.events [] r.script t1 t2 b0 b1 b2 ready.since r.goes;
       run = λ h is. subst (λ (p : Parts). HasRun size (lines_of r.script) p.whole p.unfinished) (sym are)
-          (is_opening size ready.events ready.calls, cut.replies h is, confined_of (fresh_system size) (lines_of r.script) cut.whole cut.unfinished (cut.replies h is));
+          (is_opening size ready.events ready.calls, cut.replies h is, confined_of (fresh_system size) (lines_of r.script) cut.whole cut.unfinished tt (cut.replies h is));
       ends = subst (λ (p : Parts). Ends size t2 status r.script p.whole p.unfinished) (sym are) cut.ends;
       at_end = r.at_end;
       long = r.long;
@@ -133,7 +133,7 @@ module _ (size : ℕ) (told : Told) (b0 b1 : Beside) (u : IsUnshown size told b0
       let none : Replies (fresh_system size) [] [] [] = record { meanings = []; say = tt; each = tt; begins = refl } in
       let are : parts first ≡ record { whole = first ∷ []; unfinished = [] } = ap parts (sym (append-nil first)) ∙ parts-whole first [] (opening_whole size u.events u.calls) in
       (
-        λ h is. subst (λ (p : Parts). HasRun size [] p.whole p.unfinished) (sym are) (is_opening size u.events u.calls, none, confined_of (fresh_system size) [] [] [] none),
+        λ h is. subst (λ (p : Parts). HasRun size [] p.whole p.unfinished) (sym are) (is_opening size u.events u.calls, none, confined_of (fresh_system size) [] [] [] tt none),
         subst (λ (p : Parts). Ends size told Sink [] p.whole p.unfinished) (sym are) (λ h is. record { replies = none; shows = refl }),
       )
 

@@ -6,3 +6,4 @@ pub mod Opening
 pub mod Ending
 pub mod Work
 pub mod Report
+pub mod Attached

@@ -6,7 +6,7 @@ use Rattle.ark_script.specs.declared.reading.word.Word.{Word}
 use Rattle.ark_script.specs.Form.{IsForm}
 use Rattle.ark_script.specs.Line.{Line}
 use Rattle.ark_script.specs.Lines.{Meaning, Says, max_line}
-use Rattle.ark_script.specs.Reply.{meaning_of, word_meaning, or_syntax}
+use Rattle.ark_script.specs.Meant.{meaning_of, word_meaning, or_syntax}
 use Rattle.ark_script.specs.Shape.{line_read}
 use Rattle.ark_script.specs.Word.{word_at}
 use Rattle.ark_script.specs.Words.{IsKnown, words_of}
