@@ -6,3 +6,4 @@ pub mod Turning
 pub mod Opened
 pub mod Running
 pub mod Closing
+pub mod Completing
