@@ -8,3 +8,4 @@ pub mod Running
 pub mod Closing
 mod WorkedWork
 mod WorkedReport
+pub mod Completing

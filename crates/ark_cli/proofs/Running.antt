@@ -14,7 +14,7 @@ use Rattle.ark_script.specs.Lines.{lines_of, newlines}
 use Rattle.ark_script.specs.Text.{text}
 use Rattle.ark_script.specs.declared.said.Said.TheVariants.{Ready}
 use Rattle.ark_table.specs.Superblock.{format_calls}
-use Rattle.ark_machine.specs.System.{System, fresh_system}
+use Rattle.ark_machine.specs.System.{fresh_system}
 use Rattle.ark_machine.specs.Replies.{Replies}
 use Rattle.ark_machine.proofs.Confining.{confined_of}
 use Rattle.ark_host.specs.declared.host.Host.{Host}
@@ -131,8 +131,7 @@ module _ (size : ℕ) (told : Told) (b0 b1 : Beside) (u : IsUnshown size told b0
   shown_whole =
       let first = opening size u.events u.calls in
       let none : Replies (fresh_system size) [] [] [] = record { meanings = []; say = tt; each = tt; begins = refl } in
-      let are : parts first ≡ record { whole = first ∷ []; unfinished = [] } = ap parts (sym (append-nil first)) ∙ parts-whole first [] (opening_whole size u.events u.calls) in
-      (
+      let are : parts first ≡ record { whole = first ∷ []; unfinished = [] } = ap parts (sym (append-nil first)) ∙ parts-whole first [] (opening_whole size u.events u.calls) in (
         λ h is. subst (λ (p : Parts). HasRun size [] p.whole p.unfinished) (sym are) (is_opening size u.events u.calls, none, confined_of (fresh_system size) [] [] [] tt none),
         subst (λ (p : Parts). Ends size told Sink [] p.whole p.unfinished) (sym are) (λ h is. record { replies = none; shows = refl }),
       )
@@ -141,8 +140,7 @@ module _ (size : ℕ) (told : Told) (b0 b1 : Beside) (u : IsUnshown size told b0
   shown_part : IsUnfinished (Out u.part ∷ []) → IsShown (u.events ++ Out u.part ∷ [])
   shown_part rest =
       let are : parts (u.events ++ Out u.part ∷ []) ≡ record { whole = []; unfinished = u.events ++ Out u.part ∷ [] } =
-      parts-unfinished (u.events ++ Out u.part ∷ []) (unfinished_then u.events (Out u.part ∷ []) (devices_unfinished u.events made) rest) in
-      (
+      parts-unfinished (u.events ++ Out u.part ∷ []) (unfinished_then u.events (Out u.part ∷ []) (devices_unfinished u.events made) rest) in (
         λ h is. subst (λ (p : Parts). HasRun size [] p.whole p.unfinished) (sym are)
             (inr (true, subst (λ (x : List Event). Makes (format_calls size) true x) (sym (device_events-put u.events u.part ∙ made)) u.calls)),
         subst (λ (p : Parts). Ends size told Sink [] p.whole p.unfinished) (sym are)

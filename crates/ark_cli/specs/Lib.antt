@@ -7,3 +7,4 @@ pub mod Ending
 pub mod Work
 pub mod Report
 pub mod Attached
+pub mod Complete

@@ -5,6 +5,7 @@ ghost use Rattle.ark_machine.specs.System.{fresh_system};
 ghost use Rattle.ark_host.specs.Stands.{Stands};
 ghost use Rattle.ark_host.specs.Time.{IsSound};
 ghost use Rattle.ark_cli.specs.Words.{IsRun};
+ghost use Rattle.ark_cli.specs.Complete.{HasShortScript, IsUntroubled};
 ghost use Rattle.ark_cli.specs.Ending.{RunsNew, Commands, Closes, Does, IsCause, IsUndamaged};
 
 use crate::line::LineBuffer;
@@ -100,6 +101,9 @@ pub fn arrakis<W: Outside>(alloc: Global, words: &[String], world: &mut W) -> St
     ensures sink { result ≡ Status.Sink → Rose (W.beside world.old).sink_faults (W.beside world.new).sink_faults }
     ensures device { result ≡ Status.Device → Rose (W.beside world.old).attach_faults (W.beside world.new).attach_faults ⊎ Rose (W.told world.old).faults (W.told world.new).faults }
     ensures undamaged { (block : ℕ) → result ≡ Status.Damaged block → ⊥ }
+    // Where nothing fails, the whole script is run, unless memory was wanting.
+    ensures complete { (size : ℕ) (device : List ℕ) → IsRun (map string_bytes words.now) size device → HasShortScript (W.beside world.old).script (W.beside world.new).script →
+        IsUntroubled (W.told world.old) (W.told world.new) (W.beside world.old) (W.beside world.new) → (result ≡ Status.Done) ⊎ (result ≡ Status.Memory) }
 {
     let status = command(alloc, words, world);
     close(status, world);
