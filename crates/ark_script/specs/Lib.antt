@@ -5,6 +5,7 @@ pub mod Lines
 pub mod Listed
 pub mod Lists
 pub mod Named
+pub mod Ranges
 pub mod Reading
 pub mod Reply
 pub mod Sentence
