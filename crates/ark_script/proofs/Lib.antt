@@ -12,6 +12,7 @@ pub mod Listing
 pub mod Meant
 pub mod Numbers
 pub mod Parts
+pub mod Ranging
 pub mod Readers
 pub mod Serving
 pub mod Shaping

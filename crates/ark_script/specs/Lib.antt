@@ -7,6 +7,7 @@ pub mod Listed
 pub mod Lists
 pub mod Meant
 pub mod Named
+pub mod Ranges
 pub mod Reading
 pub mod Reply
 pub mod Sentence
