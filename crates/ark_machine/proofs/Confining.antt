@@ -7,7 +7,7 @@ use Rattle.ark_base.specs.declared.refusal.Refusal.TheVariants as r
 use Rattle.ark_media.specs.Journal.{Event, has_succeeded, device_events}
 use Rattle.ark_script.specs.Line as w
 use Rattle.ark_script.specs.Line.{Line}
-use Rattle.ark_script.specs.Lines.{Meaning, Says}
+use Rattle.ark_script.specs.Lines.{Meaning}
 use Rattle.ark_script.specs.declared.said.Said.TheVariants as said
 use Rattle.ark_machine.specs.Bytes.{padded}
 use Rattle.ark_machine.specs.Objects.{is_vsa}
@@ -22,9 +22,9 @@ use Rattle.ark_machine.specs.Plane.{recorded, granted}
 use Rattle.ark_machine.specs.Step.{step}
 use Rattle.ark_machine.specs.System.{System, machine_of, owner, line_turn, quiet_turn}
 use Rattle.ark_machine.specs.Built.{turn, is_built}
-use Rattle.ark_machine.specs.Follow.{Makes, Follow, ended, fails, goes_on, again, passes, Performs, PerformsFor, ends_of, slot_index}
+use Rattle.ark_machine.specs.Follow.{Follow, ended, fails, goes_on, again, passes, Performs, PerformsFor, ends_of, slot_index}
 use Rattle.ark_machine.specs.Replies.{turn_for, system_after, has_lacked, EachAnswers, Begins, Replies}
-use Rattle.ark_machine.specs.Confined.{IsAllowed, AllAllowed, EndsAtFailure, IsConfined, EachConfined, BeginsConfined, Confined}
+use Rattle.ark_machine.specs.Confined.{AllAllowed, EndsAtFailure, IsConfined, EachConfined, BeginsConfined, Confined}
 use Rattle.ark_machine.proofs.Reaching.{AllowsCall, AllowsAll, AreIn, reads, reads_some, writes, grants, drops, opens, poll_quiet}
 use Rattle.ark_machine.specs.Paced.{StandsPaced}
 use Rattle.ark_machine.proofs.Sent.{sends_within, rates_kept, paced_keep}

@@ -1,5 +1,5 @@
 -- What is so of the row of every word.
-use Rattle.std.proofs.Common.{◌≡◌, ◌⊎◌, inl, inr, ℕ, ◌+◌, Bool, true, false, not, List, [], ◌∷◌, ◌++◌, ◌&&◌, ◌||◌, length, map, take, refl, sym, ◌∙◌, ap, subst, arith, cond}
+use Rattle.std.proofs.Common.{◌≡◌, ◌⊎◌, inl, inr, ℕ, Bool, true, false, not, List, [], ◌∷◌, ◌++◌, ◌&&◌, ◌||◌, length, take, refl, sym, ◌∙◌, ap, subst, arith, cond}
 use Rattle.std.proofs.lemmas.Bool.{false≢true}
 use Rattle.std.specs.Prelude.{Option, Some, None, Result, Ok, Err, IsTrue, option_map, unwrap_or, bytes_eq, nat_lt, is_some, is_none}
 use Rattle.ark_base.specs.Conditions.{Conditions, early, late, when, when_some}
@@ -25,26 +25,26 @@ use Rattle.ark_script.specs.declared.step.Side.{Side}
 use Rattle.ark_script.specs.declared.step.Side.TheVariants as side
 use Rattle.ark_machine.specs.Objects
 use Rattle.ark_machine.specs.Objects.{Object, Paced, Vsic, Vnic, Job, Place, Datagram, transfer, flush, phase}
-use Rattle.ark_machine.specs.Machine.{Machine, vnic_at, vsic_at, filter_at, rate_at, serial_at, log_at, room_for, with_new, with_object, each_object, without, with_vsic, with_vnic, with_log}
-use Rattle.ark_machine.specs.Row.{Row, Given, Ended, says, answer, unless_refused, has_fault, synced, synced_by, is_sync}
+use Rattle.ark_machine.specs.Machine.{Machine, vnic_at, filter_at, rate_at, serial_at, log_at, room_for, each_object, without, with_vsic, with_vnic, with_log}
+use Rattle.ark_machine.specs.Row.{Row, Given, Ended, says, answer, unless_refused, has_fault, synced}
 use Rattle.ark_machine.specs.Control.{lets_go}
-use Rattle.ark_machine.specs.Areas.{new_area, grown, with_raw, block_written}
+use Rattle.ark_machine.specs.Areas.{new_area, grown, block_written}
 use Rattle.ark_machine.specs.Bytes.{padded}
 use Rattle.ark_machine.specs.Buffers.{with_new_buffer}
 use Rattle.ark_machine.specs.Rates.{is_over_burst, may_pass, passed, pace_of, new_pace, with_pace, with_door}
-use Rattle.ark_machine.specs.Cards.{bound_with, bound_without, posting, reap_oldest, reaped, unreaped_at}
-use Rattle.ark_machine.specs.Network.{assigned_to, is_tx_full, posting_rx, posting_tx, take_received, take_sent, take_oldest, received_at, sent_at, is_let_out, bytes_in, tx_ended, tx_ending, tx_passed, frame_moves, tx_moves, rx_ending, rx_passed, filled, with_frame, received, arrival, arrive}
+use Rattle.ark_machine.specs.Cards.{bound_with, reap_oldest, reaped, unreaped_at}
+use Rattle.ark_machine.specs.Network.{assigned_to, is_tx_full, take_received, take_sent, take_oldest, received_at, sent_at, is_let_out, bytes_in, tx_ended, tx_ending, tx_passed, frame_moves, tx_moves, rx_ending, rx_passed, filled, with_frame, received, arrival, arrive}
 use Rattle.ark_machine.specs.Sockets.{with_buffers, socketed_at, with_socket_card, card_places, tx_reaped, sent_reaped, card_at, posted_at, framed, send_reaped, frame_frames, delivered, has_port, max_datagrams, with_datagram, with_received, all_received, rx_reaped, unreaped_rx, pulled, give_oldest, datagrams_at}
-use Rattle.ark_machine.specs.Logs.{opening, opened_machine, damage_of, found_in, waits, with_waiting, with_opened, closing, card_of}
-use Rattle.ark_machine.specs.Moves.{Move, moves, move, first_end, row_of}
-use Rattle.ark_machine.specs.Polls.{polled, next_call, settling}
+use Rattle.ark_machine.specs.Logs.{opening, opened_machine, damage_of, found_in, with_opened, closing, card_of}
+use Rattle.ark_machine.specs.Moves.{Move, moves, move, first_end}
+use Rattle.ark_machine.specs.Polls.{next_call, settling}
 use Rattle.ark_machine.specs.Devices.{card_moves}
 use Rattle.ark_machine.specs.Step.{step}
 use Rattle.ark_machine.specs.Refused.{is_told_late, is_of_sending, may_leave, may_fault}
 use Rattle.ark_machine.specs.Paced.{IsPacedAt, ArePacedAt, MachinePacedAt}
 use Rattle.ark_machine.proofs.Paced.{VnicPaced, passed_paced, new_paced, object_paced, each_paced, without_paced, synced_paced, vnic_at_paced, vsic_paced, vnic_paced, log_paced, buffer_paced, socket_paced, raw_paced, rung_paced}
 use Rattle.ark_machine.proofs.Early.{some_refusal, same_refusal, early_not_told, told_not_sending}
-use Rattle.ark_machine.proofs.Steady.{is_plain, Leads, IsSteady, RowSteady, behind, move_steady, polled_steady, settling_steady, next_call_steady}
+use Rattle.ark_machine.proofs.Steady.{is_plain, Leads, RowSteady, behind, move_steady, polled_steady, settling_steady, next_call_steady}
 
 -- only the move of a card sends, what a filter of the card lets out
 abbrev pub MaySend : Machine → Option Own → Line → List ℕ → Type 0

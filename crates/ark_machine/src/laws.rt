@@ -48,19 +48,28 @@ pub fn privacy_laws()
 {}
 
 /// A refused line leaves the system as it was and calls no device, but for the refusals that only device calls tell, and for
-/// `sendto`, which reaps its ring before it finds no place, and does no more. With those that device calls tell, a line that
-/// asks for an area, for more blocks or for an open log gains nothing, one that gives a label up takes it away all the same, and
-/// one that looks at blocks or entries changes nothing. No refused line gives a label, and no other takes one. Where a
-/// condition of a word holds, the line is refused, with the refusal of least rank in the one order whose condition holds.
+/// `sendto`, which reaps its ring before it finds no place, and does no more. No refused line gives a label, and only one that
+/// gives a label up takes one.
 pub fn refusal_laws()
     ensures unchanged { (s : System) (line : Line) (ends : List Ended) (memory : Bool) (x : Refusal) → (line_turn s line ends memory).said ≡ said.Refused x → may_leave line x ≡ false → (line_turn s line ends memory).after ≡ s }
     ensures no_call { (s : System) (line : Line) (ends : List Ended) (memory : Bool) (x : Refusal) → (line_turn s line ends memory).said ≡ said.Refused x → is_told_late x ≡ false → (line_turn s line ends memory).calls ≡ [] }
     ensures reaped { (s : System) (a k ip : List ℕ) (port : ℕ) (payload : List ℕ) (ends : List Ended) (memory : Bool) (x : Refusal) → (line_turn s (w.sendto a k ip port payload) ends memory).said ≡ said.Refused x → is_of_sending x ≡ true → machine_of (line_turn s (w.sendto a k ip port payload) ends memory).after a ≡ sent_reaped (machine_of s a) k }
-    ensures no_gain { (s : System) (a : List ℕ) (line : Line) (ends : List Ended) (memory : Bool) (x : Refusal) → owner line ≡ Some a → is_gain line ≡ true → (line_turn s line ends memory).said ≡ said.Refused x → is_told_late x ≡ true → machine_of (line_turn s line ends memory).after a ≡ synced_by ends (machine_of s a) }
     ensures no_label { (s : System) (a : List ℕ) (line : Line) (ends : List Ended) (memory : Bool) (x : Refusal) → owner line ≡ Some a → gives_up line ≡ false → (line_turn s line ends memory).said ≡ said.Refused x → labels (machine_of (line_turn s line ends memory).after a) ≡ labels (machine_of s a) }
+{}
+
+/// With a refusal that only device calls tell, a line that asks for an area, for more blocks or for an open log gains nothing:
+/// its application's machine is as it was, but for what a sync that succeeded made sure of, and the slots are as they were. One
+/// that gives a label up takes it away all the same. One that looks at blocks or entries changes nothing of its machine.
+pub fn fault_laws()
+    ensures no_gain { (s : System) (a : List ℕ) (line : Line) (ends : List Ended) (memory : Bool) (x : Refusal) → owner line ≡ Some a → is_gain line ≡ true → (line_turn s line ends memory).said ≡ said.Refused x → is_told_late x ≡ true → machine_of (line_turn s line ends memory).after a ≡ synced_by ends (machine_of s a) }
     ensures no_slot { (s : System) (a : List ℕ) (line : Line) (ends : List Ended) (memory : Bool) (x : Refusal) → owner line ≡ Some a → is_gain line ≡ true → (line_turn s line ends memory).said ≡ said.Refused x → (line_turn s line ends memory).after.plane.slots ≡ s.plane.slots }
     ensures given_up { (s : System) (a l : List ℕ) (ends : List Ended) (memory : Bool) (x : Refusal) → (line_turn s (w.drop a l) ends memory).said ≡ said.Refused x → is_told_late x ≡ true → at (machine_of (line_turn s (w.drop a l) ends memory).after a) l ≡ None }
     ensures looked { (s : System) (a : List ℕ) (line : Line) (ends : List Ended) (memory : Bool) (x : Refusal) → owner line ≡ Some a → is_look line ≡ true → (line_turn s line ends memory).said ≡ said.Refused x → is_told_late x ≡ true → machine_of (line_turn s line ends memory).after a ≡ machine_of s a }
+{}
+
+/// A line is refused where a condition of its word holds, with the refusal of least rank, in the one order, whose condition
+/// holds; else it has its row.
+pub fn order_laws()
     ensures holds { (c : Conditions) (x : Refusal) → first c ≡ Some x → Holds c x }
     ensures least { (c : Conditions) (x y : Refusal) → first c ≡ Some x → Holds c y → rank x ≤ rank y }
     ensures refuses { (c : Conditions) (x : Refusal) → Holds c x → first c ≡ None → ⊥ }
