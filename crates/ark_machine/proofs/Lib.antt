@@ -14,10 +14,14 @@ pub mod FailedGrant
 pub mod Paced
 pub mod Steady
 pub mod Early
+pub mod Answering
+pub mod Leading
+pub mod SendRows
 pub mod Rows
 pub mod Listed
 pub mod Privacy
 pub mod Refusing
 pub mod Faults
+pub mod Labels
 pub mod Lawful
 pub mod Ranks

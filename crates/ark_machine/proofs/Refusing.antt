@@ -17,7 +17,8 @@ use Rattle.ark_machine.specs.Granting.{after_refusal, change_of}
 use Rattle.ark_machine.specs.Step.{step}
 use Rattle.ark_machine.specs.System.{System, Turn, machine_of, owner, takes, own_turn, nic_turn, taken_turn, wire_turn, common_turn, owned_turn, line_turn}
 use Rattle.ark_machine.specs.Refused.{is_told_late, is_of_sending, reaps_first, may_leave}
-use Rattle.ark_machine.proofs.Rows.{plain_not_refused, row_is, arrive_steady}
+use Rattle.ark_machine.proofs.Answering.{plain_not_refused}
+use Rattle.ark_machine.proofs.Rows.{row_is, arrive_steady}
 use Rattle.ark_machine.proofs.Listed.{set_same}
 
 -- the system is as it was, and no device was called

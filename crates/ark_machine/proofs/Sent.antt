@@ -31,7 +31,8 @@ use Rattle.ark_machine.specs.Sending.{IsLetOut, SendsWithin, KeepsRate, KeepsRat
 use Rattle.ark_machine.specs.Paced.{IsPacedAt, ArePacedAt, HeldPacedAt, MachinePacedAt, ListedPacedAt, StandsPaced}
 use Rattle.ark_machine.proofs.Paced.{later_held, new_paced}
 use Rattle.ark_machine.proofs.Steady.{is_plain}
-use Rattle.ark_machine.proofs.Rows.{MaySend, plain_not_sent, row_is, arrive_steady}
+use Rattle.ark_machine.proofs.Answering.{MaySend, plain_not_sent}
+use Rattle.ark_machine.proofs.Rows.{row_is, arrive_steady}
 
 -- Texts.
 

@@ -1,8 +1,8 @@
 // Laws of the definitions, each the contract of a function that does nothing.
-ghost use Rattle.std.specs.Prelude.{◌≡◌, ◌≤◌, ◌++◌, ℕ, Bool, true, false, List, [], ◌∷◌, Some, None, Ok, Option, bytes_eq, length};
+ghost use Rattle.std.specs.Prelude.{◌≡◌, ◌≤◌, ◌++◌, ℕ, Bool, true, false, List, [], ◌∷◌, Some, None, Ok, bytes_eq, length};
 ghost use Rattle.ark_base.specs.Conditions.{Conditions, first};
 ghost use Rattle.ark_base.specs.declared.refusal.Refusal.{Refusal};
-ghost use Rattle.ark_media.specs.Journal.{Event, output_of, device_events};
+ghost use Rattle.ark_media.specs.Journal.{Event};
 ghost use Rattle.ark_table.specs.Slots.{Slot};
 ghost use Rattle.ark_script.specs.Line as w;
 ghost use Rattle.ark_script.specs.Line.{Line};
@@ -15,7 +15,7 @@ ghost use Rattle.ark_machine.specs.Sockets.{sent_reaped};
 ghost use Rattle.ark_machine.specs.Start.{start_system};
 ghost use Rattle.ark_machine.specs.Follow.{PerformsFor};
 ghost use Rattle.ark_machine.specs.Replies.{Answers, EachAnswers, turn_for, system_after, Replies};
-ghost use Rattle.ark_machine.specs.Sending.{IsLetOut, SendsWithin, AllKeep};
+ghost use Rattle.ark_machine.specs.Sending.{IsLetOut, AllKeep};
 ghost use Rattle.ark_machine.specs.Paced.{StandsPaced};
 ghost use Rattle.ark_machine.specs.Confined.{AllAllowed, EndsAtFailure, Confined};
 ghost use Rattle.ark_machine.specs.Private.{Play, after_plays, inputs_of, replies_to, private_replies, private_machine};

@@ -1,5 +1,5 @@
 use Rattle.ark_machine.proofs.Refusing.{refused_spared}
-use Rattle.ark_machine.proofs.Faults.{refused_quiet, sendto_refused, labels_refused}
+use Rattle.ark_machine.proofs.Labels.{refused_quiet, sendto_refused, labels_refused}
 use Rattle.ark_machine.proofs.laws.refusal_laws.Goals as goal
 
 pub returns : goal.returns
