@@ -1,5 +1,5 @@
 -- The laws of the definitions at worked scripts: each premise is met.
-use Rattle.std.proofs.Common.{◌≡◌, ℕ, false, List, [], ◌∷◌, ◌++◌, codes, refl}
+use Rattle.std.proofs.Common.{◌≡◌, ℕ, false, List, [], ◌∷◌, ◌++◌, map, codes, refl}
 use Rattle.std.specs.Fmt.{digits}
 use Rattle.std.specs.Prelude.{Ok, Some, None}
 use Rattle.hex.specs.Hex.{encode_with}
@@ -21,12 +21,14 @@ use Rattle.ark_machine.specs.Follow.{ended, ends_of}
 use Rattle.ark_machine.specs.Replies.{Answers, EachAnswers}
 use Rattle.ark_machine.specs.Sending.{IsLetOut, AllKeep}
 use Rattle.ark_machine.specs.Paced.{StandsPaced}
-use Rattle.ark_machine.specs.Private.{Play, inputs_of, replies_to}
+use Rattle.ark_machine.specs.Private.{Play, inputs_of, replies_to, private_replies}
+use Rattle.ark_machine.specs.Told.{plays_of, outputs_to, text_of}
 use Rattle.ark_machine.proofs.Playing.{Played, turn_played, replies, played}
 use Rattle.ark_machine.proofs.Scripts.{quiet, app}
 use Rattle.ark_machine.proofs.Areas.{failed_grant}
 use Rattle.ark_machine.proofs.Sent.{line_sends, line_paced, paced_keep}
 use Rattle.ark_machine.proofs.Privacy.{others_left, replies_alike}
+use Rattle.ark_machine.proofs.Told.{outputs_private}
 use Rattle.ark_machine.proofs.Refusing.{refused_spared}
 use Rattle.ark_machine.proofs.Faults.{gain_refused}
 use Rattle.ark_machine.proofs.Runs.{each_more}
@@ -189,3 +191,12 @@ made = record { output = refl; calls = ended; memory = tt }
 
 pub one_line : EachAnswers (fresh_system 200) (Ok (w.app a None) ∷ []) ((Out (codes "ok" ++ 10 ∷ []) ∷ []) ∷ [])
 one_line = each_more (fresh_system 200) [] [] (Ok (w.app a None)) (Out (codes "ok" ++ 10 ∷ []) ∷ []) tt made
+
+-- what is put out for the application
+pub one_output : outputs_to a (fresh_system 200) (Ok (w.app a None) ∷ []) ((Out (codes "ok" ++ 10 ∷ []) ∷ []) ∷ [])
+    ≡ map text_of (private_replies a (machine_of (fresh_system 200) a) (inputs_of a (fresh_system 200) (plays_of (Ok (w.app a None) ∷ []) ((Out (codes "ok" ++ 10 ∷ []) ∷ []) ∷ []))))
+one_output = outputs_private a (fresh_system 200) (Ok (w.app a None) ∷ []) ((Out (codes "ok" ++ 10 ∷ []) ∷ []) ∷ []) one_line
+
+pub one_output-is : outputs_to a (fresh_system 200) (Ok (w.app a None) ∷ []) ((Out (codes "ok" ++ 10 ∷ []) ∷ []) ∷ []) ≡ (codes "ok" ++ 10 ∷ []) ∷ []
+unfolding step answer
+one_output-is = refl

@@ -25,3 +25,4 @@ pub mod Faults
 pub mod Labels
 pub mod Lawful
 pub mod Ranks
+pub mod Told

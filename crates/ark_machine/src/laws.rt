@@ -1,5 +1,5 @@
 // Laws of the definitions, each the contract of a function that does nothing.
-ghost use Rattle.std.specs.Prelude.{◌≡◌, ◌≤◌, ◌++◌, ℕ, Bool, true, false, List, [], ◌∷◌, Some, None, Ok, bytes_eq, length};
+ghost use Rattle.std.specs.Prelude.{◌≡◌, ◌≤◌, ◌++◌, ℕ, Bool, true, false, List, [], ◌∷◌, Some, None, Ok, bytes_eq, length, map};
 ghost use Rattle.ark_base.specs.Conditions.{Conditions, first};
 ghost use Rattle.ark_base.specs.declared.refusal.Refusal.{Refusal};
 ghost use Rattle.ark_media.specs.Journal.{Event};
@@ -8,7 +8,7 @@ ghost use Rattle.ark_script.specs.Line as w;
 ghost use Rattle.ark_script.specs.Line.{Line};
 ghost use Rattle.ark_script.specs.Lines.{Meaning};
 ghost use Rattle.ark_script.specs.declared.said.Said.TheVariants as said;
-ghost use Rattle.ark_machine.specs.Machine.{Machine, at};
+ghost use Rattle.ark_machine.specs.Machine.{Machine, unmade, at};
 ghost use Rattle.ark_machine.specs.Row.{Row, Ended, answer, synced_by};
 ghost use Rattle.ark_machine.specs.System.{System, fresh_system, machine_of, owner, line_turn};
 ghost use Rattle.ark_machine.specs.Sockets.{sent_reaped};
@@ -19,6 +19,7 @@ ghost use Rattle.ark_machine.specs.Sending.{IsLetOut, AllKeep};
 ghost use Rattle.ark_machine.specs.Paced.{StandsPaced};
 ghost use Rattle.ark_machine.specs.Confined.{AllAllowed, EndsAtFailure, Confined};
 ghost use Rattle.ark_machine.specs.Private.{Play, after_plays, inputs_of, replies_to, private_replies, private_machine};
+ghost use Rattle.ark_machine.specs.Told.{plays_of, outputs_to, text_of, own_slots, area_in, with_areas};
 ghost use Rattle.ark_machine.specs.Ranks.{rank, Holds};
 ghost use Rattle.ark_machine.specs.Refused.{is_told_late, is_of_sending, may_leave, gives_up, is_gain, is_look, labels};
 
@@ -37,14 +38,19 @@ pub fn confinement_laws()
     ensures confined { (s : System) (lines : List (List ℕ)) (whole : List (List Event)) (unfinished : List Event) → StandsPaced s → Replies s lines whole unfinished → Confined s lines whole unfinished }
 {}
 
-/// Applications are apart. A line of one leaves the machine of each other as it is. In a run, whatever other lines stand in
-/// it, what an application is told is what its own machine answers to what came to it alone: its lines with what the plane
-/// recorded for them, the frames at its cards, and ticks. So two runs that bring the same to it tell it the same.
+/// Applications are apart. A line of one leaves the machine of each other as it is. In a run, whatever other lines stand in it,
+/// what an application is told is what its own machine answers to what came to it alone: its lines, each with what its word
+/// asks of the plane, how its device calls ended and whether it found no memory, the frames at its cards, and ticks. So two
+/// runs that bring the same to it tell it the same, and put out the same for it. At its start it has what is stored in its own
+/// slots, wherever their blocks are.
 pub fn privacy_laws()
     ensures others { (s : System) (line : Line) (ends : List Ended) (memory : Bool) (a b : List ℕ) → owner line ≡ Some b → bytes_eq a b ≡ false → machine_of (line_turn s line ends memory).after a ≡ machine_of s a }
     ensures replies { (a : List ℕ) (s : System) (plays : List Play) → replies_to a s plays ≡ private_replies a (machine_of s a) (inputs_of a s plays) }
     ensures machine { (a : List ℕ) (s : System) (plays : List Play) → machine_of (after_plays s plays) a ≡ private_machine a (machine_of s a) (inputs_of a s plays) }
     ensures alike { (a : List ℕ) (s t : System) (plays others : List Play) → machine_of s a ≡ machine_of t a → inputs_of a s plays ≡ inputs_of a t others → replies_to a s plays ≡ replies_to a t others }
+    ensures outputs { (a : List ℕ) (s : System) (ms : List Meaning) (parts : List (List Event)) → EachAnswers s ms parts → outputs_to a s ms parts ≡ map text_of (private_replies a (machine_of s a) (inputs_of a s (plays_of ms parts))) }
+    ensures outputs_alike { (a : List ℕ) (s t : System) (ms ns : List Meaning) (parts others : List (List Event)) → EachAnswers s ms parts → EachAnswers t ns others → machine_of s a ≡ machine_of t a → inputs_of a s (plays_of ms parts) ≡ inputs_of a t (plays_of ns others) → outputs_to a s ms parts ≡ outputs_to a t ns others }
+    ensures start { (image : List (List ℕ)) (slots : List Slot) (a : List ℕ) → machine_of (start_system image slots) a ≡ with_areas unmade (map (area_in image) (own_slots a slots)) }
 {}
 
 /// A refused line leaves the system as it was and calls no device, but for the refusals that only device calls tell, and for
