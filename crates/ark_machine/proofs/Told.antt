@@ -1,7 +1,7 @@
 -- What a run puts out for one application comes from its own machine and inputs, and so does the machine at its start.
 use Rattle.std.proofs.Common.{◌≡◌, ℕ, Bool, true, false, List, [], ◌∷◌, ◌++◌, map, refl, sym, ◌∙◌, ap, subst, cond}
 use Rattle.std.proofs.lemmas.List.{map-append}
-use Rattle.std.specs.Prelude.{Option, Some, None, Ok, Err, option_map, find, filter as select, unwrap_or, bytes_eq}
+use Rattle.std.specs.Prelude.{Some, None, Ok, Err, option_map, find, unwrap_or, bytes_eq}
 use Rattle.ark_base.specs.declared.refusal.Refusal.TheVariants as r
 use Rattle.ark_media.specs.Journal.{Event, output_of, device_events}
 use Rattle.ark_table.specs.Slots.{Slot}
@@ -13,12 +13,12 @@ use Rattle.ark_machine.specs.Machine.{Machine, unmade}
 use Rattle.ark_machine.specs.Control.{is_label}
 use Rattle.ark_machine.specs.System.{System, Turn, listed_machine, machine_of, line_turn, quiet_turn}
 use Rattle.ark_machine.specs.Start.{with_slot, with_stored, all_stored, start_system}
-use Rattle.ark_machine.specs.Built.{turn, is_built}
+use Rattle.ark_machine.specs.Built.{is_built}
 use Rattle.ark_machine.specs.Follow.{ends_of}
-use Rattle.ark_machine.specs.Replies.{turn_for, has_lacked, Answers, EachAnswers}
+use Rattle.ark_machine.specs.Replies.{has_lacked, EachAnswers}
 use Rattle.ark_machine.specs.Private.{Play, play_turn, Reply, concerned, reply_of, replies_in, replies_to, inputs_of, private_replies}
-use Rattle.ark_machine.specs.Told.{heard, play_of, plays_in, plays_of, outputs_in, outputs_to, text_of, own_slots, Area, area_in, with_areas}
-use Rattle.ark_machine.proofs.Listed.{same_bytes, bytes_eq-same, unmade_at}
+use Rattle.ark_machine.specs.Told.{play_of, plays_in, plays_of, outputs_in, outputs_to, text_of, own_slots, Area, area_in, with_areas}
+use Rattle.ark_machine.proofs.Listed.{same_bytes, unmade_at}
 use Rattle.ark_machine.proofs.Privacy.{replies_private, replies_alike}
 
 -- the part of a line that comes to the machines shows its reply
