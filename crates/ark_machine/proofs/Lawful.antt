@@ -1,36 +1,34 @@
 -- The laws of the definitions at worked scripts: each premise is met.
-use Rattle.std.proofs.Common.{◌≡◌, ℕ, Bool, true, false, List, [], ◌∷◌, ◌++◌, replicate, codes, refl, sym, ◌∙◌, ap}
+use Rattle.std.proofs.Common.{◌≡◌, ℕ, false, List, [], ◌∷◌, ◌++◌, map, codes, refl}
 use Rattle.std.specs.Fmt.{digits}
-use Rattle.std.specs.Prelude.{Ok, Option, Some, None, option_map}
+use Rattle.std.specs.Prelude.{Ok, Some, None}
 use Rattle.hex.specs.Hex.{encode_with}
 use Rattle.ark_base.specs.declared.kind.Kind.TheVariants as kind
 use Rattle.ark_base.specs.declared.refusal.Refusal.TheVariants as r
-use Rattle.ark_media.specs.Journal.{Event, Write, Sync, Out}
+use Rattle.ark_media.specs.Journal.{Out}
 use Rattle.ark_packet.specs.declared.own.Own.{Own}
 use Rattle.ark_filters.specs.declared.filter.Direction.{Direction}
 use Rattle.ark_filters.specs.declared.filter.Direction.TheVariants as direction
 use Rattle.ark_filters.specs.declared.filter.Proto.TheVariants as proto
 use Rattle.ark_filters.specs.declared.filter.Filter.{Filter}
-use Rattle.ark_vic.specs.Pace.{Pass}
 use Rattle.ark_script.specs.Line as w
 use Rattle.ark_script.specs.Line.{Line}
-use Rattle.ark_script.specs.Lines.{Meaning}
-use Rattle.ark_script.specs.declared.said.Said.TheVariants as said
 use Rattle.ark_script.specs.declared.step.Side.TheVariants as side
-use Rattle.ark_machine.specs.Machine.{Machine, vnic_at}
 use Rattle.ark_machine.specs.Row.{answer, synced_by}
 use Rattle.ark_machine.specs.Step.{step}
 use Rattle.ark_machine.specs.System.{System, fresh_system, machine_of, line_turn}
 use Rattle.ark_machine.specs.Follow.{ended, ends_of}
-use Rattle.ark_machine.specs.Replies.{Answers, EachAnswers, system_after}
+use Rattle.ark_machine.specs.Replies.{Answers, EachAnswers}
 use Rattle.ark_machine.specs.Sending.{IsLetOut, AllKeep}
 use Rattle.ark_machine.specs.Paced.{StandsPaced}
-use Rattle.ark_machine.specs.Private.{Play, inputs_of, replies_to}
+use Rattle.ark_machine.specs.Private.{Play, inputs_of, replies_to, private_replies}
+use Rattle.ark_machine.specs.Told.{plays_of, outputs_to, text_of}
 use Rattle.ark_machine.proofs.Playing.{Played, turn_played, replies, played}
-use Rattle.ark_machine.proofs.Scripts.{quiet, app, area, zeroed}
+use Rattle.ark_machine.proofs.Scripts.{quiet, app}
 use Rattle.ark_machine.proofs.Areas.{failed_grant}
 use Rattle.ark_machine.proofs.Sent.{line_sends, line_paced, paced_keep}
 use Rattle.ark_machine.proofs.Privacy.{others_left, replies_alike}
+use Rattle.ark_machine.proofs.Told.{outputs_private}
 use Rattle.ark_machine.proofs.Refusing.{refused_spared}
 use Rattle.ark_machine.proofs.Faults.{gain_refused}
 use Rattle.ark_machine.proofs.Runs.{each_more}
@@ -193,3 +191,12 @@ made = record { output = refl; calls = ended; memory = tt }
 
 pub one_line : EachAnswers (fresh_system 200) (Ok (w.app a None) ∷ []) ((Out (codes "ok" ++ 10 ∷ []) ∷ []) ∷ [])
 one_line = each_more (fresh_system 200) [] [] (Ok (w.app a None)) (Out (codes "ok" ++ 10 ∷ []) ∷ []) tt made
+
+-- what is put out for the application
+pub one_output : outputs_to a (fresh_system 200) (Ok (w.app a None) ∷ []) ((Out (codes "ok" ++ 10 ∷ []) ∷ []) ∷ [])
+    ≡ map text_of (private_replies a (machine_of (fresh_system 200) a) (inputs_of a (fresh_system 200) (plays_of (Ok (w.app a None) ∷ []) ((Out (codes "ok" ++ 10 ∷ []) ∷ []) ∷ []))))
+one_output = outputs_private a (fresh_system 200) (Ok (w.app a None) ∷ []) ((Out (codes "ok" ++ 10 ∷ []) ∷ []) ∷ []) one_line
+
+pub one_output-is : outputs_to a (fresh_system 200) (Ok (w.app a None) ∷ []) ((Out (codes "ok" ++ 10 ∷ []) ∷ []) ∷ []) ≡ (codes "ok" ++ 10 ∷ []) ∷ []
+unfolding step answer
+one_output-is = refl

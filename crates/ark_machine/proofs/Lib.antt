@@ -1,3 +1,4 @@
+pub mod Answering
 pub mod Areas
 pub mod Cards
 pub mod Confining
@@ -8,7 +9,9 @@ pub mod FailedGrant
 pub mod Faults
 pub mod Frames
 pub mod Images
+pub mod Labels
 pub mod Lawful
+pub mod Leading
 pub mod Limits
 pub mod Listed
 pub mod Logs
@@ -30,10 +33,12 @@ pub mod Rules
 pub mod Runs
 pub mod Script
 pub mod Scripts
+pub mod SendRows
 pub mod Sending
 pub mod Sent
 pub mod Sockets
 pub mod Steady
 pub mod Stops
+pub mod Told
 pub mod Touching
 pub mod Transfers

@@ -1,18 +1,18 @@
 -- Each change of a machine that leaves its paces, or adds a pass that may pass, leaves its queues paced.
-use Rattle.std.proofs.Common.{◌≡◌, ◌≤◌, ℕ, ◌+◌, Bool, true, false, not, List, [], ◌∷◌, ◌++◌, map, refl, sym, ◌∙◌, ap, subst, arith, cond}
+use Rattle.std.proofs.Common.{◌≡◌, ◌≤◌, ℕ, ◌+◌, Bool, true, false, not, List, [], ◌∷◌, ◌++◌, map, sym, subst, arith, cond}
 use Rattle.std.proofs.lemmas.Bool.Decides.{nat_tests}
 use Rattle.std.specs.Prelude.{Option, Some, None, option_map, option_and_then, find, filter as select, unwrap_or, bytes_eq, nat_le}
 use Rattle.std.specs.List.{AllByRecursion}
 use Rattle.ark_caladan.specs.Chain.{Log}
-use Rattle.ark_vic.specs.Pace.{Keeps, NoneAfter, Pass, fill_of}
+use Rattle.ark_vic.specs.Pace.{NoneAfter, Pass, fill_of}
 use Rattle.ark_vic.specs.Bells as bells
 use Rattle.ark_vic.specs.declared.door.Bell.{Bell}
 use Rattle.ark_vic.specs.declared.door.Counts.{Counts}
 use Rattle.ark_vic.proofs.PaceLemmas.{kept_law}
 use Rattle.ark_machine.specs.Objects
 use Rattle.ark_machine.specs.Objects.{Object, Paced, Raw, Vsic, Vnic, Buffer, Socket, as_vsic, as_vnic}
-use Rattle.ark_machine.specs.Machine.{Machine, Held, holding, at, vsic_at, vnic_at, log_at, buffer_at, socket_at, raw_at, door_at, with_object, each_object, with_new, without, with_vsic, with_vnic, with_log, with_buffer, with_socket}
-use Rattle.ark_machine.specs.Row.{Ended, settled, synced, synced_by}
+use Rattle.ark_machine.specs.Machine.{Machine, Held, holding, vsic_at, vnic_at, log_at, buffer_at, socket_at, raw_at, door_at, with_object, each_object, with_new, without, with_vsic, with_vnic, with_log, with_buffer, with_socket}
+use Rattle.ark_machine.specs.Row.{settled, synced}
 use Rattle.ark_machine.specs.Areas.{with_raw}
 use Rattle.ark_machine.specs.Rates.{may_pass, passed, rung}
 use Rattle.ark_machine.specs.Paced.{IsPacedAt, ArePacedAt, HeldPacedAt, MachinePacedAt}

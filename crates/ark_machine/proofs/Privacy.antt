@@ -1,23 +1,21 @@
 -- What an application is told comes from its own machine and what came to it.
 use Rattle.std.proofs.Common.{◌≡◌, ◌⊎◌, inl, inr, ℕ, Bool, true, false, not, List, [], ◌∷◌, ◌++◌, refl, sym, ◌∙◌, ap, subst, cond, append_assoc}
-use Rattle.std.proofs.lemmas.Bool.{false≢true}
 use Rattle.std.specs.Prelude.{Option, Some, None, option_map, find, unwrap_or, bytes_eq, nat_lt, length}
-use Rattle.ark_base.specs.declared.refusal.Refusal.TheVariants as r
 use Rattle.ark_packet.specs.declared.own.Own.{Own}
 use Rattle.ark_script.specs.Line as w
 use Rattle.ark_script.specs.Line.{Line}
 use Rattle.ark_script.specs.declared.said.Said.TheVariants as said
 use Rattle.ark_machine.specs.Objects.{Vnic, Place}
-use Rattle.ark_machine.specs.Machine.{Machine, unmade, vnic_at}
+use Rattle.ark_machine.specs.Machine.{Machine, vnic_at}
 use Rattle.ark_machine.specs.Row.{Row, Ended, Given, says}
 use Rattle.ark_machine.specs.Control.{is_label}
 use Rattle.ark_machine.specs.Asked.{part_for}
 use Rattle.ark_machine.specs.Rates.{may_pass}
 use Rattle.ark_machine.specs.Network.{bytes_in, received, arrival, arrive}
-use Rattle.ark_machine.specs.Step.{step, ticked}
+use Rattle.ark_machine.specs.Step.{step}
 use Rattle.ark_machine.specs.Plane.{LiveFilter, recorded}
-use Rattle.ark_machine.specs.System.{System, Turn, listed_machine, machine_of, set_machine, owner, takes, quiet_turn, own_turn, tick_turn, nic_turn, arrival_turn, taken_turn, wire_turn, common_turn, owned_turn, line_turn}
-use Rattle.ark_machine.specs.Private.{Play, play_turn, after_plays, Reply, Input, asks, comes, passes, line_inputs, frame_inputs, taker, common_inputs, inputs_by, inputs_in, inputs_of, concerned, reply_of, replies_in, replies_to, private_row, told, private_replies, private_machine}
+use Rattle.ark_machine.specs.System.{System, Turn, listed_machine, machine_of, set_machine, owner, takes, own_turn, nic_turn, arrival_turn, taken_turn, wire_turn, common_turn, owned_turn, line_turn}
+use Rattle.ark_machine.specs.Private.{Play, play_turn, after_plays, Input, asks, comes, line_inputs, frame_inputs, taker, common_inputs, inputs_by, inputs_in, inputs_of, concerned, reply_of, replies_to, private_row, told, private_replies, private_machine}
 use Rattle.ark_machine.proofs.Rows.{row_is}
 use Rattle.ark_machine.proofs.Listed.{same_bytes, unmade_at, is_unlisted, unlisted_machine, set_there, set_here, ticked_machine}
 

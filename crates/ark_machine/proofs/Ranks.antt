@@ -1,8 +1,8 @@
 -- The refusal that is chosen is the one of least rank whose condition holds.
-use Rattle.std.proofs.Common.{◌≡◌, ◌≤◌, ℕ, zero, suc, ◌+◌, Bool, true, false, List, [], ◌∷◌, refl, sym, ◌∙◌, ap, subst, arith, cond}
+use Rattle.std.proofs.Common.{◌≡◌, ◌≤◌, ℕ, zero, suc, ◌+◌, Bool, true, false, List, [], ◌∷◌, refl, sym, ◌∙◌, subst, arith, cond}
 use Rattle.std.specs.Prelude.{Option, Some, None, option_map}
 use Rattle.std.specs.Option.{option_or}
-use Rattle.ark_base.specs.Conditions.{Conditions, early, late, first, when, when_some}
+use Rattle.ark_base.specs.Conditions.{Conditions, late, first, when, when_some}
 use Rattle.ark_base.specs.declared.refusal.Refusal.{Refusal}
 use Rattle.ark_base.specs.declared.refusal.Refusal.TheVariants as r
 use Rattle.ark_machine.specs.Ranks.{rank, Holds}
@@ -106,31 +106,76 @@ right_some c k (Some a) f is so y h = subst (λ z. IsRight c k z) (some_refusal 
 right_some c k None f is so y h = absurd cc
 
 all_right : (c : Conditions) → AllRight c 0 (table c)
-all_right c =
-    (right_bool c 0 c.too_long r.TooLong refl (λ h. h),
-    (right_bool c 1 c.unknown_word r.UnknownWord refl (λ h. h),
-    (right_bool c 2 c.syntax_fault r.Syntax refl (λ h. h),
-    (right_bool c 3 c.no_application r.NoApplication refl (λ h. h),
-    (right_bool c 4 c.name_taken r.NameTaken refl (λ h. h),
-    (right_some c 5 c.no_grant (λ l. r.NoGrant l) (λ a. refl) (λ a h. h),
-    (right_bool c 6 c.wrong_kind r.WrongKind refl (λ h. h),
-    (right_bool c 7 c.limit r.Limit refl (λ h. h),
-    (right_bool c 8 c.no_nic r.NoNic refl (λ h. h),
-    (right_bool c 9 c.out_of_range r.OutOfRange refl (λ h. h),
-    (right_bool c 10 c.table_failed r.TableFailed refl (λ h. h),
-    (right_bool c 11 c.log_failed r.LogFailed refl (λ h. h),
-    (right_bool c 12 c.busy r.Busy refl (λ h. h),
-    (right_bool c 13 c.lent r.Lent refl (λ h. h),
-    (right_bool c 14 c.ring_full r.RingFull refl (λ h. h),
-    (right_bool c 15 c.log_full r.LogFull refl (λ h. h),
-    (right_bool c 16 c.no_entry r.NoEntry refl (λ h. h),
-    (right_bool c 17 c.no_buffer r.NoBuffer refl (λ h. h),
-    (right_bool c 18 c.no_space r.NoSpace refl (λ h. h),
-    (right_bool c 19 c.scattered r.Scattered refl (λ h. h),
-    (right_some c 20 c.overlap (λ f. r.Overlap f.0 f.1) (λ a. refl) (λ a h. h),
-    (right_bool c 21 c.no_memory r.NoMemory refl (λ h. h),
-    (right_bool c 22 c.device_fault r.DeviceFault refl (λ h. h),
-    (right_some c 23 c.damaged (λ n. r.Damaged n) (λ a. refl) (λ a h. h), tt))))))))))))))))))))))))
+all_right c = (
+  right_bool c 0 c.too_long r.TooLong refl (λ h. h),
+  (
+    right_bool c 1 c.unknown_word r.UnknownWord refl (λ h. h),
+    (
+      right_bool c 2 c.syntax_fault r.Syntax refl (λ h. h),
+      (
+        right_bool c 3 c.no_application r.NoApplication refl (λ h. h),
+        (
+          right_bool c 4 c.name_taken r.NameTaken refl (λ h. h),
+          (
+            right_some c 5 c.no_grant (λ l. r.NoGrant l) (λ a. refl) (λ a h. h),
+            (
+              right_bool c 6 c.wrong_kind r.WrongKind refl (λ h. h),
+              (
+                right_bool c 7 c.limit r.Limit refl (λ h. h),
+                (
+                  right_bool c 8 c.no_nic r.NoNic refl (λ h. h),
+                  (
+                    right_bool c 9 c.out_of_range r.OutOfRange refl (λ h. h),
+                    (
+                      right_bool c 10 c.table_failed r.TableFailed refl (λ h. h),
+                      (
+                        right_bool c 11 c.log_failed r.LogFailed refl (λ h. h),
+                        (
+                          right_bool c 12 c.busy r.Busy refl (λ h. h),
+                          (
+                            right_bool c 13 c.lent r.Lent refl (λ h. h),
+                            (
+                              right_bool c 14 c.ring_full r.RingFull refl (λ h. h),
+                              (
+                                right_bool c 15 c.log_full r.LogFull refl (λ h. h),
+                                (
+                                  right_bool c 16 c.no_entry r.NoEntry refl (λ h. h),
+                                  (
+                                    right_bool c 17 c.no_buffer r.NoBuffer refl (λ h. h),
+                                    (
+                                      right_bool c 18 c.no_space r.NoSpace refl (λ h. h),
+                                      (
+                                        right_bool c 19 c.scattered r.Scattered refl (λ h. h),
+                                        (
+                                          right_some c 20 c.overlap (λ f. r.Overlap f.0 f.1) (λ a. refl) (λ a h. h),
+                                          (
+                                            right_bool c 21 c.no_memory r.NoMemory refl (λ h. h),
+                                            (
+                                              right_bool c 22 c.device_fault r.DeviceFault refl (λ h. h),
+                                              (right_some c 23 c.damaged (λ n. r.Damaged n) (λ a. refl) (λ a h. h), tt),
+                                            ),
+                                          ),
+                                        ),
+                                      ),
+                                    ),
+                                  ),
+                                ),
+                              ),
+                            ),
+                          ),
+                        ),
+                      ),
+                    ),
+                  ),
+                ),
+              ),
+            ),
+          ),
+        ),
+      ),
+    ),
+  ),
+)
 
 right_at : (c : Conditions) (k : ℕ) (ts : List (Option Refusal)) (i : ℕ) (y : Refusal) → AllRight c k ts → nth ts i ≡ Some y → rank y ≡ k + i
 right_at c k [] i y h e = absurd cc

@@ -1,30 +1,24 @@
 -- What a refused line leaves.
-use Rattle.std.proofs.Common.{◌≡◌, ◌⊎◌, inl, inr, ℕ, Bool, true, false, not, List, [], ◌∷◌, ◌||◌, ◌&&◌, map, refl, sym, ◌∙◌, ap, subst, cond}
+use Rattle.std.proofs.Common.{◌≡◌, ℕ, Bool, true, false, List, [], ◌||◌, ◌&&◌, refl, sym, ◌∙◌, ap, subst}
 use Rattle.std.proofs.lemmas.Bool.{false≢true}
-use Rattle.std.specs.Prelude.{Option, Some, None, option_map, find, filter as select, unwrap_or, bytes_eq, is_some}
-use Rattle.std.specs.List.{list_any}
+use Rattle.std.specs.Prelude.{Option, Some, None, find, unwrap_or}
 use Rattle.std.specs.Option.{option_or}
-use Rattle.ark_base.specs.Conditions.{Conditions, early, late, first, when, when_some}
-use Rattle.ark_base.specs.declared.kind.Kind.{Kind}
-use Rattle.ark_base.specs.declared.kind.Kind.TheVariants as kind
+use Rattle.ark_base.specs.Conditions.{Conditions, early, late, first}
 use Rattle.ark_base.specs.declared.refusal.Refusal.{Refusal}
 use Rattle.ark_base.specs.declared.refusal.Refusal.TheVariants as r
 use Rattle.ark_packet.specs.declared.own.Own.{Own}
 use Rattle.ark_script.specs.Line as w
 use Rattle.ark_script.specs.Line.{Line}
 use Rattle.ark_script.specs.declared.said.Said.TheVariants as said
-use Rattle.ark_machine.specs.Objects.{Object}
-use Rattle.ark_machine.specs.Machine.{Machine, Held, holding, at, serial_at, each_object, without}
-use Rattle.ark_machine.specs.Row.{Row, Given, Ended, says, answer, unless_refused, has_fault, settled, synced, synced_by}
-use Rattle.ark_machine.specs.Control.{lets_go}
-use Rattle.ark_machine.specs.Network.{arrive}
+use Rattle.ark_machine.specs.Machine.{Machine}
+use Rattle.ark_machine.specs.Row.{Row, Given, Ended, answer, unless_refused}
 use Rattle.ark_machine.specs.Plane.{Plane, LiveFilter, Change, recorded}
 use Rattle.ark_machine.specs.Granting.{after_refusal, change_of}
 use Rattle.ark_machine.specs.Step.{step}
-use Rattle.ark_machine.specs.System.{System, Turn, listed_machine, machine_of, set_machine, owner, takes, quiet_turn, own_turn, nic_turn, taken_turn, wire_turn, common_turn, owned_turn, line_turn}
+use Rattle.ark_machine.specs.System.{System, Turn, machine_of, owner, takes, own_turn, nic_turn, taken_turn, wire_turn, common_turn, owned_turn, line_turn}
 use Rattle.ark_machine.specs.Refused.{is_told_late, is_of_sending, reaps_first, may_leave}
-use Rattle.ark_machine.proofs.Steady.{is_plain}
-use Rattle.ark_machine.proofs.Rows.{plain_not_refused, row_is, arrive_steady}
+use Rattle.ark_machine.proofs.Answering.{plain_not_refused}
+use Rattle.ark_machine.proofs.Rows.{row_is, arrive_steady}
 use Rattle.ark_machine.proofs.Listed.{set_same}
 
 -- the system is as it was, and no device was called

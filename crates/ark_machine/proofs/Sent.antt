@@ -1,5 +1,5 @@
 -- A line sends only what a filter lets out, and leaves every queue at its rate.
-use Rattle.std.proofs.Common.{◌≡◌, ℕ, ◌+◌, Bool, true, false, List, [], ◌∷◌, ◌++◌, map, refl, sym, ◌∙◌, ap, subst, arith, cond, get_or}
+use Rattle.std.proofs.Common.{◌≡◌, ℕ, ◌+◌, Bool, true, false, List, [], ◌∷◌, map, refl, sym, ◌∙◌, ap, subst, arith, cond, get_or}
 use Rattle.std.specs.Prelude.{Option, Some, None, Ok, Err, IsTrue, option_map, find, unwrap_or, bytes_eq}
 use Rattle.std.specs.List.{AllByRecursion}
 use Rattle.ark_base.specs.declared.kind.Kind.{Kind}
@@ -18,8 +18,8 @@ use Rattle.ark_script.specs.declared.said.Said.TheVariants as said
 use Rattle.ark_machine.specs.Objects
 use Rattle.ark_machine.specs.Objects.{Object, Paced}
 use Rattle.ark_machine.specs.Machine.{Machine, Held, unmade}
-use Rattle.ark_machine.specs.Row.{Row, Ended}
-use Rattle.ark_machine.specs.Network.{is_let_out, arrive}
+use Rattle.ark_machine.specs.Row.{Ended}
+use Rattle.ark_machine.specs.Network.{is_let_out}
 use Rattle.ark_machine.specs.Plane.{LiveFilter, recorded}
 use Rattle.ark_machine.specs.Step.{step, ticked}
 use Rattle.ark_machine.specs.System.{System, Turn, listed_machine, machine_of, set_machine, owner, takes, quiet_turn, own_turn, nic_turn, taken_turn, wire_turn, common_turn, owned_turn, line_turn}
@@ -31,7 +31,8 @@ use Rattle.ark_machine.specs.Sending.{IsLetOut, SendsWithin, KeepsRate, KeepsRat
 use Rattle.ark_machine.specs.Paced.{IsPacedAt, ArePacedAt, HeldPacedAt, MachinePacedAt, ListedPacedAt, StandsPaced}
 use Rattle.ark_machine.proofs.Paced.{later_held, new_paced}
 use Rattle.ark_machine.proofs.Steady.{is_plain}
-use Rattle.ark_machine.proofs.Rows.{MaySend, plain_not_sent, row_is, arrive_steady}
+use Rattle.ark_machine.proofs.Answering.{MaySend, plain_not_sent}
+use Rattle.ark_machine.proofs.Rows.{row_is, arrive_steady}
 
 -- Texts.
 

@@ -12,15 +12,15 @@ use Rattle.ark_script.specs.declared.said.Said.TheVariants as said
 use Rattle.ark_machine.specs.Bytes.{block_of}
 use Rattle.ark_machine.specs.Objects
 use Rattle.ark_machine.specs.Objects.{Object, Paced, Raw, Vsic, Job, Transfer, transfer, flush, phase}
-use Rattle.ark_machine.specs.Machine.{Machine, vsic_at, log_at, label_numbered, bytes_at, with_object, each_object, with_vsic}
-use Rattle.ark_machine.specs.Row.{Row, Ended, Call, syncs, reads_in, writes_in, says, synced}
+use Rattle.ark_machine.specs.Machine.{Machine, vsic_at, log_at, label_numbered, bytes_at, each_object, with_vsic}
+use Rattle.ark_machine.specs.Row.{Row, Ended, Call, reads_in, writes_in, says, synced}
 use Rattle.ark_machine.specs.Areas.{raw_written, with_raw}
 use Rattle.ark_machine.specs.Buffers.{with_bytes}
-use Rattle.ark_machine.specs.Rates.{is_over_burst, may_pass, passed, rung}
+use Rattle.ark_machine.specs.Rates.{is_over_burst, may_pass, passed}
 use Rattle.ark_machine.specs.Cards.{posting}
-use Rattle.ark_machine.specs.Moves.{Move, moves, ending, ended, ends, outcome_of, block_passed, block_moved, tried, gated, raw_numbered, is_granted, transferred, transfer_call, log_on, deciding_tried, phase_written, phase_moves, phase_moves_on, moved, move, log_moved, log_move, first_end, row_of}
+use Rattle.ark_machine.specs.Moves.{Move, moves, ending, ended, ends, outcome_of, block_passed, block_moved, tried, gated, raw_numbered, is_granted, transferred, transfer_call, log_on, deciding_tried, phase_written, phase_moves, phase_moves_on, moved, move, log_moved, log_move, first_end}
 use Rattle.ark_machine.specs.Logs.{with_opened, card_of}
-use Rattle.ark_machine.specs.Polls.{Polled, acked, acknowledged_row, next_phase, phases_left, emptied, failing, one_done, phase_ended, poll_card, unreaped_on, posted_on, poll_oldest, poll_opened, poll_log, polled, is_held, settle_move, Next, stops, calls_on, without_call, by_calls, due_move, next_of, next_call, settle_end, settling, with_calls}
+use Rattle.ark_machine.specs.Polls.{Polled, acked, next_phase, phases_left, emptied, failing, one_done, phase_ended, poll_card, unreaped_on, posted_on, poll_oldest, poll_opened, poll_log, polled, is_held, settle_move, Next, stops, calls_on, without_call, by_calls, due_move, next_of, next_call, settle_end, settling}
 use Rattle.ark_machine.specs.Paced.{IsPacedAt, ArePacedAt, MachinePacedAt}
 use Rattle.ark_machine.proofs.Paced.{VsicPaced, passed_paced, object_paced, each_paced, synced_paced, vsic_at_paced, vsic_paced, log_paced, buffer_paced, raw_paced, rung_paced}
 
@@ -72,10 +72,10 @@ gated_steady m v x j js true move some =
     let over : Move = ends m v x j js outcome.OverBurst [] in
     let last : Bool → Move = λ b. cond (not b) held move in
     let go : (b : Bool) → may_pass x.pace m.now 512 ≡ b → IsSteady m (last b).machine (last b).said =
-      λ b is. elim b as (λ c. may_pass x.pace m.now 512 ≡ c → IsSteady m (last c).machine (last c).said) [
-        | true ↦ λ e. some e
-        | false ↦ λ e. record { plain = refl; paced = λ t h. h }
-      ] is in
+    λ b is. elim b as (λ c. may_pass x.pace m.now 512 ≡ c → IsSteady m (last c).machine (last c).said) [
+      | true ↦ λ e. some e
+      | false ↦ λ e. record { plain = refl; paced = λ t h. h }
+    ] is in
     elim (is_over_burst x.pace 512) as (λ b. IsSteady m (cond b over (last (may_pass x.pace m.now 512))).machine (cond b over (last (may_pass x.pace m.now 512))).said) [
       | true ↦ record { plain = refl; paced = ended_leads m m v x j js outcome.OverBurst (λ t h. h) }
       | false ↦ go (may_pass x.pace m.now 512) refl
@@ -248,5 +248,5 @@ settling_steady m (e ∷ es) s (stops r) h = h
 settling_steady m (e ∷ es) s (calls_on k) h =
     let after : Machine = (settle_move k s e).machine in
     let rest : RowSteady m (settling es s (next_call after s)) =
-      settling_steady m es s (next_call after s) (next_behind m after (next_call after s) (λ t q. (settle_move_steady k s e).paced t (h t q)) (next_call_steady after s)) in
+    settling_steady m es s (next_call after s) (next_behind m after (next_call after s) (λ t q. (settle_move_steady k s e).paced t (h t q)) (next_call_steady after s)) in
     record { plain = rest.plain; paced = rest.paced }

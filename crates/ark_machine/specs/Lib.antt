@@ -29,3 +29,4 @@ pub mod Refused
 pub mod Asked
 pub mod Private
 pub mod Ranks
+pub mod Told
