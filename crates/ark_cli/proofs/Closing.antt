@@ -1,6 +1,6 @@
 -- The closing line after a run, and what the program did.
 use Rattle.std.proofs.Common.{◌≡◌, ℕ, ◌≤◌, Bool, true, false, List, [], ◌∷◌, ◌++◌, length, drop, refl, sym, ◌∙◌, ap, subst, append-nil, inl, inr}
-use Rattle.std.specs.Prelude.{◌⊎◌, ◌↔◌}
+use Rattle.std.specs.Prelude.{◌⊎◌}
 use Rattle.ark_base.specs.declared.status.Status.{Status}
 use Rattle.ark_base.specs.declared.status.Status.TheVariants.{Done, Usage, Source, Sink, Device, Memory, Damaged, Long}
 use Rattle.ark_media.specs.Journal.{Event, Out, device_events}
@@ -17,7 +17,7 @@ use Rattle.ark_machine.specs.Confined.{BeginsConfined}
 use Rattle.ark_cli.specs.Words.{IsRun}
 use Rattle.ark_cli.specs.Opening.{SinceMake, BeginsFormat, IsUnmade}
 use Rattle.ark_cli.proofs.Turning.{still_at_end}
-use Rattle.ark_cli.specs.Ending.{closing_words, Closes, HasRun, Ends, IsOpen, IsClosed, IsQuiet, IsRefused, RunsNew, Commands, Does, no_command, no_memory, no_device, runs, IsCause, IsUndamaged}
+use Rattle.ark_cli.specs.Ending.{closing_words, Closes, HasRun, Ends, IsOpen, IsClosed, IsQuiet, IsRefused, RunsNew, Commands, Does, no_command, unread, no_memory, no_device, runs, IsCause, IsUndamaged}
 use Rattle.ark_cli.proofs.Answering.{cut_line, clean_goes_on}
 use Rattle.ark_cli.proofs.Opened.{since_then}
 
@@ -149,7 +149,8 @@ module _ (words : List (List ℕ)) (t0 t1 t2 : Told) (b0 b1 b2 : Beside) (status
 
   pub does : Commands words t0 t1 b0 b1 status → Does words t0 t2 b0 b2 status
   does (inl u) = no_command u.0 u.1 (quiet u.2)
-  does (inr r) = does_run r.0 r.1 r.2 r.3
+  does (inr (inl m)) = unread m.0 (quiet m.1)
+  does (inr (inr r)) = does_run r.0 r.1 r.2 r.3
 
 -- before the closing line no status is that of a damaged device
 undamaged_run : (size : ℕ) (t0 t1 : Told) (b0 b1 : Beside) (status : Status) → RunsNew size t0 t1 b0 b1 status → IsUndamaged status
@@ -159,7 +160,8 @@ undamaged_run size t0 t1 b0 b1 status (inr (inr o)) = ends_undamaged size t1 sta
 
 pub undamaged : (words : List (List ℕ)) (t0 t1 : Told) (b0 b1 : Beside) (status : Status) → Commands words t0 t1 b0 b1 status → IsUndamaged status
 undamaged words t0 t1 b0 b1 status (inl u) = subst (λ (e : Status). IsUndamaged e) (sym u.0) tt
-undamaged words t0 t1 b0 b1 status (inr r) = undamaged_run r.0 t0 t1 b0 b1 status r.3
+undamaged words t0 t1 b0 b1 status (inr (inl m)) = subst (λ (e : Status). IsUndamaged e) (sym m.0) tt
+undamaged words t0 t1 b0 b1 status (inr (inr r)) = undamaged_run r.0 t0 t1 b0 b1 status r.3
 
 -- a cause stays one when the closing line was put
 pub cause_closed : (t0 t1 t2 : Told) (b0 b1 b2 : Beside) (status : Status) (closing : List Event) → Goes closing [] t1 t2 b1 b2 → IsCause t0 t1 b0 b1 status → IsCause t0 t2 b0 b2 status
@@ -178,17 +180,16 @@ module _ (words : List (List ℕ)) (t0 t1 : Told) (b0 b1 : Beside) (status : Sta
   usage_runs : (size : ℕ) → IsClosed size t1 b0 b1 status → status ≡ Usage → ⊥
   usage_runs size r is = subst (λ (e : Status). Ends size t1 e r.script (parts r.events).whole r.rest) is r.ends
 
-  usage_only : Does words t0 t1 b0 b1 status → status ≡ Usage → (size : ℕ) (device : List ℕ) → IsRun words size device → ⊥
+  pub usage_only : Does words t0 t1 b0 b1 status → status ≡ Usage → (size : ℕ) (device : List ℕ) → IsRun words size device → ⊥
   usage_only (no_command is none quiet) u = none
+  usage_only (unread is quiet) u = cc
   usage_only (no_memory size device is run quiet) u = cc
   usage_only (no_device size device is run refused) u = cc
   usage_only (runs size device run closed) u = absurd (usage_runs size closed u)
 
-  usage_where : Does words t0 t1 b0 b1 status → ((size : ℕ) (device : List ℕ) → IsRun words size device → ⊥) → status ≡ Usage
-  usage_where (no_command is none quiet) h = is
+  pub usage_where : Does words t0 t1 b0 b1 status → ((size : ℕ) (device : List ℕ) → IsRun words size device → ⊥) → (status ≡ Usage) ⊎ (status ≡ Memory)
+  usage_where (no_command is none quiet) h = inl is
+  usage_where (unread is quiet) h = inr is
   usage_where (no_memory size device is run quiet) h = absurd (h size device run)
   usage_where (no_device size device is run refused) h = absurd (h size device run)
   usage_where (runs size device run closed) h = absurd (h size device run)
-
-  pub usage_exact : Does words t0 t1 b0 b1 status → (status ≡ Usage) ↔ ((size : ℕ) (device : List ℕ) → IsRun words size device → ⊥)
-  usage_exact d = (usage_only d, usage_where d)

@@ -110,12 +110,15 @@ RunsNew size told0 told1 beside0 beside1 status =
 abbrev pub Commands : List (List ℕ) → Told → Told → Beside → Beside → Status → Type 0
 Commands words told0 told1 beside0 beside1 status =
     ((status ≡ Usage) × ((size : ℕ) (device : List ℕ) → IsRun words size device → ⊥) × Goes [] [] told0 told1 beside0 beside1)
+    ⊎ ((status ≡ Memory) × Goes [] [] told0 told1 beside0 beside1)
     ⊎ ((size : ℕ) × (device : List ℕ) × IsRun words size device × RunsNew size told0 told1 beside0 beside1 status)
 
 -- What the program does with its words: how it may end, and what the outside tells then.
 pub data Does (words : List (List ℕ)) (told0 told1 : Told) (beside0 beside1 : Beside) (status : Status) : Type 0 where
   -- the words are no command
   no_command : status ≡ Usage → ((size : ℕ) (device : List ℕ) → IsRun words size device → ⊥) → IsQuiet told0 told1 beside0 beside1 status → Does words told0 told1 beside0 beside1 status
+  -- memory was wanting to read the words
+  unread : status ≡ Memory → IsQuiet told0 told1 beside0 beside1 status → Does words told0 told1 beside0 beside1 status
   -- memory was wanting before the device was made
   no_memory : (size : ℕ) (device : List ℕ) → status ≡ Memory → IsRun words size device → IsQuiet told0 told1 beside0 beside1 status → Does words told0 told1 beside0 beside1 status
   -- the device could not be made

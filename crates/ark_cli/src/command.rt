@@ -1,4 +1,4 @@
-ghost use Rattle.std.specs.Prelude.{◌≡◌, ◌≤◌, ◌↔◌, ◌⊎◌, ℕ, List, [], map, string_bytes};
+ghost use Rattle.std.specs.Prelude.{◌≡◌, ◌≤◌, ◌⊎◌, ℕ, List, [], map, string_bytes};
 ghost use Rattle.ark_media.specs.Journal.{Event};
 ghost use Rattle.ark_media.specs.Calls.{Told, Goes, Rose};
 ghost use Rattle.ark_machine.specs.System.{fresh_system};
@@ -16,6 +16,7 @@ use crate::words::read_words;
 use ark_base::Status;
 use ark_host::Host;
 use ark_media::Outside;
+use ark_words::WordsFault;
 use std::alloc::Global;
 
 // Opens the device and runs the script on it.
@@ -64,9 +65,10 @@ fn command<W: Outside>(alloc: Global, words: &[String], world: &mut W) -> Status
     ensures runs { Commands (map string_bytes words.now) (W.told world.old) (W.told world.new) (W.beside world.old) (W.beside world.new) result }
     ensures cause { IsCause (W.told world.old) (W.told world.new) (W.beside world.old) (W.beside world.new) result }
 {
-    match read_words(words) {
-        None => Status::Usage,
-        Some(run) => run_new(alloc, run.blocks, run.device, world),
+    match read_words(alloc, words) {
+        Ok(run) => run_new(alloc, run.blocks, run.device, world),
+        Err(WordsFault::Usage) => Status::Usage,
+        Err(WordsFault::Memory) => Status::Memory,
     }
 }
 
@@ -95,8 +97,9 @@ pub fn arrakis<W: Outside>(alloc: Global, words: &[String], world: &mut W) -> St
     // How it ends, and what the outside tells then: output, device events and script.
     ensures does { Does (map string_bytes words.now) (W.told world.old) (W.told world.new) (W.beside world.old) (W.beside world.new) result }
 
-    // When each status comes; want of memory may come before a device is made.
-    ensures usage { (result ≡ Status.Usage) ↔ ((blocks : ℕ) (device : List ℕ) → IsRun (map string_bytes words.now) blocks device → ⊥) }
+    // When each status comes; want of memory may come before a device is made, also where the words are no command.
+    ensures usage { result ≡ Status.Usage → (blocks : ℕ) (device : List ℕ) → IsRun (map string_bytes words.now) blocks device → ⊥ }
+    ensures no_command { ((blocks : ℕ) (device : List ℕ) → IsRun (map string_bytes words.now) blocks device → ⊥) → (result ≡ Status.Usage) ⊎ (result ≡ Status.Memory) }
     ensures source { result ≡ Status.Source → Rose (W.beside world.old).source_faults (W.beside world.new).source_faults }
     ensures sink { result ≡ Status.Sink → Rose (W.beside world.old).sink_faults (W.beside world.new).sink_faults }
     ensures device { result ≡ Status.Device → Rose (W.beside world.old).attach_faults (W.beside world.new).attach_faults ⊎ Rose (W.told world.old).faults (W.told world.new).faults }
