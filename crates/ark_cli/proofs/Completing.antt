@@ -7,8 +7,8 @@ use Rattle.ark_media.specs.Calls.{Told, Beside, Script, Takes}
 use Rattle.ark_cli.specs.Words.{IsRun}
 use Rattle.ark_cli.specs.Line.{limit}
 use Rattle.ark_cli.specs.Complete.{IsUntroubled, HasShortScript}
-use Rattle.ark_cli.specs.Ending.{IsClosed, Does, no_command, no_memory, no_device, runs, IsCause}
-use Rattle.ark_cli.proofs.Closing.{usage_exact}
+use Rattle.ark_cli.specs.Ending.{IsClosed, Does, no_command, unread, no_memory, no_device, runs, IsCause}
+use Rattle.ark_cli.proofs.Closing.{usage_only}
 
 -- more bytes than are run cannot be taken of a short script
 takes_few : (before after : Option Script) (bytes : List ℕ) → HasShortScript before after → Takes before after bytes → length bytes ≤ limit
@@ -26,6 +26,7 @@ module _ (words : List (List ℕ)) (size : ℕ) (device : List ℕ) (run : IsRun
 
   never_long : Does words t0 t1 b0 b1 Long → ⊥
   never_long (no_command is none quiet) = cc
+  never_long (unread is quiet) = cc
   never_long (no_memory n d is run quiet) = cc
   never_long (no_device n d is run refused) = cc
   never_long (runs n d run closed) = not_long n closed
@@ -33,7 +34,7 @@ module _ (words : List (List ℕ)) (size : ℕ) (device : List ℕ) (run : IsRun
   pub complete : (status : Status) → Does words t0 t1 b0 b1 status → IsCause t0 t1 b0 b1 status → (status ≡ Done) ⊎ (status ≡ Memory)
   complete Done d h = inl refl
   complete Memory d h = inr refl
-  complete Usage d h = absurd ((usage_exact words t0 t1 b0 b1 Usage d).0 refl size device run)
+  complete Usage d h = absurd (usage_only words t0 t1 b0 b1 Usage d refl size device run)
   complete Source d h = absurd (quiet.source h)
   complete Sink d h = absurd (quiet.sink h)
   complete Device d (inl h) = absurd (quiet.attach h)
