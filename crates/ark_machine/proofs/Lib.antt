@@ -26,3 +26,5 @@ pub mod Labels
 pub mod Lawful
 pub mod Ranks
 pub mod Told
+pub mod Grants
+pub mod Granted
