@@ -28,3 +28,4 @@ pub mod Ranks
 pub mod Told
 pub mod Grants
 pub mod Granted
+pub mod Owned
