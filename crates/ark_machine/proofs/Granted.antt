@@ -22,7 +22,7 @@ use Rattle.ark_machine.specs.Plane.{Plane, LiveFilter, Change, makes, grows, dro
 use Rattle.ark_machine.specs.Granting.{new_slot, with_more, without_slot, with_change, with_failed, changed, failed_change, change_of, with_granted, after_refusal, plane_after}
 use Rattle.ark_machine.specs.Step.{step}
 use Rattle.ark_machine.specs.System.{System, Turn, machine_of, owner, takes, nic_turn, taken_turn, wire_turn, common_turn, owned_turn, line_turn}
-use Rattle.ark_machine.specs.Grants.{has_block, has_index, AreApart, GrantsApart}
+use Rattle.ark_machine.specs.Grants.{has_block, has_index, SlotsApart, GrantsApart}
 use Rattle.ark_machine.proofs.Listed.{same_bytes, bytes_eq-same}
 use Rattle.ark_machine.proofs.Grants.{or_false, clash, lowest_free, free_index, apart_more, apart_selected, apart_grown}
 
@@ -34,7 +34,7 @@ makes_apart p a s k n h room = apart_more p.slots (new_slot p a s k n) h (free_i
 grows_apart : (p : Plane) (n : ℕ) (t : Slot) → GrantsApart p → GrantsApart (with_change p (grows t (lowest p n)))
 grows_apart p n t h = apart_grown t.index (lowest p n) p.slots h (λ b e. lowest_free p n b e)
 
-drops_apart : (t : Slot) (ss : List Slot) → AreApart ss → AreApart (without_slot t ss)
+drops_apart : (t : Slot) (ss : List Slot) → SlotsApart ss → SlotsApart (without_slot t ss)
 drops_apart t ss h = apart_selected (λ x. not (x.index == t.index)) ss h
 
 -- a new slot has room
@@ -167,7 +167,7 @@ in_found q (s ∷ ss) n h = by (q s) h (in_found q ss n)
     by true e next = front (has_block s.blocks n) (is_granted ss n) e
     by false e next = back (has_block s.blocks n) (is_granted ss n) (next e)
 
-two_apart : (ss : List Slot) (a b l k : List ℕ) (n : ℕ) → AreApart ss → bytes_eq a b ≡ false → has_block (unwrap_or (option_map (λ t. t.blocks) (find (λ t. is_slot_of a l t) ss)) []) n ≡ true
+two_apart : (ss : List Slot) (a b l k : List ℕ) (n : ℕ) → SlotsApart ss → bytes_eq a b ≡ false → has_block (unwrap_or (option_map (λ t. t.blocks) (find (λ t. is_slot_of a l t) ss)) []) n ≡ true
     → has_block (unwrap_or (option_map (λ t. t.blocks) (find (λ t. is_slot_of b k t) ss)) []) n ≡ true → ⊥
 two_apart [] a b l k n h apart one two = false≢true one
 two_apart (s ∷ ss) a b l k n h apart one two = by (is_slot_of a l s) (is_slot_of b k s) refl refl one two (two_apart ss a b l k n h.1 apart)

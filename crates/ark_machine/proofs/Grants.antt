@@ -11,7 +11,7 @@ use Rattle.ark_base.specs.declared.refusal.Refusal.TheVariants as r
 use Rattle.ark_table.specs.Slots.{Slot}
 use Rattle.ark_machine.specs.Plane.{Plane, Change, makes, grows, drops, is_granted, free_blocks, free_slot_from, free_slot, max_slots, lowest, is_slot_of, slot_of, blocks_at}
 use Rattle.ark_machine.specs.Granting.{new_slot, with_more, without_slot, with_change}
-use Rattle.ark_machine.specs.Grants.{has_block, has_index, AreApart, GrantsApart}
+use Rattle.ark_machine.specs.Grants.{has_block, has_index, SlotsApart, GrantsApart}
 use Rattle.ark_machine.proofs.Listed.{same_bytes}
 
 or_true : (b c : Bool) → (b || c) ≡ true → (b ≡ true) ⊎ (c ≡ true)
@@ -22,13 +22,13 @@ pub or_false : (b c : Bool) → (b || c) ≡ false → (b ≡ false) × (c ≡ f
 or_false true c h = absurd (false≢true (sym h))
 or_false false c h = (refl, h)
 
-or_both : (b c : Bool) → b ≡ false → c ≡ false → (b || c) ≡ false
+pub or_both : (b c : Bool) → b ≡ false → c ≡ false → (b || c) ≡ false
 or_both b c h k = rw (h, k) refl
 
 pub clash : {b : Bool} → b ≡ true → b ≡ false → ⊥
 clash h k = false≢true (sym k ∙ h)
 
-not_true : (b : Bool) → (b ≡ true → ⊥) → b ≡ false
+pub not_true : (b : Bool) → (b ≡ true → ⊥) → b ≡ false
 not_true true h = absurd (h refl)
 not_true false h = refl
 
@@ -121,7 +121,7 @@ other_index i j h = not_true (j == i) (λ e. clash (subst (λ k. (k == j) ≡ tr
     same : (k : ℕ) → (k == k) ≡ true
     same k = grind (arith, nat_tests)
 
-pub apart_more : (ss : List Slot) (t : Slot) → AreApart ss → has_index ss t.index ≡ false → ((n : ℕ) → has_block t.blocks n ≡ true → is_granted ss n ≡ false) → AreApart (ss ++ t ∷ [])
+pub apart_more : (ss : List Slot) (t : Slot) → SlotsApart ss → has_index ss t.index ≡ false → ((n : ℕ) → has_block t.blocks n ≡ true → is_granted ss n ≡ false) → SlotsApart (ss ++ t ∷ [])
 apart_more [] t h i free = ((refl, λ n k. refl), tt)
 apart_more (s ∷ ss) t h i free =
     let apart = or_false (s.index == t.index) (has_index ss t.index) i in
@@ -141,11 +141,11 @@ none_selected f q (s ∷ ss) h =
     let rest : list_any f (select q ss) ≡ false = none_selected f q ss apart.1 in
     elim (q s) as (λ b. list_any f (cond b (s ∷ select q ss) (select q ss)) ≡ false) [ true ↦ or_both (f s) (list_any f (select q ss)) apart.0 rest | false ↦ rest ]
 
-pub apart_selected : (q : Slot → Bool) (ss : List Slot) → AreApart ss → AreApart (select q ss)
+pub apart_selected : (q : Slot → Bool) (ss : List Slot) → SlotsApart ss → SlotsApart (select q ss)
 apart_selected q [] h = tt
 apart_selected q (s ∷ ss) h =
-    let rest : AreApart (select q ss) = apart_selected q ss h.1 in
-    elim (q s) as (λ b. AreApart (cond b (s ∷ select q ss) (select q ss))) [
+    let rest : SlotsApart (select q ss) = apart_selected q ss h.1 in
+    elim (q s) as (λ b. SlotsApart (cond b (s ∷ select q ss) (select q ss))) [
       | true ↦ ((none_selected (λ x. x.index == s.index) q ss h.0.0, λ n k. none_selected (λ x. has_block x.blocks n) q ss (h.0.1 n k)), rest)
       | false ↦ rest
     ]
@@ -207,7 +207,7 @@ module _ (k : ℕ) (more : List ℕ) where
       by true g next = three next (first_of (or_true (has_block (s.blocks ++ more) n) (is_granted (map grown ss) n) g))
       by false g next = two next (or_true (has_block s.blocks n) (is_granted (map grown ss) n) g)
 
-  pub apart_grown : (ss : List Slot) → AreApart ss → ((n : ℕ) → has_block more n ≡ true → is_granted ss n ≡ false) → AreApart (map grown ss)
+  pub apart_grown : (ss : List Slot) → SlotsApart ss → ((n : ℕ) → has_block more n ≡ true → is_granted ss n ≡ false) → SlotsApart (map grown ss)
   apart_grown [] h free = tt
   apart_grown (s ∷ ss) h free = (by (s.index == k) refl, apart_grown ss h.1 (λ n e. (or_false (has_block s.blocks n) (is_granted ss n) (free n e)).1))
     where

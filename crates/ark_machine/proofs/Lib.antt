@@ -29,3 +29,4 @@ pub mod Told
 pub mod Grants
 pub mod Granted
 pub mod Owned
+pub mod Stored

@@ -11,9 +11,9 @@ abbrev pub has_index : List Slot → ℕ → Bool
 has_index slots i = list_any (λ s. s.index == i) slots
 
 -- each slot has an index of its own, and its blocks are in no other
-abbrev pub AreApart : List Slot → Type 0
-AreApart [] = Unit {0}
-AreApart (s ∷ ss) = ((has_index ss s.index ≡ false) × ((n : ℕ) → has_block s.blocks n ≡ true → is_granted ss n ≡ false)) × AreApart ss
+abbrev pub SlotsApart : List Slot → Type 0
+SlotsApart [] = Unit {0}
+SlotsApart (s ∷ ss) = ((has_index ss s.index ≡ false) × ((n : ℕ) → has_block s.blocks n ≡ true → is_granted ss n ≡ false)) × SlotsApart ss
 
 abbrev pub GrantsApart : Plane → Type 0
-GrantsApart p = AreApart p.slots
+GrantsApart p = SlotsApart p.slots
