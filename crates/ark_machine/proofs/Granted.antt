@@ -1,9 +1,8 @@
 -- Every line keeps it that no block is granted twice.
-use Rattle.std.proofs.Common.{◌≡◌, ◌<◌, ◌⊎◌, inl, inr, ℕ, zero, suc, ◌+◌, Bool, true, false, not, List, [], ◌∷◌, ◌++◌, ◌||◌, ◌&&◌, map, length, refl, sym, ◌∙◌, ap, subst, arith, cond, ◌==◌}
+use Rattle.std.proofs.Common.{◌≡◌, ◌<◌, ℕ, zero, suc, Bool, true, false, not, List, [], ◌∷◌, ◌||◌, length, refl, sym, ◌∙◌, subst, arith, cond, ◌==◌}
 use Rattle.std.proofs.lemmas.Bool.{false≢true, and_parts}
 use Rattle.std.proofs.lemmas.Bool.Decides.{nat_tests}
-use Rattle.std.specs.Prelude.{Option, Some, None, option_map, find, filter as select, unwrap_or, bytes_eq, nat_le, Contains}
-use Rattle.std.specs.List.{list_any}
+use Rattle.std.specs.Prelude.{Option, Some, None, option_map, find, unwrap_or, bytes_eq, nat_le, Contains}
 use Rattle.ark_base.specs.Conditions.{Conditions, early, late, when, when_some}
 use Rattle.ark_base.specs.declared.refusal.Refusal.{Refusal}
 use Rattle.ark_base.specs.declared.refusal.Refusal.TheVariants as r
@@ -15,14 +14,14 @@ use Rattle.ark_script.specs.Line.{Line}
 use Rattle.ark_script.specs.declared.said.Said.{Said}
 use Rattle.ark_script.specs.declared.said.Said.TheVariants as said
 use Rattle.ark_machine.specs.Objects.{is_vsa}
-use Rattle.ark_machine.specs.Machine.{Machine, unmade, object_at, is_full, count_of}
+use Rattle.ark_machine.specs.Machine.{Machine, object_at, is_full, count_of}
 use Rattle.ark_machine.specs.Areas.{max_areas}
-use Rattle.ark_machine.specs.Row.{Row, Given, Ended, says, answer, unless_refused}
-use Rattle.ark_machine.specs.Plane.{Plane, LiveFilter, Change, makes, grows, drops, is_granted, free_slot, max_slots, lowest, is_slot_of, slot_of, blocks_at, asked, granted, recorded}
-use Rattle.ark_machine.specs.Granting.{new_slot, with_more, without_slot, with_change, with_failed, changed, failed_change, change_of, with_granted, after_refusal, plane_after}
+use Rattle.ark_machine.specs.Row.{Row, Given, Ended, answer, unless_refused}
+use Rattle.ark_machine.specs.Plane.{Plane, LiveFilter, Change, makes, grows, drops, is_granted, max_slots, lowest, is_slot_of, slot_of, blocks_at, asked, granted, recorded}
+use Rattle.ark_machine.specs.Granting.{new_slot, without_slot, with_change, changed, failed_change, change_of, with_granted, after_refusal, plane_after}
 use Rattle.ark_machine.specs.Step.{step}
-use Rattle.ark_machine.specs.System.{System, Turn, machine_of, owner, takes, nic_turn, taken_turn, wire_turn, common_turn, owned_turn, line_turn}
-use Rattle.ark_machine.specs.Grants.{has_block, has_index, SlotsApart, GrantsApart}
+use Rattle.ark_machine.specs.System.{System, machine_of, owner, takes, nic_turn, taken_turn, wire_turn, common_turn, owned_turn, line_turn}
+use Rattle.ark_machine.specs.Grants.{has_block, SlotsApart, GrantsApart}
 use Rattle.ark_machine.proofs.Listed.{same_bytes, bytes_eq-same}
 use Rattle.ark_machine.proofs.Grants.{or_false, clash, lowest_free, free_index, apart_more, apart_selected, apart_grown}
 

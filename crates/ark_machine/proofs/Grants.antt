@@ -1,18 +1,14 @@
 -- No block is granted twice, and every line keeps that.
-use Rattle.std.proofs.Common.{◌≡◌, ◌≤◌, ◌<◌, ◌⊎◌, inl, inr, ℕ, zero, suc, ◌+◌, ◌-◌, Bool, true, false, not, List, [], ◌∷◌, ◌++◌, ◌||◌, ◌&&◌, map, length, take, refl, sym, ◌∙◌, ap, subst, arith, cond, ◌==◌, eqb-true}
-use Rattle.std.proofs.lemmas.Bool.{false≢true, and_parts}
+use Rattle.std.proofs.Common.{◌≡◌, ◌≤◌, ◌<◌, ◌⊎◌, inl, inr, ℕ, zero, suc, ◌+◌, ◌-◌, Bool, true, false, not, List, [], ◌∷◌, ◌++◌, ◌||◌, map, length, take, refl, sym, ◌∙◌, ap, subst, arith, cond, ◌==◌, eqb-true}
+use Rattle.std.proofs.lemmas.Bool.{false≢true}
 use Rattle.std.proofs.lemmas.Bool.Decides.{nat_tests}
 use Rattle.std.proofs.lemmas.List.Folds.{list_any-append}
-use Rattle.std.specs.Prelude.{Option, Some, None, option_map, find, filter as select, unwrap_or, bytes_eq, nat_le, nat_lt}
+use Rattle.std.specs.Prelude.{filter as select, nat_le}
 use Rattle.std.specs.List.{list_any, range_with_len}
-use Rattle.ark_base.specs.Conditions.{Conditions, early, late, when, when_some}
-use Rattle.ark_base.specs.declared.refusal.Refusal.{Refusal}
-use Rattle.ark_base.specs.declared.refusal.Refusal.TheVariants as r
 use Rattle.ark_table.specs.Slots.{Slot}
-use Rattle.ark_machine.specs.Plane.{Plane, Change, makes, grows, drops, is_granted, free_blocks, free_slot_from, free_slot, max_slots, lowest, is_slot_of, slot_of, blocks_at}
-use Rattle.ark_machine.specs.Granting.{new_slot, with_more, without_slot, with_change}
-use Rattle.ark_machine.specs.Grants.{has_block, has_index, SlotsApart, GrantsApart}
-use Rattle.ark_machine.proofs.Listed.{same_bytes}
+use Rattle.ark_machine.specs.Plane.{Plane, is_granted, free_blocks, free_slot_from, max_slots, lowest}
+use Rattle.ark_machine.specs.Granting.{with_more}
+use Rattle.ark_machine.specs.Grants.{has_block, has_index, SlotsApart}
 
 or_true : (b c : Bool) → (b || c) ≡ true → (b ≡ true) ⊎ (c ≡ true)
 or_true true c h = inl refl
@@ -124,8 +120,7 @@ other_index i j h = not_true (j == i) (λ e. clash (subst (λ k. (k == j) ≡ tr
 pub apart_more : (ss : List Slot) (t : Slot) → SlotsApart ss → has_index ss t.index ≡ false → ((n : ℕ) → has_block t.blocks n ≡ true → is_granted ss n ≡ false) → SlotsApart (ss ++ t ∷ [])
 apart_more [] t h i free = ((refl, λ n k. refl), tt)
 apart_more (s ∷ ss) t h i free =
-    let apart = or_false (s.index == t.index) (has_index ss t.index) i in
-    (
+    let apart = or_false (s.index == t.index) (has_index ss t.index) i in (
       (
         list_any-append (λ x. x.index == s.index) ss (t ∷ []) ∙ or_both (has_index ss s.index) ((t.index == s.index) || false) h.0.0 (or_both (t.index == s.index) false (other_index s.index t.index apart.0) refl),
         λ n k. list_any-append (λ x. has_block x.blocks n) ss (t ∷ []) ∙ or_both (is_granted ss n) (has_block t.blocks n || false) (h.0.1 n k)

@@ -1,11 +1,11 @@
 -- What a line may read or write is in the areas of its own application, or new, or its slot.
-use Rattle.std.proofs.Common.{◌≡◌, ◌⊎◌, inl, inr, ℕ, zero, suc, Bool, true, false, List, [], ◌∷◌, ◌++◌, refl, sym, ◌∙◌, ap, subst, arith, cond}
+use Rattle.std.proofs.Common.{◌≡◌, ◌⊎◌, inl, inr, ℕ, zero, suc, Bool, true, false, List, [], ◌∷◌, sym, ◌∙◌, ap, subst, arith, cond}
 use Rattle.std.proofs.lemmas.List.Elements.{Contains-append_cases}
-use Rattle.std.specs.Prelude.{Option, Some, None, bytes_eq, Contains}
+use Rattle.std.specs.Prelude.{Option, Some, bytes_eq, Contains}
 use Rattle.std.specs.List.{flat_map}
 use Rattle.ark_script.specs.Line as w
 use Rattle.ark_script.specs.Line.{Line}
-use Rattle.ark_machine.specs.Machine.{Machine, Held, label_numbered}
+use Rattle.ark_machine.specs.Machine.{Held, label_numbered}
 use Rattle.ark_machine.specs.Control.{is_open_on}
 use Rattle.ark_machine.specs.Plane.{blocks_at, granted}
 use Rattle.ark_machine.specs.System.{System, machine_of, owner}

@@ -1,10 +1,10 @@
 -- The slots that are read from an image share no block.
-use Rattle.std.proofs.Common.{◌≡◌, ◌<◌, ◌⊎◌, inl, inr, ℕ, zero, suc, ◌+◌, Bool, true, false, not, List, [], ◌∷◌, ◌++◌, ◌&&◌, ◌||◌, map, length, take, drop, refl, sym, ◌∙◌, ap, subst, arith, cond, ◌==◌, eqb-true}
+use Rattle.std.proofs.Common.{◌≡◌, ◌<◌, inl, inr, ℕ, suc, ◌+◌, Bool, true, false, not, List, [], ◌∷◌, ◌++◌, ◌&&◌, ◌||◌, map, length, take, drop, refl, sym, subst, arith, ◌==◌, eqb-true}
 use Rattle.std.proofs.lemmas.Bool.{false≢true, and_parts}
 use Rattle.std.proofs.lemmas.Bool.Decides.{nat_tests}
 use Rattle.std.proofs.lemmas.List.{map-append}
 use Rattle.std.specs.Prelude.{Result, Ok, Err, Contains, nat_le}
-use Rattle.std.specs.List.{AllByRecursion, list_all, list_any}
+use Rattle.std.specs.List.{AllByRecursion, list_all}
 use Rattle.ark_base.specs.declared.block.Span.{Span}
 use Rattle.ark_extents.specs.Blocks.{blocks_of}
 use Rattle.ark_extents.specs.Runs.{are_apart}
@@ -16,7 +16,6 @@ use Rattle.ark_table.specs.Slots.{Slot, slot_at, Held, share_no_block, is_same, 
 use Rattle.ark_machine.specs.Plane.{is_granted}
 use Rattle.ark_machine.specs.Grants.{has_block, has_index, SlotsApart}
 use Rattle.ark_machine.proofs.Grants.{or_both, not_true, apart_more}
-use Rattle.ark_machine.proofs.Granted.{has_of}
 
 abbrev slot : Held → Slot
 slot h = slot_at h.index h.area
@@ -70,8 +69,7 @@ area_stands : (i : ℕ) (held : List Held) (a : Area) (b : Bool) → goes_with h
 area_stands i held a false is h = tt
 area_stands i held a true is h =
     let x : Held = record { index = i; area = a } in
-    let goes = (and_parts (list_all (λ y. share_no_block a.runs y.area.runs && not (is_same a y.area)) held) (nat_le (count_of a.app held + 1) 8) is).0 in
-    (
+    let goes = (and_parts (list_all (λ y. share_no_block a.runs y.area.runs && not (is_same a y.area)) held) (nat_le (count_of a.app held + 1) 8) is).0 in (
       subst SlotsApart (sym (map-append slot held (x ∷ []))) (apart_more (map slot held) (slot x) h.0 (no_index i held h.1) (λ n e. goes_apart held a n goes (of_has (blocks_of a.runs) n e))),
       below_more (i + 1) held x (below_next i held h.1) (omega arith),
     )
