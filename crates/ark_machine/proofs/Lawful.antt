@@ -1,7 +1,7 @@
 -- The laws of the definitions at worked scripts: each premise is met.
 use Rattle.std.proofs.Common.{◌≡◌, ℕ, false, List, [], ◌∷◌, ◌++◌, map, codes, refl}
 use Rattle.std.specs.Fmt.{digits}
-use Rattle.std.specs.Prelude.{Ok, Some, None}
+use Rattle.std.specs.Prelude.{Ok, Some, None, Contains}
 use Rattle.hex.specs.Hex.{encode_with}
 use Rattle.ark_base.specs.declared.kind.Kind.TheVariants as kind
 use Rattle.ark_base.specs.declared.refusal.Refusal.TheVariants as r
@@ -21,11 +21,16 @@ use Rattle.ark_machine.specs.Follow.{ended, ends_of}
 use Rattle.ark_machine.specs.Replies.{Answers, EachAnswers}
 use Rattle.ark_machine.specs.Sending.{IsLetOut, AllKeep}
 use Rattle.ark_machine.specs.Paced.{StandsPaced}
+use Rattle.ark_machine.specs.Plane.{blocks_at}
+use Rattle.ark_machine.specs.Confined.{readable}
+use Rattle.ark_machine.specs.Grants.{GrantsApart}
 use Rattle.ark_machine.specs.Private.{Play, inputs_of, replies_to, private_replies}
 use Rattle.ark_machine.specs.Told.{plays_of, outputs_to, text_of}
 use Rattle.ark_machine.proofs.Playing.{Played, turn_played, replies, played}
-use Rattle.ark_machine.proofs.Scripts.{quiet, app}
+use Rattle.ark_machine.proofs.Scripts.{quiet, app, area, granting}
 use Rattle.ark_machine.proofs.Areas.{failed_grant}
+use Rattle.ark_machine.proofs.Granted.{line_apart}
+use Rattle.ark_machine.proofs.Owned.{no_other_read}
 use Rattle.ark_machine.proofs.Sent.{line_sends, line_paced, paced_keep}
 use Rattle.ark_machine.proofs.Privacy.{others_left, replies_alike}
 use Rattle.ark_machine.proofs.Told.{outputs_private}
@@ -115,6 +120,32 @@ paced = played_paced (fresh_system 200) (two_frames ++ quiet (w.dev a v) ∷ [])
 
 pub keep : AllKeep (played (fresh_system 200) (two_frames ++ quiet (w.dev a v) ∷ []))
 keep = paced_keep (played (fresh_system 200) (two_frames ++ quiet (w.dev a v) ∷ [])) paced
+
+-- Grants.
+
+-- areas of two applications
+abbrev two_areas : List Played
+two_areas =
+    app a
+    ∷ app b
+    ∷ (w.vsa a s 2 kind.Raw, granting (area 1 a s kind.Raw 129 2))
+    ∷ (w.vsa b s 2 kind.Raw, granting (area 2 b s kind.Raw 131 2))
+    ∷ []
+
+abbrev shared : System
+shared = played (fresh_system 200) two_areas
+
+played_apart : (t : System) (ps : List Played) → GrantsApart t.plane → GrantsApart (played t ps).plane
+played_apart t [] h = h
+played_apart t (p ∷ ps) h = played_apart (turn_played t p).after ps (line_apart t p.0 (ends_of p.1) false h)
+
+pub both_granted : (blocks_at shared.plane a s ≡ 129 ∷ 130 ∷ []) × (blocks_at shared.plane b s ≡ 131 ∷ 132 ∷ [])
+unfolding step answer
+both_granted = (refl, refl)
+
+-- a look at the one reads nothing of the other
+pub not_read : (k : ℕ) → Contains (readable shared (w.peek a s 0)) k → Contains (blocks_at shared.plane b s) k → ⊥
+not_read k = no_other_read shared (w.peek a s 0) a b s k (played_apart (fresh_system 200) two_areas tt) refl refl
 
 -- Privacy.
 

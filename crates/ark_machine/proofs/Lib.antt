@@ -8,6 +8,8 @@ pub mod Early
 pub mod FailedGrant
 pub mod Faults
 pub mod Frames
+pub mod Granted
+pub mod Grants
 pub mod Images
 pub mod Labels
 pub mod Lawful
@@ -17,6 +19,7 @@ pub mod Listed
 pub mod Logs
 pub mod Network
 pub mod Overlaps
+pub mod Owned
 pub mod Paced
 pub mod Playing
 pub mod Privacy
@@ -39,6 +42,7 @@ pub mod Sent
 pub mod Sockets
 pub mod Steady
 pub mod Stops
+pub mod Stored
 pub mod Told
 pub mod Touching
 pub mod Transfers

@@ -7,7 +7,6 @@ use Rattle.ark_machine.specs.Row.{Given}
 -- nothing is given
 abbrev pub nothing_given : Given
 nothing_given = record {
-  name_taken = false;
   limit = false;
   no_nic = false;
   no_space = false;

@@ -30,3 +30,4 @@ pub mod Asked
 pub mod Private
 pub mod Ranks
 pub mod Told
+pub mod Grants

@@ -1,9 +1,9 @@
 // Laws of the definitions, each the contract of a function that does nothing.
-ghost use Rattle.std.specs.Prelude.{◌≡◌, ◌≤◌, ◌++◌, ℕ, Bool, true, false, List, [], ◌∷◌, Some, None, Ok, bytes_eq, length, map};
+ghost use Rattle.std.specs.Prelude.{◌≡◌, ◌≤◌, ◌++◌, ℕ, Bool, true, false, List, [], ◌∷◌, Some, None, Ok, Contains, bytes_eq, length, map};
 ghost use Rattle.ark_base.specs.Conditions.{Conditions, first};
 ghost use Rattle.ark_base.specs.declared.refusal.Refusal.{Refusal};
 ghost use Rattle.ark_media.specs.Journal.{Event};
-ghost use Rattle.ark_table.specs.Slots.{Slot};
+ghost use Rattle.ark_table.specs.Slots.{Slot, slots_of};
 ghost use Rattle.ark_script.specs.Line as w;
 ghost use Rattle.ark_script.specs.Line.{Line};
 ghost use Rattle.ark_script.specs.Lines.{Meaning};
@@ -13,11 +13,13 @@ ghost use Rattle.ark_machine.specs.Row.{Row, Ended, answer, synced_by};
 ghost use Rattle.ark_machine.specs.System.{System, fresh_system, machine_of, owner, line_turn};
 ghost use Rattle.ark_machine.specs.Sockets.{sent_reaped};
 ghost use Rattle.ark_machine.specs.Start.{start_system};
-ghost use Rattle.ark_machine.specs.Follow.{PerformsFor};
+ghost use Rattle.ark_machine.specs.Plane.{Plane, blocks_at, granted};
+ghost use Rattle.ark_machine.specs.Follow.{PerformsFor, slot_index};
+ghost use Rattle.ark_machine.specs.Grants.{GrantsApart};
 ghost use Rattle.ark_machine.specs.Replies.{Answers, EachAnswers, turn_for, system_after, Replies};
 ghost use Rattle.ark_machine.specs.Sending.{IsLetOut, AllKeep};
 ghost use Rattle.ark_machine.specs.Paced.{StandsPaced};
-ghost use Rattle.ark_machine.specs.Confined.{AllAllowed, EndsAtFailure, Confined};
+ghost use Rattle.ark_machine.specs.Confined.{AllAllowed, EndsAtFailure, Confined, readable, writable};
 ghost use Rattle.ark_machine.specs.Private.{Play, after_plays, inputs_of, replies_to, private_replies, private_machine};
 ghost use Rattle.ark_machine.specs.Told.{plays_of, outputs_to, text_of, own_slots, area_in, with_areas};
 ghost use Rattle.ark_machine.specs.Ranks.{rank, Holds};
@@ -36,6 +38,18 @@ pub fn confinement_laws()
     ensures fresh { (size : ℕ) → StandsPaced (fresh_system size) }
     ensures stored { (image : List (List ℕ)) (slots : List Slot) → StandsPaced (start_system image slots) }
     ensures confined { (s : System) (lines : List (List ℕ)) (whole : List (List Event)) (unfinished : List Event) → StandsPaced s → Replies s lines whole unfinished → Confined s lines whole unfinished }
+{}
+
+/// No block is granted twice: not in the slots that are read from an image, nor after a line if not before it, and a new block
+/// is in no area. So a line reads no block of another application's area, and writes none but where its slot stands.
+pub fn grant_laws()
+    ensures fresh { (size : ℕ) → GrantsApart (fresh_system size).plane }
+    ensures stored { (image : List (List ℕ)) (slots : List Slot) → slots_of image ≡ Ok slots → GrantsApart (start_system image slots).plane }
+    ensures kept { (s : System) (line : Line) (ends : List Ended) (memory : Bool) → GrantsApart s.plane → GrantsApart (line_turn s line ends memory).after.plane }
+    ensures apart { (p : Plane) (a b l k : List ℕ) (n : ℕ) → GrantsApart p → bytes_eq a b ≡ false → Contains (blocks_at p a l) n → Contains (blocks_at p b k) n → ⊥ }
+    ensures new_blocks { (p : Plane) (line : Line) (b k : List ℕ) (n : ℕ) → Contains (granted p line) n → Contains (blocks_at p b k) n → ⊥ }
+    ensures reads { (s : System) (line : Line) (a b l : List ℕ) (n : ℕ) → GrantsApart s.plane → owner line ≡ Some a → bytes_eq a b ≡ false → Contains (readable s line) n → Contains (blocks_at s.plane b l) n → ⊥ }
+    ensures writes { (s : System) (line : Line) (a b l : List ℕ) (n : ℕ) → GrantsApart s.plane → owner line ≡ Some a → bytes_eq a b ≡ false → Contains (writable s line) n → Contains (blocks_at s.plane b l) n → n ≡ slot_index s.plane a line }
 {}
 
 /// Applications are apart. A line of one leaves the machine of each other as it is. In a run, whatever other lines stand in it,

@@ -4,4 +4,6 @@
 
 mod laws;
 
-pub use laws::{confinement_laws, fault_laws, order_laws, privacy_laws, refusal_laws, run_laws};
+pub use laws::{
+    confinement_laws, fault_laws, grant_laws, order_laws, privacy_laws, refusal_laws, run_laws,
+};
