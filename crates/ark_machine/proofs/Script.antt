@@ -2,6 +2,7 @@
 use Rattle.std.specs.Prelude.{◌≡◌, ℕ, Bool, true, false, List, [], ◌∷◌, ◌++◌, codes, None, refl, Ok, Err}
 use Rattle.std.proofs.Common.{lit≤}
 use Rattle.std.proofs.lemmas.Bool.{false≢true}
+use Rattle.ark_base.specs.declared.kind.Kind.TheVariants as kind
 use Rattle.ark_base.specs.declared.refusal.Refusal.TheVariants as r
 use Rattle.ark_media.specs.Journal.{Event, Write, Sync, Out}
 use Rattle.ark_media.specs.Parts.{parts}
@@ -12,7 +13,7 @@ use Rattle.ark_script.specs.declared.said.Said.{Said}
 use Rattle.ark_script.specs.declared.said.Said.TheVariants as said
 use Rattle.ark_machine.specs.Step.{step}
 use Rattle.ark_machine.specs.Row.{answer}
-use Rattle.ark_machine.specs.System.{System, fresh_system}
+use Rattle.ark_machine.specs.System.{System, fresh_system, line_turn}
 use Rattle.ark_machine.specs.Built.{turn}
 use Rattle.ark_machine.specs.Follow.{ended}
 use Rattle.ark_machine.specs.Replies.{Replies}
@@ -98,3 +99,31 @@ run_is = record {
   );
   begins = refl;
 }
+
+-- Lines by the rows alone, whether their words are built or not.
+
+abbrev words_of_lines : System → List w.Line → List Said
+words_of_lines s [] = []
+words_of_lines s (line ∷ lines) = (line_turn s line [] false).said ∷ words_of_lines (line_turn s line [] false).after lines
+
+-- what is asked of an application that is not made, made twice, and of a card before this end has its addresses
+pub first_lines : words_of_lines (fresh_system 200)
+    (w.peek (codes "a") (codes "s") 0 ∷ w.app (codes "a") None ∷ w.app (codes "a") None ∷ w.vnic (codes "a") (codes "n") 2 2 ∷ w.tick 5 ∷ [])
+    ≡ said.Refused r.NoApplication ∷ said.Ok ∷ said.Refused r.NameTaken ∷ said.Refused r.NoNic ∷ said.Num 5 ∷ []
+unfolding step answer
+first_lines = refl
+
+abbrev a : List ℕ
+a = codes "a"
+
+abbrev b : List ℕ
+b = codes "b"
+
+-- the lines with which the script of `work` begins, on a device of 4,096 blocks, are all accepted
+pub prelude : words_of_lines (fresh_system 4096)
+    (w.app a None ∷ w.app b None ∷ w.vsic a (codes "v") 8 ∷ w.vsic b (codes "v") 8 ∷ w.vsa a (codes "r") 32 kind.Raw ∷ w.vsa b (codes "r") 32 kind.Raw
+    ∷ w.bind a (codes "v") (codes "r") ∷ w.bind b (codes "v") (codes "r") ∷ w.buf a (codes "m") 1024 ∷ w.buf b (codes "m") 1024 ∷ w.vsic a (codes "w") 4
+    ∷ w.vsa a (codes "l") 64 kind.Log ∷ w.log a (codes "l") (codes "w") ∷ w.vsic b (codes "w") 4 ∷ w.vsa b (codes "q") 64 kind.Queue ∷ w.queue b (codes "q") (codes "w") ∷ [])
+    ≡ said.Ok ∷ said.Ok ∷ said.Ok ∷ said.Ok ∷ said.Ok ∷ said.Ok ∷ said.Ok ∷ said.Ok ∷ said.Ok ∷ said.Ok ∷ said.Ok ∷ said.Ok ∷ said.Pair 1 0 ∷ said.Ok ∷ said.Ok ∷ said.Pair 1 0 ∷ []
+unfolding step answer
+prelude = refl
