@@ -7,9 +7,9 @@ use Rattle.ark_media.specs.Calls.{Told, Adds, Rests}
 use Rattle.ark_media.specs.Parts.{joined}
 use Rattle.ark_media.proofs.Parting.{joined-more, whole_more}
 use Rattle.ark_media.proofs.Composing.{told_before}
-use Rattle.ark_script.specs.Lines.{Meaning, EachSays, lines_of, ended, newlines}
+use Rattle.ark_script.specs.Lines.{Meaning, lines_of, ended, newlines}
 use Rattle.ark_script.specs.Text.{no_newline}
-use Rattle.ark_script.proofs.Lining.{clean_more, lines_of-line, lines_of-last, lines_of-ended, ended-more, each_clean_more, newlines-ended, each_says_more, each_says_count, first_say}
+use Rattle.ark_script.proofs.Lining.{clean_more, lines_of-line, lines_of-last, lines_of-ended, ended-more, each_clean_more, newlines-ended, each_says_more, each_says_count}
 use Rattle.ark_machine.specs.System.{System}
 use Rattle.ark_machine.specs.Replies.{system_after, EachAnswers, IsBegun, Begins, Replies}
 use Rattle.ark_machine.proofs.Runs.{each_more, system_after-more, replies_of, begins_none}
@@ -17,33 +17,10 @@ use Rattle.ark_host.specs.declared.host.Host.{Host}
 use Rattle.ark_host.specs.Stands.{Stands}
 use Rattle.ark_host.proofs.Standing.{stands_rests}
 use Rattle.ark_cli.specs.Line.{kept}
-use Rattle.ark_cli.specs.Cut.{Shows, CutReplies}
+use Rattle.ark_cli.specs.Cut.{CutReplies}
 use Rattle.ark_cli.specs.Session.{IsAnswer, IsCut, AnswersLine, Fed, Replied, Stopped, Feeds, Finishes}
 use Rattle.ark_cli.proofs.Kept.{kept_more, kept_none, kept_empty}
-
--- nothing came of the lines that are left
-shows_none : (s : System) (lines : List (List ℕ)) → Shows s lines []
-shows_none s [] = refl
-shows_none s (line ∷ lines) = inl refl
-
-behind : (lines more : List (List ℕ)) (n : ℕ) → n ≡ length lines → drop n (lines ++ more) ≡ more
-behind [] more n h = rw h refl
-behind (l ∷ lines) more n h = rw h (behind lines more (length lines) refl)
-
--- lines that were answered, and what came of the next one
-cut_replies_of : (s : System) (lines more : List (List ℕ)) (ms : List Meaning) (whole : List (List Event)) (part : List Event) →
-    EachSays lines ms → length whole ≡ length ms → EachAnswers s ms whole → Begins (system_after s ms whole) more (device_events part) → Shows (system_after s ms whole) more part → CutReplies s (lines ++ more) whole part
-cut_replies_of s lines more ms whole part says count each begins shows =
-    let left : more ≡ drop (length whole) (lines ++ more) = sym (behind lines more (length whole) (count ∙ sym (each_says_count lines ms says))) in
-    record {
-      replies = record {
-        meanings = ms;
-        say = first_say lines more ms says;
-        each = each;
-        begins = subst (λ (l : List (List ℕ)). Begins (system_after s ms whole) l (device_events part)) left begins;
-      };
-      shows = subst (λ (l : List (List ℕ)). Shows (system_after s ms whole) l part) left shows;
-    }
+use Rattle.ark_cli.proofs.Cutting.{shows_none, cut_replies_of}
 
 -- whole parts are parts
 pub stopped_replied : (s : System) (script : List ℕ) (added : List Event) (told : Told) (n : ℕ) → Stopped s script added told n → Replied s script added told

@@ -1,14 +1,10 @@
 -- A line that was read and served.
-use Rattle.std.proofs.Common.{◌≡◌, ℕ, ◌<◌, ◌≤◌, List, [], ◌∷◌, length, subst, ◌∙◌}
+use Rattle.std.proofs.Common.{◌≡◌, ℕ, ◌<◌, ◌≤◌, List, [], length, subst, ◌∙◌}
 use Rattle.std.specs.Prelude.{Ok, Err}
 use Rattle.ark_base.specs.declared.refusal.Refusal.{Refusal}
 use Rattle.ark_base.specs.declared.refusal.Refusal.TheVariants.{TooLong}
 use Rattle.ark_media.specs.Journal.{Event}
 use Rattle.ark_media.specs.Calls.{Told}
-use Rattle.ark_script.specs.Words.{words_of}
-use Rattle.ark_script.specs.Arguments.{IsNumber}
-use Rattle.ark_script.specs.Form.{Sentence, One, a_billion}
-use Rattle.ark_script.specs.Line as w
 use Rattle.ark_script.specs.Line.{Line}
 use Rattle.ark_script.specs.Lines.{Says, max_line}
 use Rattle.ark_script.specs.declared.said.Said.{Said}
@@ -16,22 +12,10 @@ use Rattle.ark_script.specs.declared.said.Said.TheVariants.{Refused}
 use Rattle.ark_machine.specs.System.{System}
 use Rattle.ark_host.specs.declared.host.Host.{Host}
 use Rattle.ark_host.specs.Stands.{Stands, Answered}
-use Rattle.ark_host.specs.Time.{IsTimely, most_ticks}
 use Rattle.ark_host.proofs.Words.{refused_at_sight, shown_none}
 use Rattle.ark_cli.specs.Line.{kept}
 use Rattle.ark_cli.specs.Session.{ServesLine}
 use Rattle.ark_cli.proofs.Kept.{kept_same, kept_long}
-
-few_ticks : (n : ℕ) (first : List ℕ) (words : List (List ℕ)) → Sentence first (One (IsNumber 1 a_billion n)) words → n ≤ most_ticks
-few_ticks n first [] h = absurd h
-few_ticks n first (word ∷ []) h = absurd h.1
-few_ticks n first (word ∷ a ∷ []) h = h.1.2
-few_ticks n first (word ∷ a ∷ b ∷ words) h = absurd h.1
-
--- no line that is read lets time go on by too many ticks
-pub timely : (line : List ℕ) (asked : Line) → Says line (Ok asked) → IsTimely asked
-timely line (w.tick n) says = few_ticks n _ (words_of line) says.1
-timely line _ says = tt
 
 module _ (s : System) (whole line : List ℕ) (host : Host) (told : Told) (is : line ≡ kept whole) where
   pub serve_long : (reply : Said) (shown : List ℕ) → reply ≡ Refused TooLong → shown ≡ [] → Stands host told s → max_line < length line → ServesLine s whole [] host told reply shown

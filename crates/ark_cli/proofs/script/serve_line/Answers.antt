@@ -1,10 +1,7 @@
 use Rattle.std.proofs.Common.{[]}
 use Rattle.ark_script.specs.Line.{line_of}
-use Rattle.ark_cli.proofs.Serving.{timely, serve_long, serve_refused, serve_step}
+use Rattle.ark_cli.proofs.Serving.{serve_long, serve_refused, serve_step}
 use Rattle.ark_cli.proofs.script.serve_line.Goals as goal
-
-pub step-requires-clause-timely : goal.step-requires-clause-timely
-step-requires-clause-timely g c = timely c.args.line.now (line_of c.in-Ok.step) c.in-Ok.ensures.means
 
 pub returns-then-line-gt-MAX_LINE-clause-serves : goal.returns-then-line-gt-MAX_LINE-clause-serves
 returns-then-line-gt-MAX_LINE-clause-serves g c = record {
