@@ -2,3 +2,6 @@ mod Worked
 mod Commands
 mod Leaving
 mod Opening
+mod Moves
+mod Stopped
+mod Repaired

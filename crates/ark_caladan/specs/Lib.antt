@@ -1,3 +1,4 @@
 pub mod Chain
 pub mod Numbers
 pub mod Leaves
+pub mod Moving

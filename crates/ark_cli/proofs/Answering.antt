@@ -1,8 +1,8 @@
 -- A line that was served, and its reply put out: the part of the line.
 use Rattle.std.proofs.Common.{◌≡◌, ℕ, Bool, true, false, nat_eq, List, [], ◌∷◌, ◌++◌, refl, sym, ◌∙◌, ap, subst, append-nil, inl, inr, bytes_eq}
-use Rattle.std.specs.Prelude.{◌⊎◌}
+use Rattle.std.specs.Prelude.{◌⊎◌, Some}
 use Rattle.ark_base.specs.declared.refusal.Refusal.TheVariants as r
-use Rattle.ark_media.specs.Journal.{Event, Out, output_of, device_events}
+use Rattle.ark_media.specs.Journal.{Event, Out, History, output_of, device_events}
 use Rattle.ark_media.specs.Calls.{Told, Puts, Rests}
 use Rattle.ark_media.specs.Parts.{ends_with_newline, ends_reply}
 use Rattle.ark_media.proofs.Parting.{whole_with, devices_unfinished, unfinished_then}
@@ -11,14 +11,16 @@ use Rattle.ark_script.specs.Text.{text, reply_words, no_newline, wants_memory, I
 use Rattle.ark_script.specs.declared.said.Said.{Said}
 use Rattle.ark_script.specs.declared.said.Said.TheVariants as said
 use Rattle.ark_script.proofs.Lining.{clean_head, clean_tail}
-use Rattle.ark_script.proofs.Clean.{words_clean, text_ends, wants_text}
-use Rattle.ark_machine.specs.System.{System, Turn, turn}
+use Rattle.ark_script.proofs.Clean.{words_clean, text_ends, wants_shown}
+use Rattle.ark_machine.specs.System.{System, Turn}
+use Rattle.ark_machine.specs.Built.{turn}
 use Rattle.ark_machine.specs.Follow.{Performs, ends_of}
 use Rattle.ark_machine.specs.Replies.{turn_for, has_lacked, MayLack, IsBegun}
 use Rattle.ark_machine.proofs.Runs.{performs_devices}
 use Rattle.ark_host.specs.declared.host.Host.{Host}
 use Rattle.ark_host.specs.Stands.{Stands}
 use Rattle.ark_host.proofs.Standing.{stands_rests}
+use Rattle.ark_cli.specs.Cut.{IsFront, cut_turn}
 use Rattle.ark_cli.specs.Session.{ServesLine, IsAnswer, IsCut, AnswersLine}
 
 newline_last : (words : List ℕ) → ends_with_newline (words ++ 10 ∷ []) ≡ true
@@ -65,7 +67,7 @@ cut_line (w ∷ words) (p ∷ part) more h e =
 pub all_put : (old new : Told) (bytes : List ℕ) (ok : Bool) → ok ≡ true → (p : Puts old new bytes ok) → p.part ≡ bytes
 all_put old new bytes ok is p = sym (p.prefix ∙ ap (λ (m : List ℕ). p.part ++ m) (p.all is) ∙ append-nil p.part)
 
-module _ (s : System) (whole : List ℕ) (es : List Event) (t0 t1 : Told) (host : Host) (reply : Said) (served : ServesLine s whole es host t0 reply) where
+module _ (s : System) (whole : List ℕ) (es : List Event) (t0 t1 : Told) (host : Host) (reply : Said) (shown : List ℕ) (served : ServesLine s whole es host t0 reply shown) where
   devices : device_events es ≡ es
   devices = performs_devices s served.meaning _ es served.answered.calls
 
@@ -78,29 +80,29 @@ module _ (s : System) (whole : List ℕ) (es : List Event) (t0 t1 : Told) (host 
   part_devices : (bytes : List ℕ) → device_events (part bytes) ≡ es
   part_devices bytes = device_events-put es bytes ∙ devices
 
-  lacked : has_lacked (part (text reply [])) ≡ wants_memory reply
-  lacked = ap (λ (b : List ℕ). bytes_eq b (text (said.Refused r.NoMemory) [])) (output_of-put es (text reply []) silent) ∙ wants_text reply
+  lacked : has_lacked (part (text reply shown)) ≡ wants_memory reply
+  lacked = ap (λ (b : List ℕ). bytes_eq b (text (said.Refused r.NoMemory) [])) (output_of-put es (text reply shown) silent) ∙ wants_shown reply shown
 
-  same_turn : turn_for s served.meaning (part (text reply [])) ≡ turn s served.meaning (ends_of es) (wants_memory reply)
-  same_turn = ap (λ (x : List Event). turn s served.meaning (ends_of x) (has_lacked (part (text reply [])))) (part_devices (text reply []))
+  same_turn : turn_for s served.meaning (part (text reply shown)) ≡ turn s served.meaning (ends_of es) (wants_memory reply)
+  same_turn = ap (λ (x : List Event). turn s served.meaning (ends_of x) (has_lacked (part (text reply shown)))) (part_devices (text reply shown))
       ∙ ap (λ (b : Bool). turn s served.meaning (ends_of es) b) lacked
 
   -- its whole text was put out
-  answer_whole : Rests (Out (text reply []) ∷ []) t0 t1 → IsAnswer s whole (part (text reply [])) host t1
+  answer_whole : Rests (Out (text reply shown) ∷ []) t0 t1 → IsAnswer s whole (part (text reply shown)) host t1
   answer_whole rests = record {
     meaning = served.meaning;
     says = served.says;
-    whole = whole_with es (Out (text reply [])) (devices_unfinished es devices) (reply_ends reply []);
-    answers = λ h told. let before = told_before (Out (text reply []) ∷ []) t0.history t1.history rests.adds h told in record {
-      output = output_of-put es (text reply []) silent
-          ∙ ap (λ (x : Said). text x []) served.answered.said
+    whole = whole_with es (Out (text reply shown)) (devices_unfinished es devices) (reply_ends reply shown);
+    answers = λ h told. let before = told_before (Out (text reply shown) ∷ []) t0.history t1.history rests.adds h told in record {
+      output = output_of-put es (text reply shown) silent
+          ∙ ap (λ (x : Said). text x shown) served.answered.said
           ∙ ap (λ (b : List ℕ). text (turn s served.meaning (ends_of es) (wants_memory reply)).said b) (served.answered.bytes before.0 before.1)
           ∙ ap (λ (t : Turn). text t.said t.bytes) (sym same_turn);
-      calls = subst (λ (x : List Event). Performs s served.meaning (turn_for s served.meaning (part (text reply []))).calls x) (sym (part_devices (text reply [])))
+      calls = subst (λ (x : List Event). Performs s served.meaning (turn_for s served.meaning (part (text reply shown))).calls x) (sym (part_devices (text reply shown)))
           (subst (λ (t : Turn). Performs s served.meaning t.calls es) (sym same_turn) served.answered.calls);
       memory = subst (λ (b : Bool). MayLack served.meaning b) (sym lacked) served.answered.memory;
     };
-    stands = subst (λ (t : Turn). Stands host t1 t.after) (sym same_turn) (stands_rests host t0 t1 (Out (text reply []) ∷ []) _ rests refl served.answered.stands);
+    stands = subst (λ (t : Turn). Stands host t1 t.after) (sym same_turn) (stands_rests host t0 t1 (Out (text reply shown) ∷ []) _ rests refl served.answered.stands);
   }
 
   begun : (want : Bool) → wants_memory reply ≡ want → (es ≡ []) ⊎ IsBegun s served.meaning es
@@ -111,24 +113,43 @@ module _ (s : System) (whole : List ℕ) (es : List Event) (t0 t1 : Told) (host 
         (subst (λ (b : Bool). Performs s served.meaning (turn s served.meaning (ends_of es) b).calls es) is served.answered.calls);
   })
 
+  -- its calls were made, and the first bytes of its text came out
+  front : (bytes more : List ℕ) → text reply shown ≡ bytes ++ more → Rests (Out bytes ∷ []) t0 t1 → (h : History) → t1.history ≡ Some h → IsFront s served.meaning (part bytes)
+  front bytes more is rests h told =
+      let before = told_before (Out bytes ∷ []) t0.history t1.history rests.adds h told in
+      let same : cut_turn s served.meaning (part bytes) (wants_memory reply) ≡ turn s served.meaning (ends_of es) (wants_memory reply) =
+      ap (λ (x : List Event). turn s served.meaning (ends_of x) (wants_memory reply)) (part_devices bytes) in
+      record {
+        lacked = wants_memory reply;
+        memory = served.answered.memory;
+        calls = subst (λ (x : List Event). Performs s served.meaning (cut_turn s served.meaning (part bytes) (wants_memory reply)).calls x) (sym (part_devices bytes))
+            (subst (λ (t : Turn). Performs s served.meaning t.calls es) (sym same) served.answered.calls);
+        more = more;
+        front = ap (λ (t : Turn). text t.said t.bytes) same
+            ∙ sym (ap (λ (x : Said). text x shown) served.answered.said
+            ∙ ap (λ (b : List ℕ). text (turn s served.meaning (ends_of es) (wants_memory reply)).said b) (served.answered.bytes before.0 before.1))
+            ∙ is ∙ ap (λ (b : List ℕ). b ++ more) (sym (output_of-put es bytes silent));
+      }
+
   -- a part of it was, with no newline
-  answer_cut : (bytes : List ℕ) → no_newline bytes ≡ true → IsCut s whole (part bytes)
-  answer_cut bytes clean = record {
+  answer_cut : (bytes more : List ℕ) → text reply shown ≡ bytes ++ more → Rests (Out bytes ∷ []) t0 t1 → no_newline bytes ≡ true → IsCut s whole (part bytes) t1
+  answer_cut bytes more is rests clean = record {
     meaning = served.meaning;
     says = served.says;
     rest = unfinished_then es (Out bytes ∷ []) (devices_unfinished es devices) (clean_goes_on bytes clean, tt);
+    front = front bytes more is rests;
     begun = subst (λ (x : List Event). (x ≡ []) ⊎ IsBegun s served.meaning x) (sym (part_devices bytes)) (begun (wants_memory reply) refl);
   }
 
   -- the line was answered, or its put failed
-  pub answer : (ok : Bool) → IsSaid reply → (p : Puts t0 t1 (text reply []) ok) → AnswersLine s whole (part p.part) host t1 ok
+  pub answer : (ok : Bool) → IsSaid reply → (p : Puts t0 t1 (text reply shown) ok) → AnswersLine s whole (part p.part) host t1 ok
   answer ok named p = record {
-    done = λ is. all_of (all_put t0 t1 (text reply []) ok is p);
-    cut = elim (cut_line (reply_words reply []) p.part p.more (words_clean reply [] named) p.prefix) [
+    done = λ is. all_of (all_put t0 t1 (text reply shown) ok is p);
+    cut = elim (cut_line (reply_words reply shown) p.part p.more (words_clean reply shown named) p.prefix) [
       | inl same ↦ inl (all_of same)
-      | inr clean ↦ inr (answer_cut p.part clean)
+      | inr clean ↦ inr (answer_cut p.part p.more p.prefix p.rests clean)
     ];
   }
     where
-      all_of : p.part ≡ text reply [] → IsAnswer s whole (part p.part) host t1
+      all_of : p.part ≡ text reply shown → IsAnswer s whole (part p.part) host t1
       all_of same = subst (λ (b : List ℕ). IsAnswer s whole (part b) host t1) (sym same) (answer_whole (subst (λ (b : List ℕ). Rests (Out b ∷ []) t0 t1) same p.rests))

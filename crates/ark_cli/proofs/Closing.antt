@@ -1,10 +1,10 @@
 -- The closing line after a run, and what the program did.
 use Rattle.std.proofs.Common.{◌≡◌, ℕ, ◌≤◌, Bool, true, false, List, [], ◌∷◌, ◌++◌, length, drop, refl, sym, ◌∙◌, ap, subst, append-nil, inl, inr}
-use Rattle.std.specs.Prelude.{◌⊎◌, ◌↔◌}
+use Rattle.std.specs.Prelude.{◌⊎◌}
 use Rattle.ark_base.specs.declared.status.Status.{Status}
 use Rattle.ark_base.specs.declared.status.Status.TheVariants.{Done, Usage, Source, Sink, Device, Memory, Damaged, Long}
 use Rattle.ark_media.specs.Journal.{Event, Out, device_events}
-use Rattle.ark_media.specs.Calls.{Told, Beside, Goes, Puts, KeepsAtPut, Rose}
+use Rattle.ark_media.specs.Calls.{Told, Beside, Adds, Goes, Puts, KeepsAtPut, Rose}
 use Rattle.ark_media.specs.Going.{rose_later, adds_then}
 use Rattle.ark_media.specs.Parts.{Parts, parts, ends_reply}
 use Rattle.ark_media.proofs.Parting.{parts-more}
@@ -17,7 +17,7 @@ use Rattle.ark_machine.specs.Confined.{BeginsConfined}
 use Rattle.ark_cli.specs.Words.{IsRun}
 use Rattle.ark_cli.specs.Opening.{SinceMake, BeginsFormat, IsUnmade}
 use Rattle.ark_cli.proofs.Turning.{still_at_end}
-use Rattle.ark_cli.specs.Ending.{closing_words, Closes, HasRun, Ends, IsOpen, IsClosed, IsQuiet, IsRefused, RunsNew, Commands, Does, no_command, no_memory, no_device, runs, IsCause, IsUndamaged}
+use Rattle.ark_cli.specs.Ending.{closing_words, Closes, HasRun, Ends, IsOpen, IsClosed, IsQuiet, IsRefused, RunsNew, Commands, Does, no_command, unread, no_memory, no_device, runs, IsCause, IsUndamaged}
 use Rattle.ark_cli.proofs.Answering.{cut_line, clean_goes_on}
 use Rattle.ark_cli.proofs.Opened.{since_then}
 
@@ -91,13 +91,25 @@ module _ (u closing : List Event) (silent : device_events closing ≡ []) where
     },
   )
 
-pub ends_undamaged : (status : Status) (script : List ℕ) (whole : List (List Event)) (rest : List Event) → Ends status script whole rest → IsUndamaged status
-ends_undamaged (Damaged block) script whole rest h = h
-ends_undamaged _ script whole rest h = tt
+pub ends_undamaged : (size : ℕ) (told : Told) (status : Status) (script : List ℕ) (whole : List (List Event)) (rest : List Event) → Ends size told status script whole rest → IsUndamaged status
+ends_undamaged size told (Damaged block) script whole rest h = h
+ends_undamaged size told _ script whole rest h = tt
+
+-- what was said of a run that ended stays so when the closing line was put
+ends_later : (size : ℕ) (t1 t2 : Told) (status : Status) (closing : List Event) (script : List ℕ) (whole : List (List Event)) (rest : List Event) → Adds t1.history t2.history closing → Ends size t1 status script whole rest → Ends size t2 status script whole rest
+ends_later size t1 t2 Sink closing script [] rest adds e = e
+ends_later size t1 t2 Sink closing script (first ∷ whole) rest adds e = λ h is. let before = told_before closing t1.history t2.history adds h is in e before.0 before.1
+ends_later size t1 t2 Done closing script whole rest adds e = e
+ends_later size t1 t2 Source closing script whole rest adds e = e
+ends_later size t1 t2 Long closing script whole rest adds e = e
+ends_later size t1 t2 Device closing script whole rest adds e = e
+ends_later size t1 t2 Usage closing script whole rest adds e = e
+ends_later size t1 t2 Memory closing script whole rest adds e = e
+ends_later size t1 t2 (Damaged block) closing script whole rest adds e = e
 
 closed : (size : ℕ) (t1 t2 : Told) (b0 b1 b2 : Beside) (status : Status) (closing : List Event) → IsOpen size t1 b0 b1 status → Closes status closing → Goes closing [] t1 t2 b1 b2 → IsClosed size t2 b0 b2 status
 closed size t1 t2 b0 b1 b2 status closing o c goes =
-    let none : IsNoReply closing = closes_no_reply status closing (ends_undamaged status o.script (parts o.events).whole (parts o.events).unfinished o.ends) c in
+    let none : IsNoReply closing = closes_no_reply status closing (ends_undamaged size t1 status o.script (parts o.events).whole (parts o.events).unfinished o.ends) c in
     let are : parts (o.events ++ closing) ≡ record { whole = (parts o.events).whole; unfinished = (parts o.events).unfinished ++ closing } = parts_closed o.events closing none in
     record {
       script = o.script;
@@ -111,7 +123,8 @@ closed size t1 t2 b0 b1 b2 status closing o c goes =
       closing = closing;
       unfinished = ap (λ (p : Parts). p.unfinished) are;
       closes = c;
-      ends = subst (λ (w : List (List Event)). Ends status o.script w (parts o.events).unfinished) (sym (ap (λ (p : Parts). p.whole) are)) o.ends;
+      ends = subst (λ (w : List (List Event)). Ends size t2 status o.script w (parts o.events).unfinished) (sym (ap (λ (p : Parts). p.whole) are))
+          (ends_later size t1 t2 status closing o.script (parts o.events).whole (parts o.events).unfinished goes.tells.adds o.ends);
       at_end = λ e. still_at_end b1.script b2.script (o.at_end e) goes.takes;
       long = o.long;
       short = o.short;
@@ -136,17 +149,19 @@ module _ (words : List (List ℕ)) (t0 t1 t2 : Told) (b0 b1 b2 : Beside) (status
 
   pub does : Commands words t0 t1 b0 b1 status → Does words t0 t2 b0 b2 status
   does (inl u) = no_command u.0 u.1 (quiet u.2)
-  does (inr r) = does_run r.0 r.1 r.2 r.3
+  does (inr (inl m)) = unread m.0 (quiet m.1)
+  does (inr (inr r)) = does_run r.0 r.1 r.2 r.3
 
 -- before the closing line no status is that of a damaged device
 undamaged_run : (size : ℕ) (t0 t1 : Told) (b0 b1 : Beside) (status : Status) → RunsNew size t0 t1 b0 b1 status → IsUndamaged status
 undamaged_run size t0 t1 b0 b1 status (inl m) = subst (λ (e : Status). IsUndamaged e) (sym m.0) tt
 undamaged_run size t0 t1 b0 b1 status (inr (inl d)) = subst (λ (e : Status). IsUndamaged e) (sym d.0) tt
-undamaged_run size t0 t1 b0 b1 status (inr (inr o)) = ends_undamaged status o.script (parts o.events).whole (parts o.events).unfinished o.ends
+undamaged_run size t0 t1 b0 b1 status (inr (inr o)) = ends_undamaged size t1 status o.script (parts o.events).whole (parts o.events).unfinished o.ends
 
 pub undamaged : (words : List (List ℕ)) (t0 t1 : Told) (b0 b1 : Beside) (status : Status) → Commands words t0 t1 b0 b1 status → IsUndamaged status
 undamaged words t0 t1 b0 b1 status (inl u) = subst (λ (e : Status). IsUndamaged e) (sym u.0) tt
-undamaged words t0 t1 b0 b1 status (inr r) = undamaged_run r.0 t0 t1 b0 b1 status r.3
+undamaged words t0 t1 b0 b1 status (inr (inl m)) = subst (λ (e : Status). IsUndamaged e) (sym m.0) tt
+undamaged words t0 t1 b0 b1 status (inr (inr r)) = undamaged_run r.0 t0 t1 b0 b1 status r.3
 
 -- a cause stays one when the closing line was put
 pub cause_closed : (t0 t1 t2 : Told) (b0 b1 b2 : Beside) (status : Status) (closing : List Event) → Goes closing [] t1 t2 b1 b2 → IsCause t0 t1 b0 b1 status → IsCause t0 t2 b0 b2 status
@@ -163,19 +178,18 @@ cause_closed t0 t1 t2 b0 b1 b2 (Damaged block) closing g h = absurd h
 -- the status of usage comes exactly where the words are no command
 module _ (words : List (List ℕ)) (t0 t1 : Told) (b0 b1 : Beside) (status : Status) where
   usage_runs : (size : ℕ) → IsClosed size t1 b0 b1 status → status ≡ Usage → ⊥
-  usage_runs size r is = subst (λ (e : Status). Ends e r.script (parts r.events).whole r.rest) is r.ends
+  usage_runs size r is = subst (λ (e : Status). Ends size t1 e r.script (parts r.events).whole r.rest) is r.ends
 
-  usage_only : Does words t0 t1 b0 b1 status → status ≡ Usage → (size : ℕ) (device : List ℕ) → IsRun words size device → ⊥
+  pub usage_only : Does words t0 t1 b0 b1 status → status ≡ Usage → (size : ℕ) (device : List ℕ) → IsRun words size device → ⊥
   usage_only (no_command is none quiet) u = none
+  usage_only (unread is quiet) u = cc
   usage_only (no_memory size device is run quiet) u = cc
   usage_only (no_device size device is run refused) u = cc
   usage_only (runs size device run closed) u = absurd (usage_runs size closed u)
 
-  usage_where : Does words t0 t1 b0 b1 status → ((size : ℕ) (device : List ℕ) → IsRun words size device → ⊥) → status ≡ Usage
-  usage_where (no_command is none quiet) h = is
+  pub usage_where : Does words t0 t1 b0 b1 status → ((size : ℕ) (device : List ℕ) → IsRun words size device → ⊥) → (status ≡ Usage) ⊎ (status ≡ Memory)
+  usage_where (no_command is none quiet) h = inl is
+  usage_where (unread is quiet) h = inr is
   usage_where (no_memory size device is run quiet) h = absurd (h size device run)
   usage_where (no_device size device is run refused) h = absurd (h size device run)
   usage_where (runs size device run closed) h = absurd (h size device run)
-
-  pub usage_exact : Does words t0 t1 b0 b1 status → (status ≡ Usage) ↔ ((size : ℕ) (device : List ℕ) → IsRun words size device → ⊥)
-  usage_exact d = (usage_only d, usage_where d)

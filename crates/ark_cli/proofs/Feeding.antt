@@ -17,8 +17,10 @@ use Rattle.ark_host.specs.declared.host.Host.{Host}
 use Rattle.ark_host.specs.Stands.{Stands}
 use Rattle.ark_host.proofs.Standing.{stands_rests}
 use Rattle.ark_cli.specs.Line.{kept}
+use Rattle.ark_cli.specs.Cut.{CutReplies}
 use Rattle.ark_cli.specs.Session.{IsAnswer, IsCut, AnswersLine, Fed, Replied, Stopped, Feeds, Finishes}
 use Rattle.ark_cli.proofs.Kept.{kept_more, kept_none, kept_empty}
+use Rattle.ark_cli.proofs.Cutting.{shows_none, cut_replies_of}
 
 -- whole parts are parts
 pub stopped_replied : (s : System) (script : List ℕ) (added : List Event) (told : Told) (n : ℕ) → Stopped s script added told n → Replied s script added told
@@ -28,7 +30,7 @@ stopped_replied s script added told n r = record {
   cut = r.cut ∙ sym (append-nil (joined r.whole));
   parts = r.parts;
   rest = tt;
-  replies = r.replies;
+  replies = λ h is. let all = r.replies h is in record { replies = all; shows = shows_none (system_after s all.meanings r.whole) (drop (length r.whole) (lines_of script)) };
 }
 
 -- nothing was fed
@@ -146,7 +148,7 @@ module _ (s : System) (fed : List ℕ) (added : List Event) (host : Host) (told 
       }
 
       -- or its part was cut
-      cut_replied : IsCut (system_after s f.meanings f.whole) f.tail part → Replied s script (added ++ part) after
+      cut_replied : IsCut (system_after s f.meanings f.whole) f.tail part after → Replied s script (added ++ part) after
       cut_replied c = record {
         whole = f.whole;
         unfinished = part;
@@ -155,16 +157,16 @@ module _ (s : System) (fed : List ℕ) (added : List Event) (host : Host) (told 
         rest = c.rest;
         replies = λ h is.
             let before = told_before part told.history after.history adds h is in
-            subst (λ (l : List (List ℕ)). Replies s l f.whole part) (sym lines)
-            (replies_of s f.lines (f.tail ∷ later) f.meanings f.whole part f.says f.count (f.each before.0 before.1)
-            (begun (device_events part) c.begun));
+            subst (λ (l : List (List ℕ)). CutReplies s l f.whole part) (sym lines)
+            (cut_replies_of s f.lines (f.tail ∷ later) f.meanings f.whole part f.says f.count (f.each before.0 before.1)
+            (begun (device_events part) c.begun) (inr (c.meaning, c.says, c.front h is)));
       }
         where
           begun : (es : List Event) → (es ≡ []) ⊎ IsBegun (system_after s f.meanings f.whole) c.meaning es → Begins (system_after s f.meanings f.whole) (f.tail ∷ later) es
           begun es (inl none) = inl none
           begun es (inr b) = inr (c.meaning, c.says, b)
 
-      pub either_replied : IsAnswer (system_after s f.meanings f.whole) f.tail part now after ⊎ IsCut (system_after s f.meanings f.whole) f.tail part → Replied s script (added ++ part) after
+      pub either_replied : IsAnswer (system_after s f.meanings f.whole) f.tail part now after ⊎ IsCut (system_after s f.meanings f.whole) f.tail part after → Replied s script (added ++ part) after
       either_replied (inl a) = stopped_replied s script (added ++ part) after (length f.lines + 1) (answer_stopped a)
       either_replied (inr c) = cut_replied c
 

@@ -1,6 +1,7 @@
 pub mod Kept
 pub mod Serving
 pub mod Answering
+pub mod Cutting
 pub mod Feeding
 pub mod Turning
 pub mod Opened
@@ -8,3 +9,4 @@ pub mod Running
 pub mod Closing
 mod WorkedWork
 mod WorkedReport
+pub mod Completing

@@ -9,6 +9,7 @@ use Rattle.ark_media.specs.Going.{onto-append}
 use Rattle.ark_media.specs.Parts.{IsUnfinished}
 use Rattle.ark_media.proofs.Composing.{takes_none, takes_then, goes_kept, goes_put}
 use Rattle.ark_script.specs.Text.{text, reply_words}
+use Rattle.ark_script.specs.declared.said.Said.{Said}
 use Rattle.ark_script.specs.declared.said.Said.TheVariants.{Ready}
 use Rattle.ark_script.proofs.Clean.{words_clean}
 use Rattle.ark_table.specs.Superblock.{format_calls}
@@ -42,6 +43,10 @@ since_then size es fs xs ys t1 t2 b0 b1 b2 p q = record {
   sink = le_trans p.sink q.sink;
 }
 
+-- the line that says that the device is ready shows no bytes
+pub ready_line : (size : ℕ) (reply : Said) (shown line : List ℕ) → reply ≡ Ready size 0 → line ≡ text reply shown → line ≡ text (Ready size 0) []
+ready_line size reply shown line same is = is ∙ ap (λ (x : Said). text x shown) same
+
 -- made, formatted, and its line put or not
 module _ (size : ℕ) (t0 t1 t2 t3 : Told) (b0 b1 b2 b3 : Beside) (events : List Event) (calls : Makes (format_calls size) true events) (shown : List ℕ) (is : shown ≡ text (Ready size 0) [])
     (made : SinceMake size [] [] t1 b0 b1) (tells : Tells events t1 t2) (keeps : Keeps b1 b2) (kept : KeepsAtPut b2 b3) (later : b2.sink_faults ≤ b3.sink_faults) where
@@ -62,7 +67,7 @@ module _ (size : ℕ) (t0 t1 t2 t3 : Told) (b0 b1 b2 b3 : Beside) (events : List
   pub opens_unshown : Puts t2 t3 shown false → Opens size t0 t3 b0 b3 (Err Sink)
   opens_unshown p = record {
     ready = search rules;
-    failed = inr (inr (refl, record { events = events; part = p.part; calls = calls; cut = cut; since = since_put false p }));
+    failed = inr (inr (refl, record { events = events; part = p.part; calls = calls; more = p.more; front = sym is ∙ p.prefix; cut = cut; since = since_put false p }));
   }
     where
       cut : (p.part ≡ text (Ready size 0) []) ⊎ IsUnfinished (Out p.part ∷ [])

@@ -14,7 +14,7 @@ use Rattle.ark_script.specs.Lines.{lines_of, newlines}
 use Rattle.ark_script.specs.Text.{text}
 use Rattle.ark_script.specs.declared.said.Said.TheVariants.{Ready}
 use Rattle.ark_table.specs.Superblock.{format_calls}
-use Rattle.ark_machine.specs.System.{System, fresh_system}
+use Rattle.ark_machine.specs.System.{fresh_system}
 use Rattle.ark_machine.specs.Replies.{Replies}
 use Rattle.ark_machine.proofs.Confining.{confined_of}
 use Rattle.ark_host.specs.declared.host.Host.{Host}
@@ -44,24 +44,24 @@ module _ (size : ℕ) (events : List Event) (calls : Makes (format_calls size) t
   }
 
 -- the events of a script's run, cut into parts
-record Cut (s : System) (script : List ℕ) (added : List Event) (told : Told) (status : Status) (first : List Event) : Type 0 where
+record Cut (size : ℕ) (script : List ℕ) (added : List Event) (told : Told) (status : Status) (first : List Event) : Type 0 where
   pub whole : List (List Event)
   pub unfinished : List Event
   pub are : parts added ≡ record { whole = whole; unfinished = unfinished }
-  pub replies : (h : History) → told.history ≡ Some h → Replies s (lines_of script) whole unfinished
-  pub ends : Ends status script (first ∷ whole) unfinished
+  pub replies : (h : History) → told.history ≡ Some h → Replies (fresh_system size) (lines_of script) whole unfinished
+  pub ends : Ends size told status script (first ∷ whole) unfinished
 
-module _ (s : System) (script : List ℕ) (added : List Event) (told : Told) (first : List Event) where
-  stopped_parts : (n : ℕ) → (r : Stopped s script added told n) → parts added ≡ record { whole = r.whole; unfinished = [] }
+module _ (size : ℕ) (script : List ℕ) (added : List Event) (told : Told) (first : List Event) where
+  stopped_parts : (n : ℕ) → (r : Stopped (fresh_system size) script added told n) → parts added ≡ record { whole = r.whole; unfinished = [] }
   stopped_parts n r = ap parts (r.cut ∙ sym (append-nil (joined r.whole))) ∙ parts-joined r.whole [] r.parts tt
 
-  cut_stopped : (status : Status) (n : ℕ) → ((whole : List (List Event)) → length whole ≡ n → Ends status script (first ∷ whole) []) → Stopped s script added told n → Cut s script added told status first
+  cut_stopped : (status : Status) (n : ℕ) → ((whole : List (List Event)) → length whole ≡ n → Ends size told status script (first ∷ whole) []) → Stopped (fresh_system size) script added told n → Cut size script added told status first
   cut_stopped status n ends r = record { whole = r.whole; unfinished = []; are = stopped_parts n r; replies = r.replies; ends = ends r.whole r.count }
 
   one_more : (whole : List (List Event)) (n : ℕ) → length whole ≡ n → length (first ∷ whole) ≡ n + 1
   one_more whole n h = omega (arith, h)
 
-  cut_ended : (status : Status) → Ended s script added told status → Cut s script added told status first
+  cut_ended : (status : Status) → Ended (fresh_system size) script added told status → Cut size script added told status first
   cut_ended Done r = cut_stopped Done (length (lines_of script)) (λ w h. (one_more w (length (lines_of script)) h, refl)) r
   cut_ended Source r = cut_stopped Source (newlines script) (λ w h. (one_more w (newlines script) h, refl)) r
   cut_ended Long r = cut_stopped Long (newlines (within_limit script)) (λ w h. (one_more w (newlines (within_limit script)) h, refl)) r
@@ -69,8 +69,8 @@ module _ (s : System) (script : List ℕ) (added : List Event) (told : Told) (fi
     whole = r.whole;
     unfinished = r.unfinished;
     are = ap parts r.cut ∙ parts-joined r.whole r.unfinished r.parts r.rest;
-    replies = r.replies;
-    ends = tt;
+    replies = λ h is. (r.replies h is).replies;
+    ends = r.replies;
   }
   cut_ended Usage r = absurd r
   cut_ended Device r = absurd r
@@ -82,8 +82,8 @@ pub open_ran : (size : ℕ) (t1 t2 : Told) (b0 b1 b2 : Beside) (host : Host) (li
     Ran t1 t2 b1 b2 host line status → IsOpen size t2 b0 b2 status
 open_ran size t1 t2 b0 b1 b2 host line status ready stands none r =
     let first = opening size ready.events ready.calls in
-    let cut : Cut (fresh_system size) r.script r.events t2 status first =
-    cut_ended (fresh_system size) r.script r.events t2 first status
+    let cut : Cut size r.script r.events t2 status first =
+    cut_ended size r.script r.events t2 first status
     (subst (λ n. Ended (fresh_system n) r.script r.events t2 status) ready.since.blocks (r.ended (fresh_system t1.blocks) (stands t1) none)) in
     let are : parts (first ++ r.events) ≡ record { whole = first ∷ cut.whole; unfinished = cut.unfinished } =
     parts-whole first r.events (opening_whole size ready.events ready.calls) ∙ ap (λ (p : Parts). record { whole = first ∷ p.whole; unfinished = p.unfinished }) cut.are in
@@ -92,8 +92,8 @@ open_ran size t1 t2 b0 b1 b2 host line status ready stands none r =
       events = first ++ r.events;
       since = since_then size first r.events [] r.script t1 t2 b0 b1 b2 ready.since r.goes;
       run = λ h is. subst (λ (p : Parts). HasRun size (lines_of r.script) p.whole p.unfinished) (sym are)
-          (is_opening size ready.events ready.calls, cut.replies h is, confined_of (fresh_system size) (lines_of r.script) cut.whole cut.unfinished (cut.replies h is));
-      ends = subst (λ (p : Parts). Ends status r.script p.whole p.unfinished) (sym are) cut.ends;
+          (is_opening size ready.events ready.calls, cut.replies h is, confined_of (fresh_system size) (lines_of r.script) cut.whole cut.unfinished tt (cut.replies h is));
+      ends = subst (λ (p : Parts). Ends size t2 status r.script p.whole p.unfinished) (sym are) cut.ends;
       at_end = r.at_end;
       long = r.long;
       short = r.short;
@@ -110,38 +110,58 @@ open_unformatted size told b0 b1 u =
       since = u.since;
       run = λ h is. subst (λ (p : Parts). HasRun size (lines_of []) p.whole p.unfinished) (sym are)
           (inr (false, subst (λ (x : List Event). Makes (format_calls size) false x) (sym devices) u.calls));
-      ends = subst (λ (p : Parts). Ends Device [] p.whole p.unfinished) (sym are) (refl, devices_silent u.events devices);
+      ends = subst (λ (p : Parts). Ends size told Device [] p.whole p.unfinished) (sym are) (refl, devices_silent u.events devices);
       at_end = λ e. cc;
       long = λ e. cc;
       short = λ e. omega arith;
     }
 
 -- the put of the device's line failed
-open_unshown : (size : ℕ) (told : Told) (b0 b1 : Beside) → IsUnshown size told b0 b1 → IsOpen size told b0 b1 Sink
-open_unshown size told b0 b1 u = record {
-  script = [];
-  events = u.events ++ Out u.part ∷ [];
-  since = u.since;
-  run = λ h is. has_run u.cut;
-  ends = tt;
-  at_end = λ e. cc;
-  long = λ e. cc;
-  short = λ e. omega arith;
-}
-  where
-    has_run : (u.part ≡ text (Ready size 0) []) ⊎ IsUnfinished (Out u.part ∷ []) → HasRun size (lines_of []) (parts (u.events ++ Out u.part ∷ [])).whole (parts (u.events ++ Out u.part ∷ [])).unfinished
-    has_run (inl whole) =
-        let first = opening size u.events u.calls in
-        let none : Replies (fresh_system size) [] [] [] = record { meanings = []; say = tt; each = tt; begins = refl } in
-        let are : parts first ≡ record { whole = first ∷ []; unfinished = [] } = ap parts (sym (append-nil first)) ∙ parts-whole first [] (opening_whole size u.events u.calls) in
-        subst (λ b. HasRun size [] (parts (u.events ++ Out b ∷ [])).whole (parts (u.events ++ Out b ∷ [])).unfinished) (sym whole)
-        (subst (λ (p : Parts). HasRun size [] p.whole p.unfinished) (sym are) (is_opening size u.events u.calls, none, confined_of (fresh_system size) [] [] [] none))
-    has_run (inr rest) =
-        let made : device_events u.events ≡ u.events = makes_devices (format_calls size) true u.events u.calls in
-        let are : parts (u.events ++ Out u.part ∷ []) ≡ record { whole = []; unfinished = u.events ++ Out u.part ∷ [] } =
-        parts-unfinished (u.events ++ Out u.part ∷ []) (unfinished_then u.events (Out u.part ∷ []) (devices_unfinished u.events made) rest) in
-        subst (λ (p : Parts). HasRun size [] p.whole p.unfinished) (sym are)
-        (inr (true, subst (λ (x : List Event). Makes (format_calls size) true x) (sym (device_events-put u.events u.part ∙ made)) u.calls))
+module _ (size : ℕ) (told : Told) (b0 b1 : Beside) (u : IsUnshown size told b0 b1) where
+  -- how the parts of these events are said
+  abbrev IsShown : List Event → Type 0
+  IsShown events = ((h : History) → told.history ≡ Some h → HasRun size (lines_of []) (parts events).whole (parts events).unfinished)
+      × Ends size told Sink [] (parts events).whole (parts events).unfinished
+
+  made : device_events u.events ≡ u.events
+  made = makes_devices (format_calls size) true u.events u.calls
+
+  -- all of it came out
+  shown_whole : IsShown (u.events ++ Out (text (Ready size 0) []) ∷ [])
+  shown_whole =
+      let first = opening size u.events u.calls in
+      let none : Replies (fresh_system size) [] [] [] = record { meanings = []; say = tt; each = tt; begins = refl } in
+      let are : parts first ≡ record { whole = first ∷ []; unfinished = [] } = ap parts (sym (append-nil first)) ∙ parts-whole first [] (opening_whole size u.events u.calls) in (
+        λ h is. subst (λ (p : Parts). HasRun size [] p.whole p.unfinished) (sym are) (is_opening size u.events u.calls, none, confined_of (fresh_system size) [] [] [] tt none),
+        subst (λ (p : Parts). Ends size told Sink [] p.whole p.unfinished) (sym are) (λ h is. record { replies = none; shows = refl }),
+      )
+
+  -- a part of it did
+  shown_part : IsUnfinished (Out u.part ∷ []) → IsShown (u.events ++ Out u.part ∷ [])
+  shown_part rest =
+      let are : parts (u.events ++ Out u.part ∷ []) ≡ record { whole = []; unfinished = u.events ++ Out u.part ∷ [] } =
+      parts-unfinished (u.events ++ Out u.part ∷ []) (unfinished_then u.events (Out u.part ∷ []) (devices_unfinished u.events made) rest) in (
+        λ h is. subst (λ (p : Parts). HasRun size [] p.whole p.unfinished) (sym are)
+            (inr (true, subst (λ (x : List Event). Makes (format_calls size) true x) (sym (device_events-put u.events u.part ∙ made)) u.calls)),
+        subst (λ (p : Parts). Ends size told Sink [] p.whole p.unfinished) (sym are)
+            (u.more, u.front ∙ ap (λ (b : List ℕ). b ++ u.more) (sym (output_of-put u.events u.part (devices_silent u.events made)))),
+      )
+
+  is_shown : (u.part ≡ text (Ready size 0) []) ⊎ IsUnfinished (Out u.part ∷ []) → IsShown (u.events ++ Out u.part ∷ [])
+  is_shown (inl whole) = subst (λ b. IsShown (u.events ++ Out b ∷ [])) (sym whole) shown_whole
+  is_shown (inr rest) = shown_part rest
+
+  open_unshown : IsOpen size told b0 b1 Sink
+  open_unshown = record {
+    script = [];
+    events = u.events ++ Out u.part ∷ [];
+    since = u.since;
+    run = (is_shown u.cut).0;
+    ends = (is_shown u.cut).1;
+    at_end = λ e. cc;
+    long = λ e. cc;
+    short = λ e. omega arith;
+  }
 
 -- the opening failed
 pub runs_not : (size : ℕ) (t0 t1 : Told) (b0 b1 : Beside) (status : Status) → OpensNot size t0 t1 b0 b1 status → RunsNew size t0 t1 b0 b1 status

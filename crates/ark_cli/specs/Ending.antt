@@ -6,12 +6,15 @@ use Rattle.ark_media.specs.Journal.{Event, Out, History, output_of, device_event
 use Rattle.ark_media.specs.Calls.{Told, Beside, Adds, Takes, Rose, Goes}
 use Rattle.ark_media.specs.Parts.{parts}
 use Rattle.ark_script.specs.Lines.{lines_of, newlines}
+use Rattle.ark_script.specs.Text.{text}
+use Rattle.ark_script.specs.declared.said.Said.TheVariants.{Ready}
 use Rattle.ark_machine.specs.System.{fresh_system}
 use Rattle.ark_machine.specs.Replies.{Replies}
 use Rattle.ark_machine.specs.Confined.{Confined}
 use Rattle.ark_cli.specs.Words.{IsRun}
 use Rattle.ark_cli.specs.Line.{limit, within_limit}
 use Rattle.ark_cli.specs.Opening.{IsUnmade, SinceMake, IsOpening, BeginsFormat}
+use Rattle.ark_cli.specs.Cut.{CutReplies}
 use Rattle.ark_cli.specs.Session.{IsAtEnd}
 
 -- the words of a status's closing line, where it has one
@@ -38,16 +41,22 @@ HasRun size lines [] unfinished = BeginsFormat size (device_events unfinished)
 HasRun size lines (opening ∷ whole) unfinished =
     IsOpening size opening × Replies (fresh_system size) lines whole unfinished × Confined (fresh_system size) lines whole unfinished
 
+-- Where a put failed: what stands behind the whole parts shows the first bytes of the line that was put, which is that of the
+-- device or the next reply.
+abbrev pub EndsCut : ℕ → Told → List ℕ → List (List Event) → List Event → Type 0
+EndsCut size told script [] rest = (more : List ℕ) × (text (Ready size 0) [] ≡ output_of rest ++ more)
+EndsCut size told script (opening ∷ whole) rest = (h : History) → told.history ≡ Some h → CutReplies (fresh_system size) (lines_of script) whole rest
+
 -- How many whole parts there are by the status, and what stands behind them, before the closing line: every line of the
 -- whole script has its reply; every line whose newline came (within the limit, where the script is longer); a put failed;
 -- or the device could not be formatted.
-abbrev pub Ends : Status → List ℕ → List (List Event) → List Event → Type 0
-Ends Done script whole rest = (length whole ≡ length (lines_of script) + 1) × (rest ≡ [])
-Ends Source script whole rest = (length whole ≡ newlines script + 1) × (rest ≡ [])
-Ends Long script whole rest = (length whole ≡ newlines (within_limit script) + 1) × (rest ≡ [])
-Ends Sink script whole rest = Unit {0}
-Ends Device script whole rest = (whole ≡ []) × (output_of rest ≡ [])
-Ends _ script whole rest = ⊥
+abbrev pub Ends : ℕ → Told → Status → List ℕ → List (List Event) → List Event → Type 0
+Ends size told Done script whole rest = (length whole ≡ length (lines_of script) + 1) × (rest ≡ [])
+Ends size told Source script whole rest = (length whole ≡ newlines script + 1) × (rest ≡ [])
+Ends size told Long script whole rest = (length whole ≡ newlines (within_limit script) + 1) × (rest ≡ [])
+Ends size told Sink script whole rest = EndsCut size told script whole rest
+Ends size told Device script whole rest = (whole ≡ []) × (output_of rest ≡ [])
+Ends size told _ script whole rest = ⊥
 
 -- A device was made and the script run on it; before the closing line.
 pub record IsOpen (size : ℕ) (told : Told) (beside0 beside1 : Beside) (status : Status) : Type 0 where
@@ -55,7 +64,7 @@ pub record IsOpen (size : ℕ) (told : Told) (beside0 beside1 : Beside) (status 
   pub events : List Event
   pub since : SinceMake size events script told beside0 beside1
   pub run : (h : History) → told.history ≡ Some h → HasRun size (lines_of script) (parts events).whole (parts events).unfinished
-  pub ends : Ends status script (parts events).whole (parts events).unfinished
+  pub ends : Ends size told status script (parts events).whole (parts events).unfinished
   pub at_end : status ≡ Done → IsAtEnd beside1.script
   pub long : status ≡ Long → length script ≡ limit + 1
   pub short : (status ≡ Long → ⊥) → length script ≤ limit
@@ -72,7 +81,7 @@ pub record IsClosed (size : ℕ) (told : Told) (beside0 beside1 : Beside) (statu
   pub closing : List Event
   pub unfinished : (parts events).unfinished ≡ rest ++ closing
   pub closes : Closes status closing
-  pub ends : Ends status script (parts events).whole rest
+  pub ends : Ends size told status script (parts events).whole rest
   pub at_end : status ≡ Done → IsAtEnd beside1.script
   pub long : status ≡ Long → length script ≡ limit + 1
   pub short : (status ≡ Long → ⊥) → length script ≤ limit
@@ -101,12 +110,15 @@ RunsNew size told0 told1 beside0 beside1 status =
 abbrev pub Commands : List (List ℕ) → Told → Told → Beside → Beside → Status → Type 0
 Commands words told0 told1 beside0 beside1 status =
     ((status ≡ Usage) × ((size : ℕ) (device : List ℕ) → IsRun words size device → ⊥) × Goes [] [] told0 told1 beside0 beside1)
+    ⊎ ((status ≡ Memory) × Goes [] [] told0 told1 beside0 beside1)
     ⊎ ((size : ℕ) × (device : List ℕ) × IsRun words size device × RunsNew size told0 told1 beside0 beside1 status)
 
 -- What the program does with its words: how it may end, and what the outside tells then.
 pub data Does (words : List (List ℕ)) (told0 told1 : Told) (beside0 beside1 : Beside) (status : Status) : Type 0 where
   -- the words are no command
   no_command : status ≡ Usage → ((size : ℕ) (device : List ℕ) → IsRun words size device → ⊥) → IsQuiet told0 told1 beside0 beside1 status → Does words told0 told1 beside0 beside1 status
+  -- memory was wanting to read the words
+  unread : status ≡ Memory → IsQuiet told0 told1 beside0 beside1 status → Does words told0 told1 beside0 beside1 status
   -- memory was wanting before the device was made
   no_memory : (size : ℕ) (device : List ℕ) → status ≡ Memory → IsRun words size device → IsQuiet told0 told1 beside0 beside1 status → Does words told0 told1 beside0 beside1 status
   -- the device could not be made

@@ -1,7 +1,10 @@
 pub mod Words
 pub mod Line
+pub mod Cut
 pub mod Session
 pub mod Opening
 pub mod Ending
 pub mod Work
 pub mod Report
+pub mod Attached
+pub mod Complete

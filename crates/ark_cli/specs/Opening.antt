@@ -50,6 +50,9 @@ pub record IsUnshown (size : ℕ) (told : Told) (beside0 beside1 : Beside) : Typ
   pub events : List Event
   pub part : List ℕ
   pub calls : Makes (format_calls size) true events
+  -- the bytes that did not come out
+  pub more : List ℕ
+  pub front : text (Ready size 0) [] ≡ part ++ more
   pub cut : (part ≡ text (Ready size 0) []) ⊎ IsUnfinished (Out part ∷ [])
   pub since : SinceMake size (events ++ Out part ∷ []) [] told beside0 beside1
 

@@ -13,6 +13,7 @@ use Rattle.ark_machine.specs.Replies.{turn_for, system_after, Answers, EachAnswe
 use Rattle.ark_host.specs.declared.host.Host.{Host}
 use Rattle.ark_host.specs.Stands.{Stands, Answered}
 use Rattle.ark_cli.specs.Line.{kept, limit, within_limit}
+use Rattle.ark_cli.specs.Cut.{IsFront, CutReplies}
 
 -- What an outside tells went on by some events, of which P holds; no byte of the script was taken.
 pub record Acts (told0 told1 : Told) (beside0 beside1 : Beside) (P : List Event → Type 0) : Type 0 where
@@ -21,10 +22,10 @@ pub record Acts (told0 told1 : Told) (beside0 beside1 : Beside) (P : List Event 
   pub does : P events
 
 -- a line was read and served: what it means, and what the host answered to that
-pub record ServesLine (s : System) (line : List ℕ) (es : List Event) (host : Host) (told : Told) (reply : Said) : Type 0 where
+pub record ServesLine (s : System) (line : List ℕ) (es : List Event) (host : Host) (told : Told) (reply : Said) (shown : List ℕ) : Type 0 where
   pub meaning : Meaning
   pub says : Says line meaning
-  pub answered : Answered host told s meaning es reply []
+  pub answered : Answered host told s meaning es reply shown
 
 -- the part answers the line in whole, and the host stands for the system after it
 pub record IsAnswer (s : System) (line : List ℕ) (part : List Event) (host : Host) (told : Told) : Type 0 where
@@ -35,16 +36,17 @@ pub record IsAnswer (s : System) (line : List ℕ) (part : List Event) (host : H
   pub stands : Stands host told (turn_for s meaning part).after
 
 -- the reply's put failed before its newline came out: the line has only begun
-pub record IsCut (s : System) (line : List ℕ) (part : List Event) : Type 0 where
+pub record IsCut (s : System) (line : List ℕ) (part : List Event) (told : Told) : Type 0 where
   pub meaning : Meaning
   pub says : Says line meaning
   pub rest : IsUnfinished part
+  pub front : (h : History) → told.history ≡ Some h → IsFront s meaning part
   pub begun : (device_events part ≡ []) ⊎ IsBegun s meaning (device_events part)
 
 -- a line was answered; where the put failed, its part may be whole all the same
 pub record AnswersLine (s : System) (line : List ℕ) (part : List Event) (host : Host) (told : Told) (ok : Bool) : Type 0 where
   pub done : ok ≡ true → IsAnswer s line part host told
-  pub cut : IsAnswer s line part host told ⊎ IsCut s line part
+  pub cut : IsAnswer s line part host told ⊎ IsCut s line part told
 
 -- The bytes that were fed are lines that were answered, and the beginning of one more, which is kept.
 pub record Fed (s : System) (fed : List ℕ) (added : List Event) (host : Host) (told : Told) (line : List ℕ) : Type 0 where
@@ -63,14 +65,14 @@ pub record Fed (s : System) (fed : List ℕ) (added : List Event) (host : Host) 
   pub stands : Stands host told (system_after s meanings whole)
   pub held : line ≡ kept tail
 
--- the events answer the lines of the script in turn, as far as they go
+-- the events answer the lines of the script in turn, as far as they go; the last one may be cut
 pub record Replied (s : System) (script : List ℕ) (added : List Event) (told : Told) : Type 0 where
   pub whole : List (List Event)
   pub unfinished : List Event
   pub cut : added ≡ joined whole ++ unfinished
   pub parts : EachIsWhole whole
   pub rest : IsUnfinished unfinished
-  pub replies : (h : History) → told.history ≡ Some h → Replies s (lines_of script) whole unfinished
+  pub replies : (h : History) → told.history ≡ Some h → CutReplies s (lines_of script) whole unfinished
 
 -- the events answer the first n lines of the script, and there are no others
 pub record Stopped (s : System) (script : List ℕ) (added : List Event) (told : Told) (n : ℕ) : Type 0 where

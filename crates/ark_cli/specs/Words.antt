@@ -1,9 +1,7 @@
--- The words of the command line.
-use Rattle.std.specs.Prelude.{◌≡◌, ◌≤◌, ℕ, List, [], ◌∷◌, codes, decimal}
+-- The words of the command line that the program runs.
+use Rattle.std.specs.Prelude.{ℕ, List, Some}
+use Rattle.ark_words.specs.Words.{IsCommand, run}
 
--- `run --new N DEVICE`: N blocks, in decimal with no sign and no leading zero, and a device that has a name
-pub record IsRun (words : List (List ℕ)) (blocks : ℕ) (device : List ℕ) : Type 0 where
-  pub words_are : words ≡ codes "run" ∷ codes "--new" ∷ decimal blocks ∷ device ∷ []
-  pub low : 130 ≤ blocks
-  pub high : blocks ≤ 1048576
-  pub named : device ≡ [] → ⊥
+-- the command `run` on a device of so many blocks that is made first
+abbrev pub IsRun : List (List ℕ) → ℕ → List ℕ → Type 0
+IsRun words blocks device = IsCommand words (run (Some blocks) device)

@@ -1,18 +1,22 @@
-ghost use Rattle.std.specs.Prelude.{◌≡◌, ◌≤◌, ◌↔◌, ◌⊎◌, ℕ, List, [], map, string_bytes};
+ghost use Rattle.std.specs.Prelude.{◌≡◌, ◌≤◌, ◌⊎◌, ℕ, List, [], map, string_bytes};
 ghost use Rattle.ark_media.specs.Journal.{Event};
 ghost use Rattle.ark_media.specs.Calls.{Told, Goes, Rose};
 ghost use Rattle.ark_machine.specs.System.{fresh_system};
 ghost use Rattle.ark_host.specs.Stands.{Stands};
+ghost use Rattle.ark_host.specs.Time.{IsSound};
 ghost use Rattle.ark_cli.specs.Words.{IsRun};
+ghost use Rattle.ark_cli.specs.Complete.{HasShortScript, IsUntroubled};
 ghost use Rattle.ark_cli.specs.Ending.{RunsNew, Commands, Closes, Does, IsCause, IsUndamaged};
 
 use crate::line::LineBuffer;
 use crate::opening::open_new;
+use crate::reply::ReplyBuffer;
 use crate::script::run_script;
 use crate::words::read_words;
 use ark_base::Status;
 use ark_host::Host;
 use ark_media::Outside;
+use ark_words::WordsFault;
 use std::alloc::Global;
 
 // Opens the device and runs the script on it.
@@ -21,18 +25,21 @@ fn run_with<W: Outside>(
     device: &str,
     host: &mut Host,
     line: &mut LineBuffer,
+    out: &mut ReplyBuffer,
     world: &mut W,
 ) -> Status
     requires low { 130 ≤ blocks }
     requires high { blocks ≤ 1048576 }
     requires host { (told : Told) → Stands host.old told (fresh_system told.blocks) }
+    requires sound { IsSound host.old }
+    requires none { host.old.lines ≡ 0 }
     requires line { line.old ≡ [] }
     ensures runs { RunsNew blocks (W.told world.old) (W.told world.new) (W.beside world.old) (W.beside world.new) result }
     ensures cause { IsCause (W.told world.old) (W.told world.new) (W.beside world.old) (W.beside world.new) result }
 {
-    match open_new(blocks, device, world) {
+    match open_new(blocks, device, out, world) {
         Err(status) => status,
-        Ok(()) => run_script(host, line, world),
+        Ok(()) => run_script(host, line, out, world),
     }
 }
 
@@ -46,8 +53,11 @@ fn run_new<W: Outside>(alloc: Global, blocks: u32, device: &str, world: &mut W) 
     let Ok(mut line) = LineBuffer::new(alloc) else {
         return Status::Memory;
     };
+    let Ok(mut out) = ReplyBuffer::new(alloc) else {
+        return Status::Memory;
+    };
     let mut host = Host::new(alloc);
-    run_with(blocks, device, &mut host, &mut line, world)
+    run_with(blocks, device, &mut host, &mut line, &mut out, world)
 }
 
 // What the words ask for, up to the closing line.
@@ -55,9 +65,10 @@ fn command<W: Outside>(alloc: Global, words: &[String], world: &mut W) -> Status
     ensures runs { Commands (map string_bytes words.now) (W.told world.old) (W.told world.new) (W.beside world.old) (W.beside world.new) result }
     ensures cause { IsCause (W.told world.old) (W.told world.new) (W.beside world.old) (W.beside world.new) result }
 {
-    match read_words(words) {
-        None => Status::Usage,
-        Some(run) => run_new(alloc, run.blocks, run.device, world),
+    match read_words(alloc, words) {
+        Ok(run) => run_new(alloc, run.blocks, run.device, world),
+        Err(WordsFault::Usage) => Status::Usage,
+        Err(WordsFault::Memory) => Status::Memory,
     }
 }
 
@@ -86,12 +97,16 @@ pub fn arrakis<W: Outside>(alloc: Global, words: &[String], world: &mut W) -> St
     // How it ends, and what the outside tells then: output, device events and script.
     ensures does { Does (map string_bytes words.now) (W.told world.old) (W.told world.new) (W.beside world.old) (W.beside world.new) result }
 
-    // When each status comes; want of memory may come before a device is made.
-    ensures usage { (result ≡ Status.Usage) ↔ ((blocks : ℕ) (device : List ℕ) → IsRun (map string_bytes words.now) blocks device → ⊥) }
+    // When each status comes; want of memory may come before a device is made, also where the words are no command.
+    ensures usage { result ≡ Status.Usage → (blocks : ℕ) (device : List ℕ) → IsRun (map string_bytes words.now) blocks device → ⊥ }
+    ensures no_command { ((blocks : ℕ) (device : List ℕ) → IsRun (map string_bytes words.now) blocks device → ⊥) → (result ≡ Status.Usage) ⊎ (result ≡ Status.Memory) }
     ensures source { result ≡ Status.Source → Rose (W.beside world.old).source_faults (W.beside world.new).source_faults }
     ensures sink { result ≡ Status.Sink → Rose (W.beside world.old).sink_faults (W.beside world.new).sink_faults }
     ensures device { result ≡ Status.Device → Rose (W.beside world.old).attach_faults (W.beside world.new).attach_faults ⊎ Rose (W.told world.old).faults (W.told world.new).faults }
     ensures undamaged { (block : ℕ) → result ≡ Status.Damaged block → ⊥ }
+    // Where nothing fails, the whole script is run, unless memory was wanting.
+    ensures complete { (size : ℕ) (device : List ℕ) → IsRun (map string_bytes words.now) size device → HasShortScript (W.beside world.old).script (W.beside world.new).script →
+        IsUntroubled (W.told world.old) (W.told world.new) (W.beside world.old) (W.beside world.new) → (result ≡ Status.Done) ⊎ (result ≡ Status.Memory) }
 {
     let status = command(alloc, words, world);
     close(status, world);

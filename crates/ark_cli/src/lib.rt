@@ -4,6 +4,7 @@
 mod command;
 mod line;
 mod opening;
+mod reply;
 mod script;
 mod words;
 

@@ -2,26 +2,32 @@ ghost use Rattle.std.specs.Prelude.{◌≤◌, ◌≡◌, IfErr};
 ghost use Rattle.ark_cli.specs.Opening.{Opens};
 ghost use Rattle.ark_cli.specs.Ending.{IsCause};
 
+use crate::reply::ReplyBuffer;
 use ark_base::Status;
 use ark_media::Outside;
-use ark_script::{Said, TEXT_ROOM, print};
+use ark_script::Said;
 use ark_table::format;
 
 /// Makes the device, formats it, and puts the line that says that it is ready. The error is the status with which the
 /// program ends: `Device` where the device could not be made or formatted, `Sink` where its line could not be put.
-pub fn open_new<W: Outside>(blocks: u32, device: &str, world: &mut W) -> Result<(), Status>
+pub fn open_new<W: Outside>(
+    blocks: u32,
+    device: &str,
+    out: &mut ReplyBuffer,
+    world: &mut W,
+) -> Result<(), Status>
     requires low { 130 ≤ blocks }
     requires high { blocks ≤ 1048576 }
     ensures opens { Opens blocks (W.told world.old) (W.told world.new) (W.beside world.old) (W.beside world.new) result }
     ensures cause { IfErr result (λ e. IsCause (W.told world.old) (W.told world.new) (W.beside world.old) (W.beside world.new) e) }
 {
-    let mut text = [0u8; TEXT_ROOM];
-    let len = print(&Said::Ready(blocks, 0), &mut text);
+    out.reply.say(Said::Ready(blocks, 0), 0);
+    out.text.print(&out.reply);
     match world.make(device, blocks) {
         Err(_) => Err(Status::Device),
         Ok(()) => match format(world) {
             Err(_) => Err(Status::Device),
-            Ok(()) => match world.put(&text[..len]) {
+            Ok(()) => match world.put(out.text.bytes()) {
                 Err(_) => Err(Status::Sink),
                 Ok(()) => Ok(()),
             },

@@ -1,43 +1,68 @@
-ghost use Rattle.std.specs.Prelude.{◌≡◌, ◌≤◌, ◌∷◌, ◌++◌, ℕ, [], List, length, is_ok, OnErr, IfOk, IfErr, ◌<◌, ◌⊎◌};
+ghost use Rattle.std.specs.Prelude.{◌≡◌, ◌≤◌, ◌+◌, ◌^◌, ◌∷◌, ◌++◌, ℕ, [], List, length, is_ok, OnErr, IfOk, IfErr, ◌<◌, ◌⊎◌};
 ghost use Rattle.ark_media.specs.Journal.{Event};
 ghost use Rattle.ark_media.specs.Calls.{Rose, GoesBy};
+ghost use Rattle.ark_script.specs.Reply.{bytes_shown};
 ghost use Rattle.ark_script.specs.Text.{IsSaid};
+ghost use Rattle.ark_script.specs.declared.said.Said.TheVariants as said;
 ghost use Rattle.ark_machine.specs.System.{System};
 ghost use Rattle.ark_host.specs.Stands.{Stands};
+ghost use Rattle.ark_host.specs.Time.{IsSound};
 ghost use Rattle.ark_cli.specs.Line.{kept};
 ghost use Rattle.ark_cli.specs.Session.{Acts, ServesLine, AnswersLine, Fed, Feeds, Finishes, Turns, Ran, is_done, IsFault, IsScriptEnd};
 
 use crate::line::LineBuffer;
+use crate::reply::ReplyBuffer;
 use ark_base::{Refusal, Status};
 use ark_host::Host;
 use ark_media::{Disk, Outside, SinkFailed};
-use ark_script::{MAX_LINE, Said, TEXT_ROOM, print, read_line};
+use ark_script::{MAX_LINE, Reply, Said, read_line};
 
 // Reads one line, of which too long a one is told by its kept bytes, and makes its step.
-fn serve_line<D: Disk>(host: &mut Host, line: &[u8], disk: &mut D) -> Said
+fn serve_line<D: Disk>(host: &mut Host, line: &[u8], out: &mut Reply, disk: &mut D)
+    requires sound { IsSound host.old }
+    requires few { host.old.lines < 2 ^ 31 }
     ensures serves { GoesBy D.goes disk.old disk.new (λ es. (s : System) (whole : List ℕ) → Stands host.old (D.told disk.old) s → line.now ≡ kept whole →
-        ServesLine s whole es host.new (D.told disk.new) result) }
-    ensures said { IsSaid result }
+        ServesLine s whole es host.new (D.told disk.new) out.new.said (bytes_shown out.new)) }
+    ensures said { IsSaid out.new.said }
+    ensures sound { IsSound host.new }
+    ensures counted { host.new.lines ≤ host.old.lines + 1 }
 {
     if line.len() > MAX_LINE {
-        return Said::Refused(Refusal::TooLong);
+        refuse(out, Refusal::TooLong);
+        return;
     }
     match read_line(line) {
-        Ok(step) => host.step(disk, &step),
-        Err(refusal) => Said::Refused(refusal),
+        Ok(step) => host.step(disk, &step, out),
+        Err(refusal) => refuse(out, refusal),
     }
 }
 
+// Says that a line is refused.
+fn refuse(out: &mut Reply, refusal: Refusal)
+    ensures said { out.new.said ≡ said.Refused refusal }
+    ensures none { bytes_shown out.new ≡ [] }
+{
+    out.say(Said::Refused(refusal), 0);
+}
+
 // Answers one line: serves it, and puts its reply.
-fn answer_line<W: Outside>(host: &mut Host, line: &[u8], world: &mut W) -> Result<(), SinkFailed>
+fn answer_line<W: Outside>(
+    host: &mut Host,
+    line: &[u8],
+    out: &mut ReplyBuffer,
+    world: &mut W,
+) -> Result<(), SinkFailed>
+    requires sound { IsSound host.old }
+    requires few { host.old.lines < 2 ^ 31 }
     ensures answers { Acts (W.told world.old) (W.told world.new) (W.beside world.old) (W.beside world.new) (λ part. (s : System) (whole : List ℕ) →
         Stands host.old (W.told world.old) s → line.now ≡ kept whole → AnswersLine s whole part host.new (W.told world.new) (is_ok result)) }
     ensures cause { OnErr result (Rose (W.beside world.old).sink_faults (W.beside world.new).sink_faults) }
+    ensures sound { IsSound host.new }
+    ensures counted { host.new.lines ≤ host.old.lines + 1 }
 {
-    let said = serve_line(host, line, world);
-    let mut text = [0u8; TEXT_ROOM];
-    let len = print(&said, &mut text);
-    world.put(&text[..len])
+    serve_line(host, line, &mut out.reply, world);
+    out.text.print(&out.reply);
+    world.put(out.text.bytes())
 }
 
 // Takes one byte of the script, and answers the line that it ends.
@@ -45,17 +70,22 @@ fn run_byte<W: Outside>(
     host: &mut Host,
     line: &mut LineBuffer,
     b: u8,
+    out: &mut ReplyBuffer,
     world: &mut W,
 ) -> Result<(), SinkFailed>
+    requires sound { IsSound host.old }
+    requires few { host.old.lines < 2 ^ 31 }
     ensures feeds { Acts (W.told world.old) (W.told world.new) (W.beside world.old) (W.beside world.new) (λ more. (s : System) (fed : List ℕ) (added : List Event) →
         Fed s fed added host.old (W.told world.old) line.old → Feeds s fed (b ∷ []) added more host.new (W.told world.new) line.new (is_ok result)) }
     ensures cause { OnErr result (Rose (W.beside world.old).sink_faults (W.beside world.new).sink_faults) }
+    ensures sound { IsSound host.new }
+    ensures counted { host.new.lines ≤ host.old.lines + 1 }
 {
     if b != b'\n' {
         line.push(b);
         return Ok(());
     }
-    let answered = answer_line(host, line.bytes(), world);
+    let answered = answer_line(host, line.bytes(), out, world);
     line.clear();
     answered
 }
@@ -65,20 +95,32 @@ fn run_bytes<W: Outside>(
     host: &mut Host,
     line: &mut LineBuffer,
     bytes: &[u8],
+    out: &mut ReplyBuffer,
     world: &mut W,
 ) -> Result<(), SinkFailed>
+    requires sound { IsSound host.old }
+    requires few { host.old.lines + length bytes.now ≤ 2 ^ 31 }
     ensures feeds { Acts (W.told world.old) (W.told world.new) (W.beside world.old) (W.beside world.new) (λ more. (s : System) (fed : List ℕ) (added : List Event) →
         Fed s fed added host.old (W.told world.old) line.old → Feeds s fed bytes.now added more host.new (W.told world.new) line.new (is_ok result)) }
     ensures cause { OnErr result (Rose (W.beside world.old).sink_faults (W.beside world.new).sink_faults) }
+    ensures sound { IsSound host.new }
+    ensures counted { host.new.lines ≤ host.old.lines + length bytes.now }
 {
     for b in bytes {
-        run_byte(host, line, *b, world)?;
+        run_byte(host, line, *b, out, world)?;
     }
     Ok(())
 }
 
 // The script is at its end: its last line may have no newline.
-fn finish<W: Outside>(host: &mut Host, line: &LineBuffer, world: &mut W) -> Result<(), SinkFailed>
+fn finish<W: Outside>(
+    host: &mut Host,
+    line: &LineBuffer,
+    out: &mut ReplyBuffer,
+    world: &mut W,
+) -> Result<(), SinkFailed>
+    requires sound { IsSound host.old }
+    requires few { host.old.lines < 2 ^ 31 }
     ensures finishes { Acts (W.told world.old) (W.told world.new) (W.beside world.old) (W.beside world.new) (λ more. (s : System) (fed : List ℕ) (added : List Event) →
         Fed s fed added host.old (W.told world.old) line.now → Finishes s fed added more (W.told world.new) (is_ok result)) }
     ensures cause { OnErr result (Rose (W.beside world.old).sink_faults (W.beside world.new).sink_faults) }
@@ -86,7 +128,7 @@ fn finish<W: Outside>(host: &mut Host, line: &LineBuffer, world: &mut W) -> Resu
     if line.bytes().is_empty() {
         return Ok(());
     }
-    answer_line(host, line.bytes(), world)
+    answer_line(host, line.bytes(), out, world)
 }
 
 // No more than so many bytes of a script are run.
@@ -97,16 +139,21 @@ fn turn<W: Outside>(
     host: &mut Host,
     line: &mut LineBuffer,
     chunk: &mut [u8],
+    out: &mut ReplyBuffer,
     world: &mut W,
 ) -> Result<usize, Status>
-    requires { 0 < length chunk.old }
+    requires some { 0 < length chunk.old }
+    requires sound { IsSound host.old }
+    requires few { host.old.lines + length chunk.old ≤ 2 ^ 31 }
     ensures turns { Turns (length chunk.old) (W.told world.old) (W.told world.new) (W.beside world.old) (W.beside world.new) host.old host.new line.old line.new result }
     ensures bound { IfOk result (λ n. n ≤ length chunk.old) }
     ensures cause { IfErr result (λ e. IsFault (W.beside world.old) (W.beside world.new) e) }
+    ensures sound { IsSound host.new }
+    ensures counted { IfOk result (λ n. host.new.lines ≤ host.old.lines + n) }
 {
     match world.fetch(chunk) {
         Err(_) => Err(Status::Source),
-        Ok(count) => match run_bytes(host, line, &chunk[..count], world) {
+        Ok(count) => match run_bytes(host, line, &chunk[..count], out, world) {
             Ok(()) => Ok(count),
             Err(_) => Err(Status::Sink),
         },
@@ -114,19 +161,33 @@ fn turn<W: Outside>(
 }
 
 // The script is at its end.
-fn end_script<W: Outside>(host: &mut Host, line: &LineBuffer, world: &mut W) -> Status
+fn end_script<W: Outside>(
+    host: &mut Host,
+    line: &LineBuffer,
+    out: &mut ReplyBuffer,
+    world: &mut W,
+) -> Status
+    requires sound { IsSound host.old }
+    requires few { host.old.lines < 2 ^ 31 }
     ensures finishes { Acts (W.told world.old) (W.told world.new) (W.beside world.old) (W.beside world.new) (λ more. (s : System) (fed : List ℕ) (added : List Event) →
         Fed s fed added host.old (W.told world.old) line.now → Finishes s fed added more (W.told world.new) (is_done result)) }
     ensures cause { (result ≡ Status.Done) ⊎ ((result ≡ Status.Sink) × Rose (W.beside world.old).sink_faults (W.beside world.new).sink_faults) }
 {
-    match finish(host, line, world) {
+    match finish(host, line, out, world) {
         Ok(()) => Status::Done,
         Err(_) => Status::Sink,
     }
 }
 
 /// Runs the script to its end, or until the limit is passed, a fetch or a put fails.
-pub fn run_script<W: Outside>(host: &mut Host, line: &mut LineBuffer, world: &mut W) -> Status
+pub fn run_script<W: Outside>(
+    host: &mut Host,
+    line: &mut LineBuffer,
+    out: &mut ReplyBuffer,
+    world: &mut W,
+) -> Status
+    requires sound { IsSound host.old }
+    requires none { host.old.lines ≡ 0 }
     ensures ran { Ran (W.told world.old) (W.told world.new) (W.beside world.old) (W.beside world.new) host.old line.old result }
     ensures cause { IsScriptEnd (W.beside world.old) (W.beside world.new) result }
 {
@@ -134,15 +195,15 @@ pub fn run_script<W: Outside>(host: &mut Host, line: &mut LineBuffer, world: &mu
     let mut count: usize = 0;
     while count < LIMIT {
         let room = (LIMIT - count).min(4096);
-        match turn(host, line, &mut chunk[..room], world) {
+        match turn(host, line, &mut chunk[..room], out, world) {
             Err(status) => return status,
-            Ok(0) => return end_script(host, line, world),
+            Ok(0) => return end_script(host, line, out, world),
             Ok(more) => count += more,
         }
     }
     match world.fetch(&mut chunk[..1]) {
         Err(_) => Status::Source,
-        Ok(0) => end_script(host, line, world),
+        Ok(0) => end_script(host, line, out, world),
         Ok(_) => Status::Long,
     }
 }

@@ -33,6 +33,12 @@ bytes_of_blocks (suc n) bytes is =
     ap (at (blocks_in (suc n) bytes)) one ∙ ap (at (blocks_in n (drop 512 bytes))) none) in
     ap (λ t. take 512 bytes ++ t) (rest ∙ bytes_of_blocks n (drop 512 bytes) left) ∙ take-append-drop 512 bytes
 
+-- the last eight of zeros behind some bytes
+zeros_end : (bytes : List ℕ) (n m : ℕ) → n ≡ m + 8 → drop (length bytes + m) (bytes ++ replicate n 0) ≡ replicate 8 0
+zeros_end bytes n m is =
+    let eight : n - m ≡ 8 = omega (arith, is) in
+    drop-append-add bytes (replicate n 0) m ∙ drop-replicate m n 0 ∙ ap (λ j. replicate j 0) eight
+
 module _ (number next : ℕ) (payload : List ℕ) where
   abbrev blocks : ℕ
   blocks = entry_blocks (length payload)
@@ -62,20 +68,25 @@ module _ (number next : ℕ) (payload : List ℕ) where
       ap (λ t. drop 504 t) (at_blocks blocks (blocks - 1) bytes (omega (arith, some)) ∙ take_all 512 (drop (512 * (blocks - 1)) bytes) (omega (arith, left, long, some)))
       ∙ drop-drop 504 (512 * (blocks - 1)) bytes ∙ ap (λ j. drop j bytes) cut
 
+  -- zeros behind the payload, and how many of them stand before the last eight
+  abbrev pad : ℕ
+  pad = 512 * entry_blocks (length payload) - (20 + length payload)
+
+  abbrev before_last : ℕ
+  before_last = 512 * entry_blocks (length payload) - 28 - length payload
+
+  ends_front : drop (512 * blocks - 8) (entry_bytes number next payload) ≡ drop (length payload + before_last) (payload ++ replicate pad 0)
+  ends_front =
+      let hold : 28 + length payload ≤ 512 * entry_blocks (length payload) = (blocks_hold (length payload)).0 in
+      let cut : 512 * entry_blocks (length payload) - 8 ≡ 20 + (length payload + before_last) = omega (arith, hold) in
+      ap (λ j. drop j (entry_bytes number next payload)) cut
+      ∙ drop-append-add (head_bytes (length payload) number next) (payload ++ replicate pad 0) (length payload + before_last)
+
+  ends_back : drop (length payload + before_last) (payload ++ replicate pad 0) ≡ replicate 8 0
+  ends_back = let hold : 28 + length payload ≤ 512 * entry_blocks (length payload) = (blocks_hold (length payload)).0 in zeros_end payload pad before_last (omega (arith, hold))
+
   pub draft_ends : drop 504 (at (draft number next payload) (blocks - 1)) ≡ replicate 8 0
-  draft_ends =
-      let len = length payload in
-      let hold : 28 + len ≤ 512 * entry_blocks len = (blocks_hold len).0 in
-      let zeros : List ℕ = replicate (512 * entry_blocks len - (20 + len)) 0 in
-      let cut : 512 * entry_blocks len - 8 ≡ 20 + (len + (512 * entry_blocks len - 28 - len)) = omega (arith, hold) in
-      let eight : 512 * entry_blocks len - (20 + len) - (512 * entry_blocks len - 28 - len) ≡ 8 = omega (arith, hold) in
-      let front : drop (20 + (len + (512 * entry_blocks len - 28 - len))) (entry_bytes number next payload) ≡ drop (len + (512 * entry_blocks len - 28 - len)) (payload ++ zeros) =
-      drop-append-add (head_bytes len number next) (payload ++ zeros) (len + (512 * entry_blocks len - 28 - len)) in
-      last_of (entry_bytes number next payload) length-entry_bytes ∙ ap (λ j. drop j (entry_bytes number next payload)) cut
-      ∙ front
-      ∙ drop-append-add payload zeros (512 * entry_blocks len - 28 - len)
-      ∙ drop-replicate (512 * entry_blocks len - 28 - len) (512 * entry_blocks len - (20 + len)) 0
-      ∙ ap (λ j. replicate j 0) eight
+  draft_ends = last_of (entry_bytes number next payload) length-entry_bytes ∙ ends_front ∙ ends_back
 
   length-marked : length (marked (entry_bytes number next payload)) ≡ 512 * blocks
   length-marked = ap (λ t. length t) (marked-is number next payload) ∙ length-spelling number next payload

@@ -2,10 +2,11 @@ ghost use Rattle.std.specs.Prelude.{◌≡◌, ◌+◌, ◌^◌, ◌<◌, Ok, If
 ghost use Rattle.ark_media.specs.Calls.{GoesBy, Told};
 ghost use Rattle.ark_extents.specs.Free.{free_at_first};
 ghost use Rattle.ark_script.specs.Line.{line_of};
+ghost use Rattle.ark_script.specs.Ranges.{InRange};
 ghost use Rattle.ark_script.specs.Reply.{bytes_shown};
 ghost use Rattle.ark_script.specs.Text.{IsSaid};
 ghost use Rattle.ark_machine.specs.System.{System, fresh_system};
-ghost use Rattle.ark_host.specs.Time.{IsSound, IsTimely};
+ghost use Rattle.ark_host.specs.Time.{IsSound};
 
 mod apps;
 mod areas;
@@ -32,7 +33,7 @@ pub struct Host {
     slots: u16,
     // the tick
     clock: u64,
-    // how many lines were served
+    // how many steps were made, each for a line of the script
     lines: u32,
     alloc: Global,
 }
@@ -67,7 +68,7 @@ impl Host {
         self.slots
     }
 
-    /// How many lines it has served.
+    /// How many lines it has made the steps of.
     pub fn lines(&self) -> u32
         ensures { result ≡ self.now.lines }
     {
@@ -78,7 +79,7 @@ impl Host {
     pub fn step<D: Disk>(&mut self, disk: &mut D, step: &Step<'_>, out: &mut Reply)
         requires sound { IsSound self.old }
         requires few { self.old.lines < 2 ^ 31 }
-        requires timely { IsTimely (line_of step.now) }
+        requires ranges { InRange (line_of step.now) }
         ensures answers { GoesBy D.goes disk.old disk.new (λ es. (s : System) → Stands self.old (D.told disk.old) s →
             Answered self.new (D.told disk.new) s (Ok (line_of step.now)) es out.new.said (bytes_shown out.new)) }
         ensures said { IsSaid out.new.said }

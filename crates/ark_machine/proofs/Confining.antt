@@ -26,8 +26,8 @@ use Rattle.ark_machine.specs.Follow.{Follow, ended, fails, goes_on, again, passe
 use Rattle.ark_machine.specs.Replies.{turn_for, system_after, has_lacked, EachAnswers, Begins, Replies}
 use Rattle.ark_machine.specs.Confined.{AllAllowed, EndsAtFailure, IsConfined, EachConfined, BeginsConfined, Confined}
 use Rattle.ark_machine.proofs.Reaching.{AllowsCall, AllowsAll, AreIn, reads, reads_some, writes, grants, drops, opens, poll_quiet}
-use Rattle.ark_machine.specs.Sending.{AllKeep}
-use Rattle.ark_machine.proofs.Sent.{sends_within, rates_kept}
+use Rattle.ark_machine.specs.Paced.{StandsPaced}
+use Rattle.ark_machine.proofs.Sent.{sends_within, rates_kept, paced_keep}
 use Rattle.ark_machine.proofs.Touching.{settles, call_quiet, devices, reaped_quiet, taken_quiet, given_quiet, quiet_all, unless}
 
 pub follow_allowed : {s : System} {a : List ℕ} (line : Line) {cs : List Call} {es : List Event} → AllByRecursion (AllowsCall s a line) cs → Follow s a line cs es → AllAllowed s line es
@@ -161,14 +161,14 @@ confined_front : (s : System) (m : Meaning) (es more : List Event) → IsConfine
 confined_front s (Ok line) es more h = (allowed_front s line es more h.0, ends_front es more h.1)
 confined_front s (Err refusal) es more h = none_front es more h
 
-each_confined : (s : System) (ms : List Meaning) (ps : List (List Event)) → AllKeep s → EachAnswers s ms ps → EachConfined s ms ps
+each_confined : (s : System) (ms : List Meaning) (ps : List (List Event)) → StandsPaced s → EachAnswers s ms ps → EachConfined s ms ps
 each_confined s [] ps k h = tt
 each_confined s (m ∷ ms) [] k h = tt
 each_confined s (m ∷ ms) (p ∷ ps) k h = (
   record {
     device = performs_confined s m (ends_of (device_events p)) (has_lacked p) (device_events p) h.0.calls;
     sends = sends_within s m p h.0;
-    rates = rates_kept s m p k;
+    rates = paced_keep (turn_for s m p).after (rates_kept s m p k);
   },
   each_confined (turn_for s m p).after ms ps (rates_kept s m p k) h.1,
 )
@@ -186,7 +186,7 @@ begins_confined s (line ∷ lines) es (inr b) =
     inr (b.0, b.1, confined_front s b.0 es b.2.more (performs_confined s b.0 (ends_of (es ++ b.2.more)) false (es ++ b.2.more) b.2.calls))
 
 -- whoever answers as the machines do is confined
-pub confined_of : (s : System) (lines : List (List ℕ)) (whole : List (List Event)) (unfinished : List Event) → AllKeep s → Replies s lines whole unfinished → Confined s lines whole unfinished
+pub confined_of : (s : System) (lines : List (List ℕ)) (whole : List (List Event)) (unfinished : List Event) → StandsPaced s → Replies s lines whole unfinished → Confined s lines whole unfinished
 confined_of s lines whole unfinished k r = record {
   meanings = r.meanings;
   say = r.say;

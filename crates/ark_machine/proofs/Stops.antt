@@ -1,5 +1,6 @@
 -- What stops leave, in worked scripts.
 use Rattle.std.proofs.Common.{◌≡◌, inl, inr, ℕ, zero, suc, ◌<◌, true, List, [], ◌∷◌, ◌++◌, length, replicate, codes, refl, sym, subst, ap, arith}
+use Rattle.std.specs.Fmt.{digits}
 use Rattle.std.specs.Prelude.{Ok, Some, None, Contains, slice_index_or}
 use Rattle.ark_base.specs.declared.kind.Kind.TheVariants as kind
 use Rattle.ark_media.specs.Journal.{Event, Write, Sync, onto, current, block, zero_block}
@@ -9,13 +10,14 @@ use Rattle.ark_table.specs.Superblock.{superblock}
 use Rattle.ark_table.specs.Slots.{Slot, slots_of}
 use Rattle.ark_entry.specs.Entry.{entry_bytes, marked}
 use Rattle.ark_entry.specs.Found.{found, found_of}
+use Rattle.ark_entry.specs.Header.{header_bytes}
 use Rattle.ark_script.specs.Line as w
 use Rattle.ark_machine.specs.Row.{answer}
 use Rattle.ark_machine.specs.Step.{step}
-use Rattle.ark_machine.specs.Start.{view}
+use Rattle.ark_machine.specs.Start.{view, start_system}
 use Rattle.ark_machine.specs.System.{System, fresh_system}
 use Rattle.ark_machine.specs.Recovers.{Recovers, begun, ContentStands, log_choices}
-use Rattle.ark_machine.proofs.Playing.{Played, played}
+use Rattle.ark_machine.proofs.Playing.{Played, played, replies, performed}
 use Rattle.ark_machine.proofs.Scripts.{quiet, app, area, granting, dropping}
 use Rattle.ark_machine.proofs.Logs.{with_log, opened}
 use Rattle.ark_machine.proofs.Images.{history}
@@ -139,3 +141,31 @@ zero_again image left =
 
 pub nothing_found : (image : List (List ℕ)) → MayLeave Whole base (onto (history 200 reused) []) image → found_of kind.Log (view image log_slot.blocks) ≡ found (record { first = 1; payloads = [] })
 nothing_found image left = ap (λ x. found_of kind.Log x) (zero_again image left)
+
+-- The replies of these scripts, and of the openings after the stop.
+
+abbrev v : List ℕ
+v = codes "v"
+
+abbrev reopened : List Played
+reopened = app a ∷ quiet (w.vsic a v 2) ∷ quiet (w.log a l v) ∷ []
+
+pub reopened_with-replies : replies (start_system with_entry (log_slot ∷ [])) reopened ≡ codes "ok" ∷ codes "ok" ∷ codes "ok 1 1" ∷ []
+unfolding step answer superblock digits
+reopened_with-replies = refl
+
+pub reopened_without-replies : replies (start_system without_entry (log_slot ∷ [])) reopened ≡ codes "ok" ∷ codes "ok" ∷ codes "ok 1 0" ∷ []
+unfolding step answer superblock digits
+reopened_without-replies = refl
+
+abbrev reused_log : List Played
+reused_log = reused ++ (quiet (w.vsic a v 2) ∷ (w.log a l v, Sync true ∷ Write 129 (header_bytes kind.Log 1 0 0 0) true true ∷ Sync true ∷ []) ∷ [])
+
+pub reused_log-replies : replies (fresh_system 200) reused_log
+    ≡ codes "ok" ∷ codes "ok" ∷ codes "ok" ∷ codes "ok" ∷ codes "ok" ∷ codes "ok" ∷ codes "ok" ∷ codes "ok 1 0" ∷ []
+unfolding step answer digits
+reused_log-replies = refl
+
+pub reused_log-performed : performed (fresh_system 200) reused_log ≡ true
+unfolding step answer
+reused_log-performed = refl

@@ -31,7 +31,6 @@ use Rattle.ark_machine.specs.Devices.{card_moves}
 use Rattle.ark_machine.specs.System.{System, machine_of}
 use Rattle.ark_machine.specs.Plane.{blocks_at}
 use Rattle.ark_machine.specs.Confined.{reach, bound_to, blocks_numbered, open_blocks}
-
 use Rattle.ark_machine.proofs.Reaching.{AllowsCall, AllowsAll, AreIn, reads, writes, syncs, gated_calls, tried_calls, phase_calls, poll_quiet, IsQuiet}
 
 -- `settle`
@@ -111,10 +110,10 @@ open_in s a v l b (x ∷ xs) h here =
     let rest : List ℕ = flat_map (λ y. open_blocks s a v y) xs in
     let found : Option Held = find (λ y. is_open_on v y.object) xs in
     let go : (t : Bool) → option_map (λ y. y.label) (cond t (Some x) found) ≡ Some l → Contains (cond t (blocks_at s.plane a x.label) [] ++ rest) b = λ t e.
-        elim t as (λ u. option_map (λ y. y.label) (cond u (Some x) found) ≡ Some l → Contains (cond u (blocks_at s.plane a x.label) [] ++ rest) b) [
-          | true ↦ λ e. Contains-append_left (blocks_at s.plane a x.label) rest b (subst (λ z. Contains (blocks_at s.plane a z) b) (sym (some_label x.label l e)) here)
-          | false ↦ λ e. open_in s a v l b xs e here
-        ] e in
+    elim t as (λ u. option_map (λ y. y.label) (cond u (Some x) found) ≡ Some l → Contains (cond u (blocks_at s.plane a x.label) [] ++ rest) b) [
+      | true ↦ λ e. Contains-append_left (blocks_at s.plane a x.label) rest b (subst (λ z. Contains (blocks_at s.plane a z) b) (sym (some_label x.label l e)) here)
+      | false ↦ λ e. open_in s a v l b xs e here
+    ] e in
     go (is_open_on v x.object) h
 
 -- the blocks of an area that is bound to the card are within its reach
@@ -156,7 +155,7 @@ moves_in s a v x (transfer t ∷ js) e at =
     let calls : List Call = transfer_call m t x.queue.moved ∷ [] in
     gated_calls (AllowsCall s a (w.dev a v)) m v x (transfer t) js (is_granted m x t.vsa) (tried m.now e.ok t.count after v x (transfer t) js calls)
     (λ g. tried_calls (AllowsCall s a (w.dev a v)) m.now e.ok t.count after v x (transfer t) js calls
-        (transfer_calls s a v t x.queue.moved (reaches_bound s a v x t.vsa at (and_parts (list_any (λ b. b == t.vsa) x.bound) (is_some (at_serial m t.vsa)) g).0)))
+    (transfer_calls s a v t x.queue.moved (reaches_bound s a v x t.vsa at (and_parts (list_any (λ b. b == t.vsa) x.bound) (is_some (at_serial m t.vsa)) g).0)))
 
 card_moves_in : (s : System) (a v : List ℕ) (e : Ended) (o : Option Vsic) → vsic_at (machine_of s a) v ≡ o
     → AllowsAll s a (w.dev a v) (unwrap_or (option_map (λ x. moved (machine_of s a) v x x.queue.posted e) o) (moves (machine_of s a) said.Idle [])).calls

@@ -24,3 +24,10 @@ pub mod Sending
 pub mod Confined
 pub mod Start
 pub mod Recovers
+pub mod Paced
+pub mod Refused
+pub mod Asked
+pub mod Private
+pub mod Ranks
+pub mod Told
+pub mod Grants

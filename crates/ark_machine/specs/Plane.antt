@@ -1,5 +1,5 @@
 -- The control plane: what is granted, as sets and lists of names, blocks and filters.
-use Rattle.std.specs.Prelude.{ℕ, zero, suc, ◌+◌, ◌-◌, Bool, true, false, not, ◌&&◌, List, [], ◌++◌, length, take, nat_le, nat_lt, ◌==◌, if◌then◌else◌, Option, Some, None, is_some, is_none, option_map, find, filter as select, unwrap_or, bytes_eq}
+use Rattle.std.specs.Prelude.{ℕ, zero, suc, ◌+◌, ◌-◌, Bool, true, false, not, ◌&&◌, List, [], ◌++◌, length, take, nat_le, nat_lt, ◌==◌, if◌then◌else◌, Option, Some, None, is_none, option_map, find, filter as select, unwrap_or, bytes_eq}
 use Rattle.std.specs.List.{list_any, range_with_len}
 use Rattle.ark_extents.specs.Blocks.{runs_of}
 use Rattle.ark_filters.specs.Overlap.{meets}
@@ -126,7 +126,6 @@ overlapped p _ = None
 -- what is recorded for a line, with how its device calls ended and whether it found no memory
 abbrev pub recorded : Plane → Line → List Ended → Bool → Given
 recorded p line ends memory = record {
-  name_taken = is_some p.own;
   limit = is_at_limit p line;
   no_nic = is_none p.own;
   no_space = unwrap_or (option_map (λ n. nat_lt (length (free_blocks p)) n) (asked line)) false;

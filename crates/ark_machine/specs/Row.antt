@@ -20,8 +20,6 @@ pub record Ended : Type 0 where
 -- What a line is given beside its machine: what the plane records of it, how its device calls ended, and whether memory
 -- was wanting.
 pub record Given : Type 0 where
-  -- the new name is taken
-  pub name_taken : Bool
   -- a count over all applications stands at its limit
   pub limit : Bool
   -- this end has no addresses yet

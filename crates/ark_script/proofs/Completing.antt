@@ -16,7 +16,7 @@ use Rattle.ark_script.specs.declared.reading.word.EntryWord.TheVariants as entry
 use Rattle.ark_script.specs.declared.reading.word.WriteWord.TheVariants as write
 use Rattle.ark_script.proofs.Shaping.{pair_reads, triple_reads, count_reads, length_reads, range_reads, turn_reads, transfer_reads, entry_reads, write_reads}
 use Rattle.ark_script.proofs.Singling.{nic_reads, bare_app_reads, sized_app_reads, no_bare_app, vsic_reads, vnic_reads, vsa_complete, filter_complete, take_reads, sendto_reads, wire_reads, tick_reads}
-use Rattle.ark_script.proofs.Wording.{kind_of_line}
+use Rattle.ark_script.proofs.WordOf.{kind_of_line}
 
 pub complete : (asked : Line) (words : List (List ℕ)) → AreArguments asked words → line_read (kind_of_line asked) words ≡ Some asked
 unfolding read_pair read_triple read_count read_length read_range read_turn read_transfer read_entry read_write read_nic read_bare_app read_sized_app read_app read_vsic read_vnic read_take read_sendto read_wire read_tick

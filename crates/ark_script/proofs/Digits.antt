@@ -37,3 +37,8 @@ length-spelled (a ∷ []) n h = absurd (omega arith)
 length-spelled (a ∷ b ∷ rest) n h =
     let more : length (spelled rest) ≡ n - 1 = length-spelled rest (n - 1) (omega arith) in
     omega (arith, more)
+
+pub length-spelled_half : (s : List ℕ) → length (spelled s) ≡ length s / 2
+length-spelled_half [] = omega arith
+length-spelled_half (a ∷ []) = omega arith
+length-spelled_half (a ∷ b ∷ rest) = let more = length-spelled_half rest in omega (arith, more)

@@ -1,6 +1,6 @@
 -- A line means what its words mean when they are read from left to right.
 use Rattle.std.proofs.Common.{◌≡◌, ℕ, ◌≤◌, bytes_eq, List, ◌∷◌, length, Option, Some, None, Result, Ok, Err, refl, sym, ap, ◌∙◌, subst}
-use Rattle.std.specs.Prelude.{MatchResult}
+use Rattle.std.specs.Prelude.{IfOk, MatchResult}
 use Rattle.std.specs.List.{list_any}
 use Rattle.std.specs.Option.{is_some}
 use Rattle.std.proofs.lemmas.Bool.{false≢true}
@@ -12,23 +12,26 @@ use Rattle.ark_script.specs.Form.{IsForm, Sentence, AreArguments, word_of}
 use Rattle.ark_script.specs.Line.{Line, line_of}
 use Rattle.ark_script.specs.Lines.{Says, max_line}
 use Rattle.ark_script.specs.Meant.{Means, meaning_of, word_meaning, or_syntax}
+use Rattle.ark_script.specs.Ranges.{InRange}
 use Rattle.ark_script.specs.Shape.{line_read}
 use Rattle.ark_script.specs.Word.{word_at}
 use Rattle.ark_script.specs.Words.{first_word, known_words, words_of}
 use Rattle.ark_script.proofs.Completing.{complete}
 use Rattle.ark_script.proofs.Parts.{parts_some}
+use Rattle.ark_script.proofs.Ranging.{in_range}
 use Rattle.ark_script.proofs.Sounding.{sound}
-use Rattle.ark_script.proofs.Wording.{word_spelled, spelling, spelling_of, word_at-word_of, kind_of_line, is_known, first_of_words}
+use Rattle.ark_script.proofs.WordOf.{spelling, spelling_of, word_at-word_of, kind_of_line}
+use Rattle.ark_script.proofs.Wording.{word_spelled, is_known, first_of_words}
 
 -- whether the first word is known
-known_is : (line first : List ℕ) (words : List (List ℕ)) (o : Option Word) → words_of line ≡ first ∷ words → word_at first ≡ o
+pub known_is : (line first : List ℕ) (words : List (List ℕ)) (o : Option Word) → words_of line ≡ first ∷ words → word_at first ≡ o
     → list_any (bytes_eq (first_word line)) known_words ≡ is_some o
 known_is line first words o e h = rw (first_of_words line first words e) (is_known first ∙ ap is_some h)
 
-form_is : (line first : List ℕ) (words : List (List ℕ)) (asked : Line) → words_of line ≡ first ∷ words → IsForm asked line → (first ≡ word_of asked) × AreArguments asked words
+pub form_is : (line first : List ℕ) (words : List (List ℕ)) (asked : Line) → words_of line ≡ first ∷ words → IsForm asked line → (first ≡ word_of asked) × AreArguments asked words
 form_is line first words asked e h = subst (λ (ws : List (List ℕ)). Sentence (word_of asked) (AreArguments asked) ws) e h
 
-is_form : (line first : List ℕ) (words : List (List ℕ)) (asked : Line) → words_of line ≡ first ∷ words → first ≡ word_of asked → AreArguments asked words → IsForm asked line
+pub is_form : (line first : List ℕ) (words : List (List ℕ)) (asked : Line) → words_of line ≡ first ∷ words → first ≡ word_of asked → AreArguments asked words → IsForm asked line
 is_form line first words asked e h k = subst (λ (ws : List (List ℕ)). Sentence (word_of asked) (AreArguments asked) ws) (sym e) (h, k)
 
 -- a known word, by what it gives with the words behind it
@@ -62,3 +65,11 @@ pub says_result : (line : List ℕ) (r : Result Step Refusal) → length line �
     → MatchResult r (λ step. Says line (Ok (line_of step))) (λ refusal. Says line (Err refusal))
 says_result line (Ok step) short h = subst (Says line) h (says line short)
 says_result line (Err refusal) short h = subst (Says line) h (says line short)
+
+-- what a line asks for is in its range
+pub ranges_result : (line : List ℕ) (r : Result Step Refusal) → length line ≤ max_line → Means r (meaning_of (words_of line)) → IfOk r (λ step. InRange (line_of step))
+ranges_result line (Ok step) short h =
+    let parts = parts_some 32 line in
+    let form : Says line (Ok (line_of step)) = says_result line (Ok step) short h in
+    in_range (line_of step) parts.1 (form_is line parts.0 parts.1 (line_of step) parts.2 form.1).1
+ranges_result line (Err refusal) short h = tt

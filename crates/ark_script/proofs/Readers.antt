@@ -25,7 +25,7 @@ one_reads {A = A} f P rf = record { sound = sound; complete = complete }
     sound (w0 ∷ []) x e =
         let s0 = bind_some (f w0) _ x e in
         let same : s0.0 ≡ x = same_Some _ _ s0.2 in
-        subst (λ (y : A). (λ (x : A). One (P x)) y (w0 ∷ [])) same (rf.sound w0 s0.0 s0.1)
+        subst (λ (y : A). (λ (x : A). One (P x)) y (w0 ∷ [])) {x = s0.0} same (rf.sound w0 s0.0 s0.1)
     sound (w0 ∷ z ∷ zs) x e = cc
 
     complete : (words : List (List ℕ)) (x : A) → (λ (x : A). One (P x)) x words → one_read f words ≡ Some x
@@ -45,7 +45,7 @@ two_reads {A = A} {B = B} f P g Q rf rg = record { sound = sound; complete = com
         let s0 = bind_some (f w0) _ x e in
         let s1 = bind_some (g w1) _ x s0.2 in
         let same : (s0.0, s1.0) ≡ x = same_Some _ _ s1.2 in
-        subst (λ (y : (A × B)). (λ (x : A × B). Two (P x.0) (Q x.1)) y (w0 ∷ w1 ∷ [])) same (rf.sound w0 s0.0 s0.1, rg.sound w1 s1.0 s1.1)
+        subst (λ (y : (A × B)). (λ (x : A × B). Two (P x.0) (Q x.1)) y (w0 ∷ w1 ∷ [])) {x = (s0.0, s1.0)} same (rf.sound w0 s0.0 s0.1, rg.sound w1 s1.0 s1.1)
     sound (w0 ∷ w1 ∷ z ∷ zs) x e = cc
 
     complete : (words : List (List ℕ)) (x : (A × B)) → (λ (x : A × B). Two (P x.0) (Q x.1)) x words → two_read f g words ≡ Some x
@@ -68,7 +68,7 @@ three_reads {A = A} {B = B} {C = C} f P g Q h R rf rg rh = record { sound = soun
         let s1 = bind_some (g w1) _ x s0.2 in
         let s2 = bind_some (h w2) _ x s1.2 in
         let same : (s0.0, s1.0, s2.0) ≡ x = same_Some _ _ s2.2 in
-        subst (λ (y : (A × B × C)). (λ (x : A × B × C). Three (P x.0) (Q x.1) (R x.2)) y (w0 ∷ w1 ∷ w2 ∷ [])) same (rf.sound w0 s0.0 s0.1, rg.sound w1 s1.0 s1.1, rh.sound w2 s2.0 s2.1)
+        subst (λ (y : (A × B × C)). (λ (x : A × B × C). Three (P x.0) (Q x.1) (R x.2)) y (w0 ∷ w1 ∷ w2 ∷ [])) {x = (s0.0, s1.0, s2.0)} same (rf.sound w0 s0.0 s0.1, rg.sound w1 s1.0 s1.1, rh.sound w2 s2.0 s2.1)
     sound (w0 ∷ w1 ∷ w2 ∷ z ∷ zs) x e = cc
 
     complete : (words : List (List ℕ)) (x : (A × B × C)) → (λ (x : A × B × C). Three (P x.0) (Q x.1) (R x.2)) x words → three_read f g h words ≡ Some x
@@ -94,7 +94,7 @@ four_reads {A = A} {B = B} {C = C} {D = D} f P g Q h R i S rf rg rh ri = record 
         let s2 = bind_some (h w2) _ x s1.2 in
         let s3 = bind_some (i w3) _ x s2.2 in
         let same : (s0.0, s1.0, s2.0, s3.0) ≡ x = same_Some _ _ s3.2 in
-        subst (λ (y : (A × B × C × D)). (λ (x : A × B × C × D). Four (P x.0) (Q x.1) (R x.2) (S x.3)) y (w0 ∷ w1 ∷ w2 ∷ w3 ∷ [])) same (rf.sound w0 s0.0 s0.1, rg.sound w1 s1.0 s1.1, rh.sound w2 s2.0 s2.1, ri.sound w3 s3.0 s3.1)
+        subst (λ (y : (A × B × C × D)). (λ (x : A × B × C × D). Four (P x.0) (Q x.1) (R x.2) (S x.3)) y (w0 ∷ w1 ∷ w2 ∷ w3 ∷ [])) {x = (s0.0, s1.0, s2.0, s3.0)} same (rf.sound w0 s0.0 s0.1, rg.sound w1 s1.0 s1.1, rh.sound w2 s2.0 s2.1, ri.sound w3 s3.0 s3.1)
     sound (w0 ∷ w1 ∷ w2 ∷ w3 ∷ z ∷ zs) x e = cc
 
     complete : (words : List (List ℕ)) (x : (A × B × C × D)) → (λ (x : A × B × C × D). Four (P x.0) (Q x.1) (R x.2) (S x.3)) x words → four_read f g h i words ≡ Some x
@@ -123,7 +123,7 @@ five_reads {A = A} {B = B} {C = C} {D = D} {E = E} f P g Q h R i S j T rf rg rh 
         let s3 = bind_some (i w3) _ x s2.2 in
         let s4 = bind_some (j w4) _ x s3.2 in
         let same : (s0.0, s1.0, s2.0, s3.0, s4.0) ≡ x = same_Some _ _ s4.2 in
-        subst (λ (y : (A × B × C × D × E)). (λ (x : A × B × C × D × E). Five (P x.0) (Q x.1) (R x.2) (S x.3) (T x.4)) y (w0 ∷ w1 ∷ w2 ∷ w3 ∷ w4 ∷ [])) same (rf.sound w0 s0.0 s0.1, rg.sound w1 s1.0 s1.1, rh.sound w2 s2.0 s2.1, ri.sound w3 s3.0 s3.1, rj.sound w4 s4.0 s4.1)
+        subst (λ (y : (A × B × C × D × E)). (λ (x : A × B × C × D × E). Five (P x.0) (Q x.1) (R x.2) (S x.3) (T x.4)) y (w0 ∷ w1 ∷ w2 ∷ w3 ∷ w4 ∷ [])) {x = (s0.0, s1.0, s2.0, s3.0, s4.0)} same (rf.sound w0 s0.0 s0.1, rg.sound w1 s1.0 s1.1, rh.sound w2 s2.0 s2.1, ri.sound w3 s3.0 s3.1, rj.sound w4 s4.0 s4.1)
     sound (w0 ∷ w1 ∷ w2 ∷ w3 ∷ w4 ∷ z ∷ zs) x e = cc
 
     complete : (words : List (List ℕ)) (x : (A × B × C × D × E)) → (λ (x : A × B × C × D × E). Five (P x.0) (Q x.1) (R x.2) (S x.3) (T x.4)) x words → five_read f g h i j words ≡ Some x
@@ -155,7 +155,7 @@ six_reads {A = A} {B = B} {C = C} {D = D} {E = E} {F = F} f P g Q h R i S j T k 
         let s4 = bind_some (j w4) _ x s3.2 in
         let s5 = bind_some (k w5) _ x s4.2 in
         let same : (s0.0, s1.0, s2.0, s3.0, s4.0, s5.0) ≡ x = same_Some _ _ s5.2 in
-        subst (λ (y : (A × B × C × D × E × F)). (λ (x : A × B × C × D × E × F). Six (P x.0) (Q x.1) (R x.2) (S x.3) (T x.4) (U x.5)) y (w0 ∷ w1 ∷ w2 ∷ w3 ∷ w4 ∷ w5 ∷ [])) same (rf.sound w0 s0.0 s0.1, rg.sound w1 s1.0 s1.1, rh.sound w2 s2.0 s2.1, ri.sound w3 s3.0 s3.1, rj.sound w4 s4.0 s4.1, rk.sound w5 s5.0 s5.1)
+        subst (λ (y : (A × B × C × D × E × F)). (λ (x : A × B × C × D × E × F). Six (P x.0) (Q x.1) (R x.2) (S x.3) (T x.4) (U x.5)) y (w0 ∷ w1 ∷ w2 ∷ w3 ∷ w4 ∷ w5 ∷ [])) {x = (s0.0, s1.0, s2.0, s3.0, s4.0, s5.0)} same (rf.sound w0 s0.0 s0.1, rg.sound w1 s1.0 s1.1, rh.sound w2 s2.0 s2.1, ri.sound w3 s3.0 s3.1, rj.sound w4 s4.0 s4.1, rk.sound w5 s5.0 s5.1)
     sound (w0 ∷ w1 ∷ w2 ∷ w3 ∷ w4 ∷ w5 ∷ z ∷ zs) x e = cc
 
     complete : (words : List (List ℕ)) (x : (A × B × C × D × E × F)) → (λ (x : A × B × C × D × E × F). Six (P x.0) (Q x.1) (R x.2) (S x.3) (T x.4) (U x.5)) x words → six_read f g h i j k words ≡ Some x

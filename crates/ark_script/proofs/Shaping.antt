@@ -28,7 +28,7 @@ use Rattle.ark_script.specs.declared.reading.word.WriteWord.TheVariants as write
 use Rattle.ark_script.proofs.Arguing.{name_reads, optional_reads, number_reads, hex_reads, hex0_reads}
 use Rattle.ark_script.proofs.Choosing.{side_reads}
 use Rattle.ark_script.proofs.Readers.{Reads, bind_some, two_reads, three_reads, four_reads, six_reads}
-use Rattle.ark_script.proofs.Wording.{kind_of_line}
+use Rattle.ark_script.proofs.WordOf.{kind_of_line}
 use Rattle.ark_script.specs.Reading.{name_of, optional_of, number_of, hex_of, hex0_of, side_of}
 use Rattle.ark_script.specs.Sentence.{two_read, three_read, four_read, six_read}
 use Rattle.ark_script.specs.Shape.{count_range, length_range, range_most, write_most, pair_line, triple_line, count_line, length_line, range_line, turn_line, transfer_line, entry_line, write_line, read_pair, read_triple, read_count, read_length, read_range, read_turn, read_transfer, read_entry, read_write}

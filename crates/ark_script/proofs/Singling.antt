@@ -178,7 +178,7 @@ filter_sound (a ∷ b ∷ c ∷ d ∷ e ∷ f ∷ []) asked h =
     let s3 = bind_some (proto_of d) _ asked s2.2 in
     let s4 = bind_some (peers_of s3.0 e) _ asked s3.2 in
     let s5 = bind_some (services_of s3.0 f) _ asked s4.2 in
-    subst (Formed word.Filter (a ∷ b ∷ c ∷ d ∷ e ∷ f ∷ [])) (same_Some _ _ s5.2)
+    subst (Formed word.Filter (a ∷ b ∷ c ∷ d ∷ e ∷ f ∷ [])) {x = w.filter s0.0 s1.0 (record { direction = s2.0; proto = s3.0; peers = s4.0; services = s5.0 })} (same_Some _ _ s5.2)
     (refl, (name_reads.sound a s0.0 s0.1, name_reads.sound b s1.0 s1.1, direction_reads.sound c s2.0 s2.1, proto_reads.sound d s3.0 s3.1, (peers_reads s3.0).sound e s4.0 s4.1, (services_reads s3.0).sound f s5.0 s5.1))
 filter_sound (a ∷ b ∷ c ∷ d ∷ e ∷ f ∷ g ∷ words) asked h = cc
 

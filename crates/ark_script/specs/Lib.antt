@@ -1,14 +1,15 @@
 pub mod Arguments
 pub mod Form
+pub mod Lending
 pub mod Line
 pub mod Lines
 pub mod Listed
 pub mod Lists
 pub mod Meant
 pub mod Named
+pub mod Ranges
 pub mod Reading
 pub mod Reply
-pub mod Lending
 pub mod Sentence
 pub mod Shape
 pub mod Text

@@ -15,7 +15,7 @@ use Rattle.ark_script.specs.declared.reading.word.TripleWord.TheVariants as trip
 use Rattle.ark_script.specs.declared.reading.word.CountWord.{CountWord}
 use Rattle.ark_script.specs.declared.reading.word.CountWord.TheVariants as count
 use Rattle.ark_script.specs.declared.reading.word.LengthWord.{LengthWord}
-use Rattle.ark_script.specs.declared.reading.word.LengthWord.TheVariants as length
+use Rattle.ark_script.specs.declared.reading.word.LengthWord.TheVariants as sized
 use Rattle.ark_script.specs.declared.reading.word.RangeWord.{RangeWord}
 use Rattle.ark_script.specs.declared.reading.word.RangeWord.TheVariants as range
 use Rattle.ark_script.specs.declared.reading.word.TurnWord.{TurnWord}
@@ -40,9 +40,9 @@ count_range count.Walk = (1, 2 ^ 63)
 
 -- the lowest and highest number
 abbrev pub length_range : LengthWord → ℕ × ℕ
-length_range length.Copy = (1, 65536)
-length_range length.Send = (14, 1514)
-length_range length.Sock = (0, 65535)
+length_range sized.Copy = (1, 65536)
+length_range sized.Send = (14, 1514)
+length_range sized.Sock = (0, 65535)
 
 -- the highest numbers, the first from 0 and the second from 1
 abbrev pub range_most : RangeWord → ℕ × ℕ
@@ -93,9 +93,9 @@ unfoldable pub read_count : CountWord → List (List ℕ) → Option Line
 read_count k words = three_read name_of name_of (number_of (count_range k).0 (count_range k).1) words >>= λ p. Some (count_line k p.0 p.1 p.2)
 
 abbrev pub length_line : LengthWord → List ℕ → List ℕ → List ℕ → ℕ → Line
-length_line length.Copy a x y n = w.copy a x y n
-length_line length.Send a x y n = w.send a x y n
-length_line length.Sock a x y n = w.sock a x y n
+length_line sized.Copy a x y n = w.copy a x y n
+length_line sized.Send a x y n = w.send a x y n
+length_line sized.Sock a x y n = w.sock a x y n
 
 unfoldable pub read_length : LengthWord → List (List ℕ) → Option Line
 read_length k words = four_read name_of name_of name_of (number_of (length_range k).0 (length_range k).1) words >>= λ p. Some (length_line k p.0 p.1 p.2 p.3)

@@ -6,7 +6,7 @@ use Rattle.ark_script.specs.declared.reading.word.Word.TheVariants as word
 use Rattle.ark_script.specs.declared.reading.word.PairWord.TheVariants as pair
 use Rattle.ark_script.specs.declared.reading.word.TripleWord.TheVariants as triple
 use Rattle.ark_script.specs.declared.reading.word.CountWord.TheVariants as count
-use Rattle.ark_script.specs.declared.reading.word.LengthWord.TheVariants as length
+use Rattle.ark_script.specs.declared.reading.word.LengthWord.TheVariants as sized
 use Rattle.ark_script.specs.declared.reading.word.RangeWord.TheVariants as range
 use Rattle.ark_script.specs.declared.reading.word.TurnWord.TheVariants as turn
 use Rattle.ark_script.specs.declared.reading.word.TransferWord.TheVariants as transfer
@@ -33,7 +33,7 @@ table =
     (codes "buf", (word.Count count.Buf)) ∷
     (codes "fill", (word.Write write.Fill)) ∷
     (codes "show", (word.Range range.Show)) ∷
-    (codes "copy", (word.Length length.Copy)) ∷
+    (codes "copy", (word.Length sized.Copy)) ∷
     (codes "free", (word.Pair pair.Free)) ∷
     (codes "peek", (word.Count count.Peek)) ∷
     (codes "poke", (word.Write write.Poke)) ∷
@@ -42,9 +42,9 @@ table =
     (codes "flush", (word.Pair pair.Flush)) ∷
     (codes "reap", (word.Pair pair.Reap)) ∷
     (codes "post", (word.Triple triple.Post)) ∷
-    (codes "send", (word.Length length.Send)) ∷
+    (codes "send", (word.Length sized.Send)) ∷
     (codes "take", word.Take) ∷
-    (codes "sock", (word.Length length.Sock)) ∷
+    (codes "sock", (word.Length sized.Sock)) ∷
     (codes "sendto", word.Sendto) ∷
     (codes "recv", (word.Pair pair.Recv)) ∷
     (codes "look", (word.Pair pair.Look)) ∷

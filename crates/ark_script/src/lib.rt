@@ -9,7 +9,7 @@ mod said;
 mod step;
 
 pub use printing::{TEXT_ROOM, print};
-pub use reading::{MAX_LINE, read_line};
+pub use reading::{MAX_LINE, one_meaning, read_line};
 pub use reply::{MAX_SHOWN, Reply};
 pub use said::Said;
 pub use step::{Hex, Side, Step};

@@ -19,7 +19,7 @@ fn answers_each_line(rt: HostRuntime) -> Result<(), Fail> {
         (b"app", b"refused 1 syntax\n"),
         (b"app A", b"refused 1 syntax\n"),
         (b"app a\r\n", b"refused 1 syntax\n"),
-        (b"app a 4\n", b"refused 1 syntax\n"),
+        (b"app a 3\n", b"refused 1 syntax\n"),
         (b"\xff\x00\x80\n", b"refused 2 unknown word\n"),
     ];
     for (script, replies) in cases {

@@ -33,7 +33,7 @@ fn formats_a_device(rt: HostRuntime) -> Result<(), Fail> {
 // Words that are no command: nothing is made, attached or fetched.
 #[test]
 fn refuses_other_words(rt: HostRuntime) -> Result<(), Fail> {
-    let lists: [&[&str]; 18] = [
+    let lists: [&[&str]; 20] = [
         &[],
         &["run"],
         &["run", "d"],
@@ -51,7 +51,9 @@ fn refuses_other_words(rt: HostRuntime) -> Result<(), Fail> {
         &["run", "--New", "200", "d"],
         &["Run", "--new", "200", "d"],
         &["check", "--new", "200", "d"],
-        &["run", "--new=200", "d"],
+        &["run", "--new", "200", "-x"],
+        &["run", "--new", "200", "--new=200", "d"],
+        &["work", "1", "0", "d"],
     ];
     for list in lists {
         let words = words_of(rt.alloc(), list)?;
@@ -64,11 +66,18 @@ fn refuses_other_words(rt: HostRuntime) -> Result<(), Fail> {
     Ok(())
 }
 
-// The smallest device, and names that look like options.
+// The smallest device, and each spelling of the command.
 #[test]
-fn takes_small_devices(rt: HostRuntime) -> Result<(), Fail> {
-    for (blocks, ready) in [("130", "ready 130 0\n"), ("4096", "ready 4096 0\n")] {
-        let words = words_of(rt.alloc(), &["run", "--new", blocks, "-x"])?;
+fn takes_each_spelling(rt: HostRuntime) -> Result<(), Fail> {
+    let lists: [(&[&str], &str); 5] = [
+        (&["run", "--new", "130", "d"], "ready 130 0\n"),
+        (&["run", "--new=130", "d"], "ready 130 0\n"),
+        (&["run", "d", "--new", "4096"], "ready 4096 0\n"),
+        (&["run", "--new", "4096", "--", "-x"], "ready 4096 0\n"),
+        (&["run", "--new", "4096", "-"], "ready 4096 0\n"),
+    ];
+    for (list, ready) in lists {
+        let words = words_of(rt.alloc(), list)?;
         let mut world = MemoryWorld::new(rt.alloc(), b"", 4096, b"", &[], 100, 100)?;
         let status = arrakis(rt.alloc(), &words, &mut world);
         assert_eq!(rt; status, Status::Done);

@@ -1,6 +1,7 @@
 ghost use Rattle.std.specs.Prelude.{◌≡◌, ◌≤◌, ◌<◌, ◌+◌, ◌^◌, ℕ, List, false, [], length, Ok, IfOk, IfErr};
 ghost use Rattle.ark_base.specs.declared.kind.Kind.TheVariants as kind;
 ghost use Rattle.ark_media.specs.Calls.{GoesBy, Told};
+ghost use Rattle.ark_script.specs.Arguments.{fewest_blocks};
 ghost use Rattle.ark_script.specs.Line as w;
 ghost use Rattle.ark_script.specs.Line.{spelled};
 ghost use Rattle.ark_script.specs.Reply.{bytes_shown};
@@ -25,7 +26,7 @@ impl Host {
 
     // The word `vsa`. Areas of logs and queues are not built yet.
     pub(super) fn vsa(&mut self, name: &AppName, label: &Label, blocks: u64, kind: Kind) -> Said
-        requires some { 1 ≤ blocks }
+        requires some { fewest_blocks kind ≤ blocks }
         requires few { self.old.grants < 2 ^ 32 }
         ensures answers { (told : Told) (s : System) → Stands self.old told s → Answered self.new told s (Ok (w.vsa name.now label.now blocks kind)) [] result [] }
         ensures said { IsSaid result }

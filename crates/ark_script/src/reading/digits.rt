@@ -1,6 +1,6 @@
 //! Words as bytes in hex digits.
 
-ghost use Rattle.std.specs.Prelude.{◌≡◌, ◌*◌, true, length};
+ghost use Rattle.std.specs.Prelude.{◌≡◌, ◌≤◌, ◌*◌, ◌++◌, nat_eq, true, length, drop};
 ghost use Rattle.std.specs.List.{list_all};
 ghost use Rattle.hex.specs.Hex.{is_hex_digit};
 ghost use Rattle.ark_script.specs.Line.{spelled};
@@ -88,4 +88,29 @@ pub(super) fn frame_type(word: &[u8]) -> Option<u16>
     let mut bytes = [0; 2];
     decode(word, &mut bytes);
     Some(u16::from_be_bytes(bytes))
+}
+
+impl Hex<'_> {
+    /// How many bytes the digits spell.
+    pub fn len(&self) -> usize
+        ensures { result ≡ length (spelled self.now.digits.now) }
+    {
+        self.digits.len() / 2
+    }
+
+    /// Whether they spell no bytes.
+    pub fn is_empty(&self) -> bool
+        ensures { result ≡ nat_eq (length (spelled self.now.digits.now)) 0 }
+    {
+        self.len() == 0
+    }
+
+    /// Writes the bytes at the start of `out`.
+    pub fn read(&self, out: &mut [u8])
+        requires room { length (spelled self.now.digits.now) ≤ length out.old }
+        ensures bytes { out.new ≡ spelled self.now.digits.now ++ drop (length (spelled self.now.digits.now)) out.old }
+    {
+        let count = self.len();
+        decode(self.digits, &mut out[..count]);
+    }
 }

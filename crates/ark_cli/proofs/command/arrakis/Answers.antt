@@ -1,10 +1,12 @@
 use Rattle.std.specs.Prelude.{map, string_bytes}
-use Rattle.ark_cli.proofs.Closing.{does, undamaged}
+use Rattle.ark_cli.proofs.Closing.{does, undamaged, cause_closed, usage_only, usage_where}
+use Rattle.ark_cli.proofs.Completing.{complete}
 use Rattle.ark_cli.proofs.command.arrakis.Goals as goal
 
 pub close-requires : goal.close-requires
 close-requires g c = undamaged _ _ _ _ _ c.command-status.result c.command-status.ensures.runs
 
+-- what it does, told once for all clauses
 pub returns-clause-does : goal.returns-clause-does
 returns-clause-does g c =
     let w0 = c.args.world.now in
@@ -13,3 +15,19 @@ returns-clause-does g c =
     let k = c.close.ensures.closes in
     does (map string_bytes c.args.words.now) (g.W.Disk.told w0) (g.W.Disk.told w1) (g.W.Disk.told w2) (g.W.Outside.beside w0) (g.W.Outside.beside w1) (g.W.Outside.beside w2)
     c.command-status.result k.0 k.1 k.2 c.command-status.ensures.runs
+
+pub returns-clause-usage : goal.returns-clause-usage
+returns-clause-usage g c = usage_only (map string_bytes c.args.words.now) _ _ _ _ c.command-status.result (returns-clause-does g c)
+
+pub returns-clause-no_command : goal.returns-clause-no_command
+returns-clause-no_command g c = usage_where (map string_bytes c.args.words.now) _ _ _ _ c.command-status.result (returns-clause-does g c)
+
+pub returns-clause-complete : goal.returns-clause-complete
+returns-clause-complete g c = λ size device run short quiet.
+    let w0 = c.args.world.now in
+    let w1 = c.command-status.new.world in
+    let w2 = c.close.new.world in
+    let k = c.close.ensures.closes in
+    let status = c.command-status.result in
+    let why = cause_closed (g.W.Disk.told w0) (g.W.Disk.told w1) (g.W.Disk.told w2) (g.W.Outside.beside w0) (g.W.Outside.beside w1) (g.W.Outside.beside w2) status k.0 k.2 c.command-status.ensures.cause in
+    complete (map string_bytes c.args.words.now) size device run (g.W.Disk.told w0) (g.W.Disk.told w2) (g.W.Outside.beside w0) (g.W.Outside.beside w2) short quiet status (returns-clause-does g c) why

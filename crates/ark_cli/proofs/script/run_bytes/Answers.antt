@@ -11,15 +11,19 @@ loop-b-init g c =
     let told = g.W.Disk.told c.args.world.now in
     let beside = g.W.Outside.beside c.args.world.now in
     record {
-      events = [];
-      goes = goes_none told told beside beside refl refl;
-      does = λ s fed added f. feeds_none s fed added c.args.host.now told c.args.line.now f;
+      feeds = record {
+        events = [];
+        goes = goes_none told told beside beside refl refl;
+        does = λ s fed added f. feeds_none s fed added c.args.host.now told c.args.line.now f;
+      };
+      sound = c.requires.sound;
+      counted = omega arith;
     }
 
 pub returns-in_err-run_byte-clause-feeds : goal.returns-in_err-run_byte-clause-feeds
 returns-in_err-run_byte-clause-feeds g c =
     let p = err_from_is_err_and c.from_residual.result c.from_residual.ensures.1 in
-    let before = c.loop-b.invariant in
+    let before = c.loop-b.invariant.feeds in
     let now = c.in_err-run_byte.ensures.feeds in
     let w0 = c.args.world.now in
     let w1 = c.loop-b.world in
@@ -40,7 +44,7 @@ returns-in_err-run_byte-clause-feeds g c =
 
 pub loop-b-preserved : goal.loop-b-preserved
 loop-b-preserved g c =
-    let before = c.loop-b.invariant in
+    let before = c.loop-b.invariant.feeds in
     let now = c.in_ok-run_byte.ensures.feeds in
     let w0 = c.args.world.now in
     let w1 = c.loop-b.world in
@@ -48,19 +52,23 @@ loop-b-preserved g c =
     let i = c.loop-b.b-index in
     let bytes = c.args.bytes.now in
     record {
-      events = before.events ++ now.events;
-      goes = goes_then before.events now.events [] [] (g.W.Disk.told w0) (g.W.Disk.told w1) (g.W.Disk.told w2) (g.W.Outside.beside w0) (g.W.Outside.beside w1) (g.W.Outside.beside w2) before.goes now.goes;
-      does = λ s fed added f.
-          let lt : i < length bytes = omega arith in
-          let first = before.does s fed added f in
-          subst (λ b. Feeds s fed b added (before.events ++ now.events) c.run_byte.new.host (g.W.Disk.told w2) c.run_byte.new.line true) (sym (take_more bytes i 0 lt))
-          (feeds_then s fed added (take i bytes) (get_or bytes i 0 ∷ []) before.events now.events c.loop-b.host c.run_byte.new.host (g.W.Disk.told w1) (g.W.Disk.told w2) c.loop-b.line c.run_byte.new.line true
-          first (now.does s (fed ++ take i bytes) (added ++ before.events) (first.done refl)));
+      feeds = record {
+        events = before.events ++ now.events;
+        goes = goes_then before.events now.events [] [] (g.W.Disk.told w0) (g.W.Disk.told w1) (g.W.Disk.told w2) (g.W.Outside.beside w0) (g.W.Outside.beside w1) (g.W.Outside.beside w2) before.goes now.goes;
+        does = λ s fed added f.
+            let lt : i < length bytes = omega arith in
+            let first = before.does s fed added f in
+            subst (λ b. Feeds s fed b added (before.events ++ now.events) c.run_byte.new.host (g.W.Disk.told w2) c.run_byte.new.line true) (sym (take_more bytes i 0 lt))
+            (feeds_then s fed added (take i bytes) (get_or bytes i 0 ∷ []) before.events now.events c.loop-b.host c.run_byte.new.host (g.W.Disk.told w1) (g.W.Disk.told w2) c.loop-b.line c.run_byte.new.line true
+            first (now.does s (fed ++ take i bytes) (added ++ before.events) (first.done refl)));
+      };
+      sound = c.run_byte.ensures.sound;
+      counted = omega (arith, c.loop-b.invariant.counted, c.run_byte.ensures.counted);
     }
 
 pub returns-clause-feeds : goal.returns-clause-feeds
 returns-clause-feeds g c =
-    let before = c.loop-b.invariant in
+    let before = c.loop-b.invariant.feeds in
     let bytes = c.args.bytes.now in
     record {
       events = before.events;

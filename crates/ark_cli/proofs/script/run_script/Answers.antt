@@ -9,6 +9,8 @@ pub loop-count-init : goal.loop-count-init
 loop-count-init g c = record {
   going = going_first (g.W.Disk.told c.args.world.now) (g.W.Outside.beside c.args.world.now) c.args.host.now c.args.line.now;
   few = omega arith;
+  sound = c.requires.sound;
+  counted = omega (arith, c.requires.none);
 }
 
 pub loop-count-preserved : goal.loop-count-preserved
@@ -17,6 +19,8 @@ loop-count-preserved g c = record {
       (g.W.Outside.beside c.args.world.now) (g.W.Outside.beside c.loop-count.world) (g.W.Outside.beside c.turn.new.world)
       c.args.host.now c.loop-count.host c.args.line.now c.loop-count.line c.loop-count.count c.loop-count.invariant.going _ c.turn.new.host c.turn.new.line c.in-Ok.more c.in-Ok.ensures.turns;
   few = omega (arith, length-take c.min-room.result c.loop-count.chunk, c.min-room.ensures, c.loop-count.invariant.few, c.in-Ok.ensures.bound);
+  sound = c.turn.ensures.sound;
+  counted = omega (arith, c.loop-count.invariant.counted, c.in-Ok.ensures.counted);
 }
 
 pub returns-in-Err-clause-ran : goal.returns-in-Err-clause-ran

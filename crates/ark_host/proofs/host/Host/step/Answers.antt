@@ -66,5 +66,8 @@ returns-in_default-clause-answers g c =
           (unbuilt_answered _ told s c.args.step.now (unbuilt c.args.self.now told s c.args.step.now c.in_default.not-App c.in_default.not-Vsa c.in_default.not-Peek c.in_default.not-Poke c.in_default.not-Tick) (relined c.args.self.now _ told s st));
     }
 
+pub vsa-said-requires-clause-some : goal.vsa-said-requires-clause-some
+vsa-said-requires-clause-some g c = (rw c.in-Vsa.is at c.requires.ranges).0
+
 pub poke-said-requires : goal.poke-said-requires
-poke-said-requires g c = record { short = short_digits c.in-Poke.hex.digits.now c.in-Poke.hex.even (rw c.in-Poke.is at c.requires.timely) }
+poke-said-requires g c = record { short = short_digits c.in-Poke.hex.digits.now c.in-Poke.hex.even (rw c.in-Poke.is at c.requires.ranges).1.1 }

@@ -1,0 +1,33 @@
+-- What came of a line whose reply was not put out in whole.
+use Rattle.std.specs.Prelude.{◌≡◌, ◌⊎◌, ℕ, Bool, List, [], ◌∷◌, ◌++◌, length, drop}
+use Rattle.ark_media.specs.Journal.{Event, output_of, device_events}
+use Rattle.ark_script.specs.Lines.{Meaning, Says}
+use Rattle.ark_script.specs.Text.{text}
+use Rattle.ark_machine.specs.System.{System, Turn}
+use Rattle.ark_machine.specs.Built.{turn}
+use Rattle.ark_machine.specs.Follow.{Performs, ends_of}
+use Rattle.ark_machine.specs.Replies.{MayLack, system_after, Replies}
+
+-- the turn of the line whose part this is, by whether it found no memory: its reply may not show that
+abbrev pub cut_turn : System → Meaning → List Event → Bool → Turn
+cut_turn s m part lacked = turn s m (ends_of (device_events part)) lacked
+
+-- The calls of the line's turn were made, and the first bytes of its reply's line came out: none, some or all.
+pub record IsFront (s : System) (m : Meaning) (part : List Event) : Type 0 where
+  pub lacked : Bool
+  pub memory : MayLack m lacked
+  pub calls : Performs s m (cut_turn s m part lacked).calls (device_events part)
+  -- the bytes that did not come out
+  pub more : List ℕ
+  pub front : text (cut_turn s m part lacked).said (cut_turn s m part lacked).bytes ≡ output_of part ++ more
+
+-- behind the whole parts stands nothing, or what came of the next line
+abbrev pub Shows : System → List (List ℕ) → List Event → Type 0
+Shows s [] part = part ≡ []
+Shows s (line ∷ lines) part = (part ≡ []) ⊎ ((m : Meaning) × Says line m × IsFront s m part)
+
+-- From a system on, the lines of a script are answered by whole parts in turn, and the next one by a front of its part: so
+-- the output is a front of what the machines reply.
+pub record CutReplies (s : System) (lines : List (List ℕ)) (whole : List (List Event)) (part : List Event) : Type 0 where
+  pub replies : Replies s lines whole part
+  pub shows : Shows (system_after s replies.meanings whole) (drop (length whole) lines) part

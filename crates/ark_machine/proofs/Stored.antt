@@ -1,0 +1,113 @@
+-- The slots that are read from an image share no block.
+use Rattle.std.proofs.Common.{◌≡◌, ◌<◌, inl, inr, ℕ, suc, ◌+◌, Bool, true, false, not, List, [], ◌∷◌, ◌++◌, ◌&&◌, ◌||◌, map, length, take, drop, refl, sym, subst, arith, ◌==◌, eqb-true}
+use Rattle.std.proofs.lemmas.Bool.{false≢true, and_parts}
+use Rattle.std.proofs.lemmas.Bool.Decides.{nat_tests}
+use Rattle.std.proofs.lemmas.List.{map-append}
+use Rattle.std.specs.Prelude.{Result, Ok, Err, Contains, nat_le}
+use Rattle.std.specs.List.{AllByRecursion, list_all}
+use Rattle.ark_base.specs.declared.block.Span.{Span}
+use Rattle.ark_extents.specs.Blocks.{blocks_of}
+use Rattle.ark_extents.specs.Runs.{are_apart}
+use Rattle.ark_extents.specs.Free.{AnyHas}
+use Rattle.ark_extents.proofs.Holding.{has_contained, none_shared}
+use Rattle.ark_table.specs.Superblock.{slot_count}
+use Rattle.ark_table.specs.Area.{Area, area_in, is_free, is_used}
+use Rattle.ark_table.specs.Slots.{Slot, slot_at, Held, share_no_block, is_same, count_of, goes_with, with_area, with_used, with_block, and_then, held_after, is_device, held_if, held_of, as_slots, slots_of}
+use Rattle.ark_machine.specs.Plane.{is_granted}
+use Rattle.ark_machine.specs.Grants.{has_block, has_index, SlotsApart}
+use Rattle.ark_machine.proofs.Grants.{or_both, not_true, apart_more}
+
+abbrev slot : Held → Slot
+slot h = slot_at h.index h.area
+
+of_has : (xs : List ℕ) (n : ℕ) → has_block xs n ≡ true → Contains xs n
+of_has [] n h = absurd (false≢true h)
+of_has (x ∷ xs) n h = by (x == n) refl h (of_has xs n)
+  where
+    by : (b : Bool) → (x == n) ≡ b → (b || has_block xs n) ≡ true → (has_block xs n ≡ true → Contains xs n) → Contains (x ∷ xs) n
+    by true e g next = (0, omega arith, eqb-true x n e)
+    by false e g next = let found : Contains xs n = next g in (suc found.0, omega (arith, found.1), found.2)
+
+shared : (xs ys : List Span) (n : ℕ) → share_no_block xs ys ≡ true → AnyHas xs n → AnyHas ys n → ⊥
+shared [] ys n h a b = a
+shared (x ∷ xs) ys n h (inl a) b = none_shared x ys (and_parts (list_all (are_apart x) ys) (share_no_block xs ys) h).0 n a b
+shared (x ∷ xs) ys n h (inr a) b = shared xs ys n (and_parts (list_all (are_apart x) ys) (share_no_block xs ys) h).1 a b
+
+-- an area that goes with others has none of their blocks
+goes_apart : (held : List Held) (a : Area) (n : ℕ) → list_all (λ h. share_no_block a.runs h.area.runs && not (is_same a h.area)) held ≡ true → Contains (blocks_of a.runs) n → is_granted (map slot held) n ≡ false
+goes_apart [] a n h here = refl
+goes_apart (x ∷ xs) a n h here =
+    let p = and_parts (share_no_block a.runs x.area.runs && not (is_same a x.area)) (list_all (λ y. share_no_block a.runs y.area.runs && not (is_same a y.area)) xs) h in
+    or_both (has_block (blocks_of x.area.runs) n) (is_granted (map slot xs) n)
+    (not_true (has_block (blocks_of x.area.runs) n) (λ e. shared a.runs x.area.runs n (and_parts (share_no_block a.runs x.area.runs) (not (is_same a x.area)) p.0).0 (has_contained a.runs n here) (has_contained x.area.runs n (of_has (blocks_of x.area.runs) n e))))
+    (goes_apart xs a n p.1 here)
+
+abbrev AllBelow : ℕ → List Held → Type 0
+AllBelow i held = AllByRecursion (λ h. h.index < i) held
+
+below_next : (i : ℕ) (held : List Held) → AllBelow i held → AllBelow (i + 1) held
+below_next i [] h = tt
+below_next i (x ∷ xs) h = (omega (arith, h.0), below_next i xs h.1)
+
+below_more : (i : ℕ) (held : List Held) (x : Held) → AllBelow i held → x.index < i → AllBelow i (held ++ x ∷ [])
+below_more i [] x h k = (k, tt)
+below_more i (y ∷ ys) x h k = (h.0, below_more i ys x h.1 k)
+
+differs : (i k : ℕ) → i < k → (i == k) ≡ false
+differs i k h = grind (arith, nat_tests)
+
+no_index : (i : ℕ) (held : List Held) → AllBelow i held → has_index (map slot held) i ≡ false
+no_index i [] h = refl
+no_index i (x ∷ xs) h = or_both (x.index == i) (has_index (map slot xs) i) (differs x.index i h.0) (no_index i xs h.1)
+
+-- the slots up to i
+abbrev Stand : ℕ → Result (List Held) ℕ → Type 0
+Stand i (Ok held) = SlotsApart (map slot held) × AllBelow i held
+Stand i (Err bad) = Unit {0}
+
+area_stands : (i : ℕ) (held : List Held) (a : Area) (b : Bool) → goes_with held a ≡ b → Stand i (Ok held) → Stand (i + 1) (with_area held i a b)
+area_stands i held a false is h = tt
+area_stands i held a true is h =
+    let x : Held = record { index = i; area = a } in
+    let goes = (and_parts (list_all (λ y. share_no_block a.runs y.area.runs && not (is_same a y.area)) held) (nat_le (count_of a.app held + 1) 8) is).0 in (
+      subst SlotsApart (sym (map-append slot held (x ∷ []))) (apart_more (map slot held) (slot x) h.0 (no_index i held h.1) (λ n e. goes_apart held a n goes (of_has (blocks_of a.runs) n e))),
+      below_more (i + 1) held x (below_next i held h.1) (omega arith),
+    )
+
+used_stands : (i : ℕ) (held : List Held) (content : List ℕ) (b : Bool) → Stand i (Ok held) → Stand (i + 1) (with_used held i content b)
+used_stands i held content false h = tt
+used_stands i held content true h = area_stands i held (area_in content) (goes_with held (area_in content)) refl h
+
+block_stands : (size i : ℕ) (held : List Held) (content : List ℕ) (b : Bool) → Stand i (Ok held) → Stand (i + 1) (with_block size held i content b)
+block_stands size i held content true h = (h.0, below_next i held h.1)
+block_stands size i held content false h = used_stands i held content (is_used size content) h
+
+then_stands : (size i : ℕ) (x : Result (List Held) ℕ) (content : List ℕ) → Stand i x → Stand (i + 1) (and_then size x i content)
+then_stands size i (Err bad) content h = tt
+then_stands size i (Ok held) content h = block_stands size i held content (is_free content) h
+
+abbrev Apart : Result (List Held) ℕ → Type 0
+Apart (Ok held) = SlotsApart (map slot held)
+Apart (Err bad) = Unit {0}
+
+stands_apart : (i : ℕ) (x : Result (List Held) ℕ) → Stand i x → Apart x
+stands_apart i (Ok held) h = h.0
+stands_apart i (Err bad) h = tt
+
+after_apart : (size : ℕ) (x : Result (List Held) ℕ) (i : ℕ) (blocks : List (List ℕ)) → Stand i x → Apart (held_after size x i blocks)
+after_apart size x i [] h = stands_apart i x h
+after_apart size x i (content ∷ blocks) h = after_apart size (and_then size x i content) (i + 1) blocks (then_stands size i x content h)
+
+held_apart : (image : List (List ℕ)) (b : Bool) → Apart (held_if b image)
+held_apart image true = after_apart (length image) (Ok []) 1 (take slot_count (drop 1 image)) (tt, tt)
+held_apart image false = tt
+
+pub stored_apart : (image : List (List ℕ)) (slots : List Slot) → slots_of image ≡ Ok slots → SlotsApart slots
+stored_apart image slots h = by (held_of image) (held_apart image (is_device image)) h
+  where
+    same : (xs ys : List Slot) → ◌≡◌ {A = Result (List Slot) ℕ} (Ok xs) (Ok ys) → xs ≡ ys
+    same xs ys e = cc
+
+    by : (x : Result (List Held) ℕ) → Apart x → as_slots x ≡ Ok slots → SlotsApart slots
+    by (Ok held) so e = subst SlotsApart (same (map slot held) slots e) so
+    by (Err bad) so e = absurd cc

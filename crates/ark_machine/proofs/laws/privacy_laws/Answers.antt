@@ -1,0 +1,14 @@
+use Rattle.ark_machine.proofs.Privacy.{others_left, replies_private, machine_private, replies_alike}
+use Rattle.ark_machine.proofs.Told.{outputs_private, outputs_alike, start_private}
+use Rattle.ark_machine.proofs.laws.privacy_laws.Goals as goal
+
+pub returns : goal.returns
+returns c = record {
+  others = others_left;
+  replies = replies_private;
+  machine = machine_private;
+  alike = replies_alike;
+  outputs = outputs_private;
+  outputs_alike = outputs_alike;
+  start = start_private;
+}
