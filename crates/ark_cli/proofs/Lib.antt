@@ -5,6 +5,7 @@ pub mod Cutting
 pub mod Feeding
 pub mod Turning
 pub mod Opened
+pub mod Formatted
 pub mod Running
 pub mod Closing
 mod WorkedWork

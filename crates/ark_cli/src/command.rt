@@ -2,7 +2,8 @@ ghost use Rattle.std.specs.Prelude.{◌≡◌, ◌≤◌, ◌⊎◌, ℕ, List, 
 ghost use Rattle.ark_media.specs.Journal.{Event};
 ghost use Rattle.ark_media.specs.Calls.{Told, Goes, Rose};
 ghost use Rattle.ark_machine.specs.System.{fresh_system};
-ghost use Rattle.ark_host.specs.Stands.{Stands};
+ghost use Rattle.ark_host.specs.Stands.{Stands, IsZero};
+ghost use Rattle.ark_extents.specs.Free.{free_at_first};
 ghost use Rattle.ark_host.specs.Time.{IsSound};
 ghost use Rattle.ark_cli.specs.Words.{IsRun};
 ghost use Rattle.ark_cli.specs.Complete.{HasShortScript, IsUntroubled};
@@ -30,7 +31,7 @@ fn run_with<W: Outside>(
 ) -> Status
     requires low { 130 ≤ blocks }
     requires high { blocks ≤ 1048576 }
-    requires host { (told : Told) → Stands host.old told (fresh_system told.blocks) }
+    requires host { (told : Told) → told.blocks ≡ blocks → IsZero told (free_at_first blocks) → Stands host.old told (fresh_system told.blocks) }
     requires sound { IsSound host.old }
     requires none { host.old.lines ≡ 0 }
     requires line { line.old ≡ [] }
@@ -56,7 +57,9 @@ fn run_new<W: Outside>(alloc: Global, blocks: u32, device: &str, world: &mut W) 
     let Ok(mut out) = ReplyBuffer::new(alloc) else {
         return Status::Memory;
     };
-    let mut host = Host::new(alloc);
+    let Ok(mut host) = Host::new(alloc, blocks) else {
+        return Status::Memory;
+    };
     run_with(blocks, device, &mut host, &mut line, &mut out, world)
 }
 

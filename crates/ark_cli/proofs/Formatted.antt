@@ -1,0 +1,40 @@
+-- A new device that was formatted is zero but for its first block.
+use Rattle.std.proofs.Common.{◌≡◌, inl, inr, ℕ, ◌<◌, ◌-◌, true, false, List, [], ◌∷◌, ◌++◌, refl, sym, ◌∙◌, ap, subst, arith, Contains}
+use Rattle.std.proofs.lemmas.Bool.{false≢true}
+use Rattle.std.proofs.lemmas.List.{get_or-replicate}
+use Rattle.ark_media.specs.Journal.{Event, Out, History, block, current, fresh, zero_block}
+use Rattle.ark_media.specs.Calls.{Told, Beside, Makes, Syncs}
+use Rattle.ark_extents.specs.Free.{free_at_first}
+use Rattle.ark_extents.proofs.Holding.{contains_range}
+use Rattle.ark_table.specs.Superblock.{format_calls}
+use Rattle.ark_script.specs.Text.{text}
+use Rattle.ark_script.specs.declared.said.Said.TheVariants.{Ready}
+use Rattle.ark_held.specs.Beside.{AreBeside}
+use Rattle.ark_held.proofs.Besides.{current_beside}
+use Rattle.ark_host.specs.Stands.{IsZero}
+use Rattle.ark_cli.specs.Opening.{IsReady}
+
+one_sync : (es : List Event) (bytes blocks : List ℕ) → Makes (Syncs ∷ []) true es → AreBeside blocks (es ++ Out bytes ∷ [])
+one_sync [] bytes blocks h = absurd h
+one_sync (e ∷ []) bytes blocks (inl h) = subst (λ (x : Event). AreBeside blocks (x ∷ Out bytes ∷ [])) (sym h.0) tt
+one_sync (e ∷ f ∷ es) bytes blocks (inl h) = absurd h.1
+one_sync (e ∷ es) bytes blocks (inr h) = absurd (false≢true (sym h.1))
+
+-- formatting writes the first block alone
+format_beside : (size : ℕ) (es : List Event) (bytes blocks : List ℕ) → Makes (format_calls size) true es → (Contains blocks 0 → ⊥) → AreBeside blocks (es ++ Out bytes ∷ [])
+format_beside size [] bytes blocks h apart = absurd h
+format_beside size (e ∷ es) bytes blocks (inl h) apart = subst (λ (x : Event). AreBeside blocks (x ∷ es ++ Out bytes ∷ [])) (sym h.0.2) (apart, one_sync es bytes blocks h.1)
+format_beside size (e ∷ es) bytes blocks (inr h) apart = absurd (false≢true (sym h.1))
+
+not_first : (size : ℕ) → Contains (free_at_first size) 0 → ⊥
+not_first size has = let low = (contains_range 129 (size - 129) 0 has).0 in absurd (omega (arith, low))
+
+below_size : (size n : ℕ) → Contains (free_at_first size) n → n < size
+below_size size n has = let bounds = contains_range 129 (size - 129) n has in omega (arith, bounds.0, bounds.1)
+
+-- the blocks for areas are zero
+pub ready_zero : (size : ℕ) (told : Told) (b0 b1 : Beside) → IsReady size told b0 b1 → IsZero told (free_at_first size)
+ready_zero size told b0 b1 ready = λ h is n has.
+    subst (λ (x : History). block (current x.base x.journal) n ≡ zero_block) (sym (ready.since.begins h is))
+    (current_beside (fresh size).base (free_at_first size) (ready.events ++ Out (text (Ready size 0) []) ∷ []) [] n has (format_beside size ready.events (text (Ready size 0) []) (free_at_first size) ready.calls (not_first size))
+    ∙ get_or-replicate size n zero_block [] (below_size size n has))
