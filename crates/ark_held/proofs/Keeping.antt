@@ -1,21 +1,15 @@
 -- What an application's labels stand for, where little changes: laws over the list of its labels.
-use Rattle.std.proofs.Common.{◌≡◌, ◌⊎◌, inl, inr, ℕ, zero, suc, ◌+◌, ◌<◌, Bool, true, false, cond, List, [], ◌∷◌, ◌++◌, length, map, nat_eq, get_or, refl, sym, ◌∙◌, ap, subst, arith, bytes_eq}
-use Rattle.std.specs.Prelude.{Option, Some, None, find, slice_get, filter as select}
+use Rattle.std.proofs.Common.{◌≡◌, ℕ, suc, Bool, true, false, cond, List, [], ◌∷◌, ◌++◌, length, map, refl, sym, ◌∙◌, ap, subst, bytes_eq}
+use Rattle.std.specs.Prelude.{Option, Some, find, filter as select}
 use Rattle.std.proofs.lemmas.Slice.Eq.{bytes_eq-Decides}
-use Rattle.std.specs.Map.{lookup}
-use Rattle.std.proofs.lemmas.List.{length-append}
-use Rattle.std.proofs.lemmas.List.Elements.{filter-append}
-use Rattle.ark_media.specs.Journal.{History, block, current}
-use Rattle.ark_table.specs.Slots.{Slot}
+use Rattle.ark_media.specs.Journal.{History}
 use Rattle.ark_caps.specs.Labels.{value_at}
-use Rattle.ark_caps.specs.declared.capability.CapKind.{CapKind}
-use Rattle.ark_caps.specs.declared.capability.CapKind.TheVariants as cap_kind
 use Rattle.ark_caps.specs.declared.capability.Capability.{Capability}
 use Rattle.ark_machine.specs.Objects
 use Rattle.ark_machine.specs.Objects.{Object, Raw, is_vsa}
-use Rattle.ark_machine.specs.Machine.{Machine, Held, at, holding, with_object, count_of}
+use Rattle.ark_machine.specs.Machine.{Machine, Held, holding, count_of}
 use Rattle.ark_held.specs.Words.{Labels}
-use Rattle.ark_held.specs.Held.{Around, slot_at, IsRaw, IsArea, Fits, Matches, AllMatch, AtLabel, Holds, is_area, area_labels, SameAt, Grows, StaysAt}
+use Rattle.ark_held.specs.Held.{Around, IsRaw, Fits, Matches, AllMatch, AtLabel, Holds, is_area, area_labels, SameAt, Grows, StaysAt}
 
 -- At one label.
 
@@ -87,7 +81,7 @@ pub all_changed : (x y : Around) (l : List ℕ) (o : Object) → ((p : List ℕ 
 all_changed x y l o here there [] [] all = tt
 all_changed x y l o here there (p ∷ ps) (h ∷ hs) all = (
   subst (λ (k : List ℕ). Matches y p (cond (bytes_eq l k) (holding o h) h)) (sym all.0.label)
-  (by_test (λ t. Matches y p (cond t (holding o h) h)) (bytes_eq l p.0) (λ yes. here p h yes all.0) (λ no. there p h no all.0)),
+      (by_test (λ t. Matches y p (cond t (holding o h) h)) (bytes_eq l p.0) (λ yes. here p h yes all.0) (λ no. there p h no all.0)),
   all_changed x y l o here there ps hs all.1,
 )
 all_changed x y l o here there [] (h ∷ hs) all = absurd all

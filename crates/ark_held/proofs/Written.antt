@@ -1,24 +1,22 @@
 -- A block of an area that was written.
-use Rattle.std.proofs.Common.{◌≡◌, ◌⊎◌, inl, inr, ℕ, ◌<◌, Bool, true, false, cond, List, [], ◌∷◌, length, nat_eq, get_or, set, refl, sym, ◌∙◌, ap, subst, arith, get_or-set_same, get_or-set_other, bytes_eq}
+use Rattle.std.proofs.Common.{◌≡◌, inl, inr, ℕ, ◌<◌, Bool, true, false, List, [], ◌∷◌, length, get_or, set, refl, sym, ◌∙◌, ap, subst, arith, get_or-set_same, get_or-set_other, bytes_eq}
 use Rattle.std.proofs.lemmas.Bool.{cases_eq}
 use Rattle.std.proofs.lemmas.List.{length-set}
 use Rattle.std.proofs.lemmas.Slice.Eq.{bytes_eq-Decides}
 use Rattle.std.specs.Prelude.{Option, Some, None, unwrap_or, is_some}
 use Rattle.std.proofs.lemmas.Bool.{false≢true}
-use Rattle.std.specs.Map.{lookup}
 use Rattle.ark_media.specs.Journal.{Event, Write, History, block, current}
 use Rattle.ark_media.specs.Calls.{Adds}
 use Rattle.ark_media.proofs.Stopping.{current_same, current_other}
 use Rattle.ark_extents.specs.Blocks.{AreDistinct}
 use Rattle.ark_table.specs.Slots.{Slot}
-use Rattle.ark_caps.specs.declared.capability.CapKind.TheVariants as cap_kind
 use Rattle.ark_caps.specs.declared.capability.Capability.{Capability}
 use Rattle.ark_machine.specs.Objects
 use Rattle.ark_machine.specs.Objects.{Object, Raw}
 use Rattle.ark_machine.specs.Areas.{raw_written}
-use Rattle.ark_machine.specs.Machine.{Machine, Held, holding, with_object}
+use Rattle.ark_machine.specs.Machine.{Machine, with_object}
 use Rattle.ark_held.specs.Words.{Labels}
-use Rattle.ark_held.specs.Held.{Around, slot_at, IsRaw, Fits, Matches, Holds, Grows, StaysAt}
+use Rattle.ark_held.specs.Held.{Around, slot_at, IsRaw, Fits, Holds, Grows, StaysAt}
 use Rattle.ark_held.proofs.Keeping.{matches_kept, all_changed}
 
 -- the content of an area after a write of one of its blocks

@@ -1,11 +1,11 @@
 -- The row of `app`, as a host comes to it.
-use Rattle.std.proofs.Common.{◌≡◌, ℕ, true, false, ◌<◌, ◌≤◌, Bool, cond, List, [], ◌∷◌, ◌++◌, length, map, get_or, nat_le, refl, sym, ◌∙◌, ap, subst, bytes_eq, arith}
+use Rattle.std.proofs.Common.{◌≡◌, ℕ, true, false, ◌<◌, ◌≤◌, cond, List, [], ◌∷◌, ◌++◌, length, map, get_or, nat_le, refl, sym, ◌∙◌, ap, subst, bytes_eq, arith}
 use Rattle.std.proofs.lemmas.Bool.{false≢true}
 use Rattle.std.proofs.lemmas.Bool.Decides.{nat_tests}
 use Rattle.std.proofs.lemmas.Slice.Eq.{bytes_eq-Decides}
 use Rattle.std.proofs.lemmas.List.{length-map}
 use Rattle.std.proofs.lemmas.List.Folds.{find-append}
-use Rattle.std.specs.Prelude.{Option, Some, None, find, position, is_some, unwrap_or}
+use Rattle.std.specs.Prelude.{Option, Some, None, position, is_some, unwrap_or}
 use Rattle.std.specs.Option.{option_or}
 use Rattle.ark_base.specs.declared.refusal.Refusal.TheVariants as r
 use Rattle.ark_media.specs.Calls.{Told}
@@ -23,7 +23,6 @@ use Rattle.ark_held.proofs.Besides.{same_told}
 use Rattle.ark_held.proofs.Granted.{holds_none}
 use Rattle.ark_host.specs.declared.host.Host.{Host}
 use Rattle.ark_host.specs.Stands.{Stands, Turned, AtApp, IsHeld, IsUnmade, IsZero, app_row, app_of, around}
-use Rattle.ark_host.proofs.Machines.{by_test, bytes_eq-same}
 use Rattle.ark_host.proofs.Lists.{first_found, none_found}
 use Rattle.ark_host.proofs.Standing.{refused, same_apps}
 use Rattle.ark_host.proofs.Setting.{with_set, set_apps, set_now, set_here}

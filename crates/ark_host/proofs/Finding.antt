@@ -1,8 +1,6 @@
 -- Where the area under a label is, as a host finds it.
-use Rattle.std.proofs.Common.{◌≡◌, ℕ, ◌<◌, ◌≤◌, Bool, true, false, cond, List, [], ◌∷◌, length, get_or, refl, sym, ◌∙◌, ap, subst, arith, bytes_eq}
-use Rattle.std.specs.Prelude.{Option, Some, None, Result, Ok, Err, find, nat_eq, slice_get, unwrap_or}
-use Rattle.std.specs.Map.{lookup}
-use Rattle.std.proofs.lemmas.Bool.{false≢true}
+use Rattle.std.proofs.Common.{◌≡◌, ℕ, ◌<◌, ◌≤◌, true, List, length, get_or, refl, sym, ◌∙◌, ap, subst}
+use Rattle.std.specs.Prelude.{Option, Some, None, Result, Ok, Err, slice_get, unwrap_or}
 use Rattle.ark_base.specs.declared.refusal.Refusal.{Refusal}
 use Rattle.ark_base.specs.declared.refusal.Refusal.TheVariants as r
 use Rattle.ark_media.specs.Calls.{Told}
@@ -10,19 +8,17 @@ use Rattle.ark_extents.specs.Blocks.{AreDistinct}
 use Rattle.ark_caps.specs.Labels.{value_at}
 use Rattle.ark_caps.specs.declared.capability.Capability.{Capability}
 use Rattle.ark_caps.specs.declared.capability.CapKind.{CapKind}
-use Rattle.ark_caps.specs.declared.capability.CapKind.TheVariants as cap_kind
 use Rattle.ark_machine.specs.Objects
 use Rattle.ark_machine.specs.Objects.{Object, Raw}
-use Rattle.ark_machine.specs.Machine.{Machine, Held, at}
+use Rattle.ark_machine.specs.Machine.{Held, at}
 use Rattle.ark_machine.specs.System.{System, machine_of}
-use Rattle.ark_held.specs.Words.{Labels, AreaList, area_at, area_under, area_of, found_blocks}
-use Rattle.ark_held.specs.Held.{Around, Fits, AtLabel, Holds}
+use Rattle.ark_held.specs.Words.{AreaList, area_at, area_under, area_of, found_blocks}
+use Rattle.ark_held.specs.Held.{Fits, AtLabel}
 use Rattle.ark_held.proofs.Keeping.{found}
 use Rattle.ark_held.specs.declared.app.App.{App}
-use Rattle.ark_host.specs.declared.host.Host.{Host}
-use Rattle.ark_host.specs.Stands.{Stands, IsHeld, around}
+use Rattle.ark_host.specs.Stands.{IsHeld, around}
 use Rattle.ark_host.proofs.Lists.{get_there}
-use Rattle.ark_host.specs.Finds.{IsThere, IsBlock, HasNone, Finds}
+use Rattle.ark_host.specs.Finds.{IsThere, IsBlock, HasNone}
 
 some_same : (n m : ℕ) → Some n ≡ Some m → n ≡ m
 some_same n m h = ap (λ o. unwrap_or o n) h

@@ -1,30 +1,29 @@
 -- The row of `vsa`, as a host comes to it.
-use Rattle.std.proofs.Common.{◌≡◌, ◌⊎◌, inl, inr, ⊎_elim, ℕ, suc, ◌+◌, ◌<◌, ◌≤◌, Bool, true, false, cond, ◌||◌, nat_le, nat_lt, nat_eq, List, [], ◌∷◌, ◌++◌, length, map, take, drop, replicate, get_or, set, refl, sym, ◌∙◌, ap, subst, arith, bytes_eq, Contains}
-use Rattle.std.specs.Prelude.{Option, Some, None, find, position, is_some, unwrap_or}
+use Rattle.std.proofs.Common.{◌≡◌, ⊎_elim, ℕ, ◌+◌, ◌<◌, ◌≤◌, Bool, true, false, cond, ◌||◌, nat_le, nat_lt, nat_eq, List, [], ◌∷◌, ◌++◌, length, map, take, drop, replicate, get_or, set, refl, sym, ◌∙◌, ap, subst, arith, bytes_eq, Contains}
+use Rattle.std.specs.Prelude.{Option, Some, None, position, is_some, unwrap_or}
 use Rattle.std.specs.Map.{lookup}
 use Rattle.std.proofs.lemmas.Bool.{false≢true}
 use Rattle.std.proofs.lemmas.Bool.Decides.{nat_tests}
-use Rattle.std.proofs.lemmas.List.{length-append, length-replicate, length-take, get_or-replicate, get_or-take}
+use Rattle.std.proofs.lemmas.List.{length-append, length-replicate, length-take, get_or-replicate}
 use Rattle.std.proofs.lemmas.List.Quantifiers.{position-Some}
 use Rattle.std.proofs.lemmas.List.Elements.{Contains-get_or, Contains-push_cases}
 use Rattle.std.proofs.lemmas.Slice.Eq.{bytes_eq-Decides}
 use Rattle.ark_base.specs.declared.kind.Kind.TheVariants as kind
 use Rattle.ark_base.specs.declared.refusal.Refusal.{Refusal}
 use Rattle.ark_base.specs.declared.refusal.Refusal.TheVariants as r
-use Rattle.ark_media.specs.Journal.{History, block, current, zero_block}
+use Rattle.ark_media.specs.Journal.{zero_block}
 use Rattle.ark_media.specs.Calls.{Told}
 use Rattle.ark_extents.specs.Blocks.{runs_of}
 use Rattle.ark_caps.specs.Labels.{value_at}
 use Rattle.ark_table.specs.Slots.{Slot}
 use Rattle.ark_script.specs.Line as w
-use Rattle.ark_script.specs.declared.said.Said.{Said}
 use Rattle.ark_script.specs.declared.said.Said.TheVariants as said
 use Rattle.ark_machine.specs.Objects
 use Rattle.ark_machine.specs.Objects.{Raw, is_vsa}
 use Rattle.ark_machine.specs.Machine.{Machine, Held, at, is_full, count_of, with_new}
 use Rattle.ark_machine.specs.Areas as areas
-use Rattle.ark_machine.specs.Row.{Row, says, answer}
-use Rattle.ark_machine.specs.Plane.{Plane, slot_of, free_blocks, max_slots, max_runs}
+use Rattle.ark_machine.specs.Row.{answer}
+use Rattle.ark_machine.specs.Plane.{Plane, free_blocks, max_slots, max_runs}
 use Rattle.ark_machine.specs.Granting.{new_slot}
 use Rattle.ark_machine.specs.System.{System, machine_of}
 use Rattle.ark_machine.specs.Follow.{ended}
@@ -36,8 +35,8 @@ use Rattle.ark_held.proofs.Besides.{same_told}
 use Rattle.ark_held.proofs.Granted.{granted, added_last, lookup_last, slot_other}
 use Rattle.ark_held.specs.declared.app.App.{App}
 use Rattle.ark_host.specs.declared.host.Host.{Host}
-use Rattle.ark_host.specs.Stands.{Stands, Turned, IsHeld, IsZero, AreApart, AreInside, around, app_of, vsa_row, given_of}
-use Rattle.ark_host.proofs.Machines.{by_test, bytes_eq-same, bytes_eq-other}
+use Rattle.ark_host.specs.Stands.{Stands, Turned, IsHeld, AreApart, AreInside, around, app_of, vsa_row}
+use Rattle.ark_host.proofs.Machines.{by_test}
 use Rattle.ark_host.proofs.Lists.{get_there, found_set, map_set, contains_in, in_contains, in_take, in_drop}
 use Rattle.ark_host.proofs.Freeing.{free_after, granted_not_free, free_inside}
 use Rattle.ark_host.proofs.Standing.{refused}

@@ -1,28 +1,26 @@
 -- The row of `peek`, as a host comes to it.
-use Rattle.std.proofs.Common.{◌≡◌, ℕ, ◌<◌, ◌≤◌, Bool, true, false, nat_le, List, [], ◌∷◌, length, get_or, refl, sym, ◌∙◌, ap, subst, arith}
-use Rattle.std.specs.Prelude.{Option, Some, None, slice_get, slice_index_or}
+use Rattle.std.proofs.Common.{◌≡◌, ℕ, ◌<◌, ◌≤◌, Bool, true, false, nat_le, List, [], ◌∷◌, length, refl, sym, ◌∙◌, ap, subst, arith}
+use Rattle.std.specs.Prelude.{Some, None, slice_get, slice_index_or}
 use Rattle.std.proofs.lemmas.Bool.{false≢true}
 use Rattle.std.proofs.lemmas.Bool.Decides.{nat_tests}
 use Rattle.ark_base.specs.declared.refusal.Refusal.{Refusal}
 use Rattle.ark_base.specs.declared.refusal.Refusal.TheVariants as r
-use Rattle.ark_media.specs.Journal.{Event, Read, History, block, current}
+use Rattle.ark_media.specs.Journal.{Event, Read, block, current}
 use Rattle.ark_media.specs.Calls.{Told, Adds, IsHonest}
-use Rattle.ark_table.specs.Slots.{Slot}
 use Rattle.ark_script.specs.Line as w
-use Rattle.ark_script.specs.declared.said.Said.{Said}
 use Rattle.ark_script.specs.declared.said.Said.TheVariants as said
 use Rattle.ark_machine.specs.Bytes.{trimmed}
 use Rattle.ark_machine.specs.Objects
 use Rattle.ark_machine.specs.Objects.{Raw}
 use Rattle.ark_machine.specs.Machine.{Machine, Held, at}
 use Rattle.ark_machine.specs.Areas as areas
-use Rattle.ark_machine.specs.Row.{Row, Given, reads, says, answer, has_fault}
-use Rattle.ark_machine.specs.Plane.{blocks_at, slot_of}
+use Rattle.ark_machine.specs.Row.{Given, reads, says, answer, has_fault}
+use Rattle.ark_machine.specs.Plane.{blocks_at}
 use Rattle.ark_machine.specs.System.{System, machine_of}
-use Rattle.ark_machine.specs.Follow.{Follow, ended, fails, goes_on}
+use Rattle.ark_machine.specs.Follow.{ended, fails, goes_on}
 use Rattle.ark_host.specs.declared.host.Host.{Host}
 use Rattle.ark_host.specs.Stands.{Stands, Turned, peek_row, given_of}
-use Rattle.ark_host.specs.Finds.{IsThere, IsBlock, HasNone}
+use Rattle.ark_host.specs.Finds.{IsBlock, HasNone}
 use Rattle.ark_host.proofs.Machines.{set_machine-same}
 use Rattle.ark_host.proofs.Lists.{get_there}
 use Rattle.ark_host.proofs.Standing.{refused, same_system, stands_beside}

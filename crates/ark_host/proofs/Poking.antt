@@ -1,6 +1,6 @@
 -- The row of `poke`, as a host comes to it.
-use Rattle.std.proofs.Common.{◌≡◌, ◌⊎◌, ℕ, ◌<◌, ◌≤◌, Bool, true, false, cond, ◌&&◌, nat_le, List, [], ◌∷◌, length, get_or, refl, sym, ◌∙◌, ap, subst, arith, bytes_eq, Contains}
-use Rattle.std.specs.Prelude.{Option, Some, None, slice_get, find, unwrap_or}
+use Rattle.std.proofs.Common.{◌≡◌, ℕ, ◌<◌, Bool, true, false, nat_le, List, [], ◌∷◌, length, refl, sym, ◌∙◌, ap, subst, arith, bytes_eq, Contains}
+use Rattle.std.specs.Prelude.{Option, Some, None, find, unwrap_or}
 use Rattle.std.proofs.lemmas.Bool.{false≢true, and_parts}
 use Rattle.std.proofs.lemmas.List.Elements.{Contains-get_or}
 use Rattle.std.proofs.lemmas.Slice.Eq.{bytes_eq-Decides}
@@ -19,21 +19,20 @@ use Rattle.ark_machine.specs.Objects.{Raw}
 use Rattle.ark_machine.specs.Machine.{Machine, Held, at, with_object}
 use Rattle.ark_machine.specs.Areas as areas
 use Rattle.ark_machine.specs.Areas.{raw_written}
-use Rattle.ark_machine.specs.Row.{Row, Given, Ended, writes, says, answer}
+use Rattle.ark_machine.specs.Row.{Given, Ended, writes, says, answer}
 use Rattle.ark_machine.specs.Plane.{is_slot_of, slot_of}
 use Rattle.ark_machine.specs.System.{System, machine_of}
-use Rattle.ark_machine.specs.Follow.{Follow, ended, fails, goes_on, end_of}
-use Rattle.ark_held.specs.Held.{Around, Holds, SameAt, Grows, StaysAt}
-use Rattle.ark_held.specs.Beside.{AreBeside}
+use Rattle.ark_machine.specs.Follow.{ended, fails, goes_on, end_of}
+use Rattle.ark_held.specs.Held.{Holds, SameAt, Grows}
 use Rattle.ark_held.proofs.Besides.{same_beside}
 use Rattle.ark_held.proofs.Written.{raw_stands, written}
 use Rattle.ark_held.specs.declared.app.App.{App}
 use Rattle.ark_host.specs.declared.host.Host.{Host}
 use Rattle.ark_host.specs.Stands.{Stands, Turned, AtApp, IsHeld, around, app_of, poke_row, given_of}
-use Rattle.ark_host.specs.Finds.{IsThere, IsBlock, HasNone}
+use Rattle.ark_host.specs.Finds.{IsBlock, HasNone}
 use Rattle.ark_host.proofs.Lists.{find_in, in_contains}
 use Rattle.ark_host.proofs.Freeing.{granted_not_free}
-use Rattle.ark_host.proofs.Peeking.{le_true, le_false, at_block, off_inside}
+use Rattle.ark_host.proofs.Peeking.{le_true, at_block, off_inside}
 use Rattle.ark_host.proofs.Standing.{refused}
 use Rattle.ark_host.proofs.Setting.{with_set, set_apps, set_now, set_here}
 
@@ -106,9 +105,11 @@ module _ (host : Host) (old new : Told) (s : System) (a l : List ℕ) (off n : �
   beside_other e k u found apart =
       let mine = slot_names s.plane.slots a l b.area.slot b.area.placed in
       let its = slot_names s.plane.slots e k u found in
-      same_beside old.history new.history (Write n c took ok ∷ []) u.blocks adds
-      (λ has. let same = st.apart b.area.slot u n mine.0 its.0 block_in has in
-      apart (its.1 ∙ ap (λ (v : Slot). v.app) (sym same) ∙ sym mine.1) (its.2 ∙ ap (λ (v : Slot). v.label) (sym same) ∙ sym mine.2), tt)
+      same_beside old.history new.history (Write n c took ok ∷ []) u.blocks adds (
+        λ has. let same = st.apart b.area.slot u n mine.0 its.0 block_in has in
+            apart (its.1 ∙ ap (λ (v : Slot). v.app) (sym same) ∙ sym mine.1) (its.2 ∙ ap (λ (v : Slot). v.label) (sym same) ∙ sym mine.2),
+        tt,
+      )
 
   not_same : (x y : List ℕ) → bytes_eq x y ≡ false → x ≡ y → ⊥
   not_same x y apart same = false≢true (sym apart ∙ (bytes_eq-Decides x y).1 same)

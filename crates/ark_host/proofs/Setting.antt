@@ -1,15 +1,15 @@
 -- A system where one application's machine is set.
-use Rattle.std.proofs.Common.{◌≡◌, ℕ, ◌≤◌, Bool, true, false, cond, List, [], ◌∷◌, refl, sym, ◌∙◌, ap, subst, arith, bytes_eq}
-use Rattle.std.specs.Prelude.{Option, Some, None, if◌then◌else◌}
+use Rattle.std.proofs.Common.{◌≡◌, ℕ, ◌≤◌, true, false, cond, List, refl, sym, ◌∙◌, ap, subst, bytes_eq}
+use Rattle.std.specs.Prelude.{Option, Some}
 use Rattle.std.proofs.lemmas.Slice.Eq.{bytes_eq-Decides}
 use Rattle.ark_media.specs.Calls.{Told}
 use Rattle.ark_table.specs.Slots.{Slot}
 use Rattle.ark_machine.specs.Machine.{Machine}
 use Rattle.ark_machine.specs.Plane.{Plane, slot_of}
 use Rattle.ark_machine.specs.System.{System, machine_of, set_machine}
-use Rattle.ark_held.specs.Held.{Holds, SameAt}
+use Rattle.ark_held.specs.Held.{SameAt}
 use Rattle.ark_held.specs.declared.app.App.{App}
-use Rattle.ark_host.specs.Stands.{AtApp, IsHeld, around, app_of}
+use Rattle.ark_host.specs.Stands.{AtApp, IsHeld, app_of}
 use Rattle.ark_host.proofs.Machines.{by_test, listed_machine-set, bytes_eq-same}
 use Rattle.ark_host.proofs.Standing.{at_app_kept}
 

@@ -1,20 +1,18 @@
 -- What a host stands for, where little changes.
-use Rattle.std.proofs.Common.{◌≡◌, ◌⊎◌, inl, inr, ℕ, ◌+◌, ◌<◌, ◌≤◌, Bool, true, false, cond, List, [], ◌∷◌, ◌++◌, length, map, refl, sym, ◌∙◌, ap, subst, arith, bytes_eq, Contains, nat_eq, get_or}
-use Rattle.std.specs.Prelude.{Option, Some, None, find, filter as select, not, ◌==◌}
+use Rattle.std.proofs.Common.{◌≡◌, ℕ, ◌<◌, ◌≤◌, List, [], ◌∷◌, map, refl, sym, ◌∙◌, ap, subst, arith}
+use Rattle.std.specs.Prelude.{Option, Some, None, filter as select, not, ◌==◌}
 use Rattle.std.specs.List.{list_any}
-use Rattle.std.specs.Map.{lookup}
-use Rattle.std.proofs.lemmas.Slice.Eq.{bytes_eq-Decides}
 use Rattle.ark_base.specs.declared.refusal.Refusal.{Refusal}
-use Rattle.ark_media.specs.Journal.{Event, History, block, current, onto, device_events, zero_block}
+use Rattle.ark_media.specs.Journal.{Event, block, current, device_events}
 use Rattle.ark_media.specs.Calls.{Told, Rests, Adds}
 use Rattle.ark_table.specs.Slots.{Slot}
 use Rattle.ark_script.specs.Line.{Line}
 use Rattle.ark_script.specs.declared.said.Said.TheVariants as said
 use Rattle.ark_machine.specs.Machine.{Machine, unmade}
 use Rattle.ark_machine.specs.Row.{Row, Call, says}
-use Rattle.ark_machine.specs.Plane.{Plane, slot_of, free_blocks}
+use Rattle.ark_machine.specs.Plane.{Plane, slot_of}
 use Rattle.ark_machine.specs.Granting.{plane_after}
-use Rattle.ark_machine.specs.System.{System, machine_of, fresh_system, own_turn}
+use Rattle.ark_machine.specs.System.{System, machine_of, fresh_system}
 use Rattle.ark_machine.specs.Built.{calls_so_far}
 use Rattle.ark_machine.specs.Follow.{Follow, ended}
 use Rattle.ark_extents.specs.Free.{free_at_first}
@@ -24,7 +22,7 @@ use Rattle.ark_held.proofs.Granted.{holds_kept}
 use Rattle.ark_held.proofs.Besides.{same_beside, outputs_beside, current_beside}
 use Rattle.ark_held.specs.declared.app.App.{App}
 use Rattle.ark_host.specs.declared.host.Host.{Host}
-use Rattle.ark_host.specs.Stands.{Stands, Turned, AtApp, IsHeld, IsUnmade, IsZero, around, app_of}
+use Rattle.ark_host.specs.Stands.{Stands, Turned, AtApp, IsZero, around, app_of}
 use Rattle.ark_host.proofs.Machines.{set_machine-same}
 use Rattle.ark_host.proofs.Lists.{contains_in}
 

@@ -1,9 +1,9 @@
 -- Time goes on.
-use Rattle.std.proofs.Common.{◌≡◌, ℕ, ◌+◌, List, [], refl, ◌∙◌, ap, sym, subst}
+use Rattle.std.proofs.Common.{ℕ, ◌+◌, List, [], refl, ◌∙◌, ap, sym, subst}
 use Rattle.std.specs.Prelude.{Option, Some, None}
 use Rattle.ark_media.specs.Calls.{Told}
 use Rattle.ark_script.specs.declared.said.Said.TheVariants as said
-use Rattle.ark_machine.specs.Machine.{Machine, unmade}
+use Rattle.ark_machine.specs.Machine.{Machine}
 use Rattle.ark_machine.specs.Step.{ticked}
 use Rattle.ark_machine.specs.System.{System, machine_of, tick_turn}
 use Rattle.ark_held.specs.Held.{Around, Holds}

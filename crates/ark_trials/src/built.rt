@@ -60,10 +60,10 @@ fn takes_frames(rt: HostRuntime) -> Result<(), Fail> {
 #[test]
 fn refuses_words_to_come(rt: HostRuntime) -> Result<(), Fail> {
     for line in [
-        b"vsa a s 8 raw\n".as_slice(),
+        b"vsa a s 8 log\n".as_slice(),
         b"door a d\n".as_slice(),
         b"drop a s\n".as_slice(),
-        b"peek a s 0\n".as_slice(),
+        b"grow a s 1\n".as_slice(),
         b"append a s -\n".as_slice(),
         b"dev a v\n".as_slice(),
     ] {

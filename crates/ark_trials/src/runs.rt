@@ -24,7 +24,17 @@ pub(crate) struct Finished {
 
 /// `run --new 200 d` on this script, with ample room and these failures.
 pub(crate) fn run(alloc: Global, script: &[u8], plan: &[Fail]) -> Result<Finished, Failure> {
-    let words = words_of(alloc, &["run", "--new", "200", "d"])?;
+    run_on(alloc, "200", script, plan)
+}
+
+/// The same on a device of so many blocks.
+pub(crate) fn run_on(
+    alloc: Global,
+    blocks: &str,
+    script: &[u8],
+    plan: &[Fail],
+) -> Result<Finished, Failure> {
+    let words = words_of(alloc, &["run", "--new", blocks, "d"])?;
     let mut world = MemoryWorld::new(alloc, b"", 400, script, plan, 100, 2000)?;
     let status = arrakis(alloc, &words, &mut world);
     Ok(Finished { status, world })

@@ -107,7 +107,14 @@ impl Host {
     }
 
     // The word `peek`.
-    pub(super) fn peek<D: Disk>(&self, name: &AppName, label: &Label, off: u64, disk: &mut D, out: &mut Reply)
+    pub(super) fn peek<D: Disk>(
+        &self,
+        name: &AppName,
+        label: &Label,
+        off: u64,
+        disk: &mut D,
+        out: &mut Reply,
+    )
         ensures turned { GoesBy D.goes disk.old disk.new (λ es. (s : System) → Stands self.now (D.told disk.old) s →
             Turned self.now (D.told disk.new) s name.now (w.peek name.now label.now off) (peek_row s name.now label.now off es out.new.said) es out.new.said (bytes_shown out.new)) }
         ensures said { IsSaid out.new.said }
@@ -127,7 +134,14 @@ impl Host {
     }
 
     // The word `poke`.
-    pub(super) fn poke<D: Disk>(&self, name: &AppName, label: &Label, off: u64, hex: &Hex<'_>, disk: &mut D) -> Said
+    pub(super) fn poke<D: Disk>(
+        &self,
+        name: &AppName,
+        label: &Label,
+        off: u64,
+        hex: &Hex<'_>,
+        disk: &mut D,
+    ) -> Said
         requires short { length hex.now.digits.now ≤ 1024 }
         ensures turned { GoesBy D.goes disk.old disk.new (λ es. (s : System) → Stands self.now (D.told disk.old) s →
             Turned self.now (D.told disk.new) s name.now (w.poke name.now label.now off (spelled hex.now.digits.now))

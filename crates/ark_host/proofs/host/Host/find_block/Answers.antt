@@ -1,4 +1,4 @@
-use Rattle.std.proofs.Common.{◌∙◌, ap, sym, subst, rules, arith, ◌<◌, ℕ}
+use Rattle.std.proofs.Common.{◌∙◌, ap, rules, arith}
 use Rattle.std.specs.Prelude.{is_some}
 use Rattle.std.proofs.lemmas.Bool.{false≢true}
 use Rattle.ark_host.proofs.Apps.{held_there, not_made}
@@ -27,7 +27,7 @@ pub returns-then-block-size-clause-finds : goal.returns-then-block-size-clause-f
 returns-then-block-size-clause-finds c = λ told s size st.
     let held = held_there s c.args.self.now told c.args.name.now st c.in-Some.place c.index.result.now (search rules) (search rules) in
     let near = find_near c.args.self.now.grants told s c.args.name.now c.args.label.now c.index.result.now c.args.off held c.in-Ok.spans c.in-Ok.ensures.found
-        c.in-Some-translate.block c.blocks-2.ensures.distinct c.in-Some-translate.ensures.block (search rules) in
+    c.in-Some-translate.block c.blocks-2.ensures.distinct c.in-Some-translate.ensures.block (search rules) in
     let below = block_inside c.args.self.now told s c.args.name.now c.args.label.now c.args.off c.in-Some-translate.block st near in
     absurd (omega (arith, below, size, c.if-block-size.true))
 

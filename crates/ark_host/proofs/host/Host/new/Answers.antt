@@ -1,6 +1,5 @@
 use Rattle.std.proofs.Common.{refl, rules}
 use Rattle.ark_host.proofs.Standing.{fresh_stands}
-use Rattle.ark_host.proofs.Words.{unbuilt}
 use Rattle.ark_host.proofs.host.Host.new.Goals as goal
 
 pub returns-in-Ok-clause-stands : goal.returns-in-Ok-clause-stands

@@ -1,4 +1,4 @@
-use Rattle.std.proofs.Common.{[], ◌∷◌, true, false, ◌∙◌, ap, List, ℕ, sym, subst, rules}
+use Rattle.std.proofs.Common.{[], ◌∷◌, true, false, ◌∙◌, ap, sym}
 use Rattle.ark_media.specs.Journal.{Event}
 use Rattle.ark_media.specs.Calls.{Reads}
 use Rattle.ark_extents.proofs.Unview.{one_event}

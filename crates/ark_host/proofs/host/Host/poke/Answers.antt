@@ -1,5 +1,5 @@
-use Rattle.std.proofs.Common.{[], ◌∷◌, true, false, ◌∙◌, ap, List, ℕ, ◌<◌, sym, subst, rules}
-use Rattle.ark_media.specs.Journal.{Event, History}
+use Rattle.std.proofs.Common.{[], ◌∷◌, true, false, ◌∙◌, ap, ℕ, ◌<◌, sym, subst}
+use Rattle.ark_media.specs.Journal.{Event}
 use Rattle.ark_media.specs.Calls.{Writes}
 use Rattle.ark_extents.proofs.Unview.{one_event}
 use Rattle.ark_script.specs.Line.{spelled}

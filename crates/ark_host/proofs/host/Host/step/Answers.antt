@@ -1,4 +1,4 @@
-use Rattle.std.proofs.Common.{[], refl, rules, subst, sym}
+use Rattle.std.proofs.Common.{[]}
 use Rattle.ark_host.proofs.Bytes.{short_digits}
 use Rattle.ark_host.proofs.Standing.{relined}
 use Rattle.ark_host.proofs.Words.{app_answered, peek_answered, poke_answered, tick_answered, unbuilt, unbuilt_answered, shown_none}

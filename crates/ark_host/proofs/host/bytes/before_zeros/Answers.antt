@@ -1,4 +1,4 @@
-use Rattle.std.proofs.Common.{◌∙◌, ap, sym, take, rules, arith}
+use Rattle.std.proofs.Common.{◌∙◌, ap, take, rules}
 use Rattle.ark_host.proofs.Bytes.{kept_more, kept_zero}
 use Rattle.ark_host.proofs.host.bytes.before_zeros.Goals as goal
 use Rattle.ark_host.proofs.host.bytes.before_zeros.Goals.{then-bytes-i-ne0, else-bytes-i-ne0}

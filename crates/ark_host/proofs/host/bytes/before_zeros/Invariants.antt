@@ -1,4 +1,4 @@
-use Rattle.std.proofs.Common.{◌≡◌, ◌≤◌, take, length}
+use Rattle.std.proofs.Common.{◌≡◌, ◌≤◌, take}
 use Rattle.ark_machine.specs.Bytes.{trimmed}
 use Rattle.ark_host.proofs.host.bytes.before_zeros.Given as goal
 
