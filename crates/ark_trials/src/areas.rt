@@ -71,8 +71,10 @@ fn reads_what_was_written(rt: HostRuntime) -> Result<(), Failure> {
 // An application holds eight areas and no more.
 #[test]
 fn grants_eight_areas(rt: HostRuntime) -> Result<(), Failure> {
-    let script = b"app a\nvsa a a 1 raw\nvsa a b 1 raw\nvsa a c 1 raw\nvsa a d 1 raw\nvsa a e 1 raw\nvsa a f 1 raw\nvsa a g 1 raw\nvsa a h 1 raw\nvsa a i 1 raw\nvsa a h 1 raw\n";
-    let out = b"ready 200 0\nok\nok\nok\nok\nok\nok\nok\nok\nok\nrefused 7 limit\nrefused 4 name taken\n";
+    let script =
+        b"app a\nvsa a a 1 raw\nvsa a b 1 raw\nvsa a c 1 raw\nvsa a d 1 raw\nvsa a e 1 raw\nvsa a f 1 raw\nvsa a g 1 raw\nvsa a h 1 raw\nvsa a i 1 raw\nvsa a h 1 raw\n";
+    let out =
+        b"ready 200 0\nok\nok\nok\nok\nok\nok\nok\nok\nok\nrefused 7 limit\nrefused 4 name taken\n";
     assert!(rt; shows(rt.alloc(), "200", script, out)?);
     Ok(())
 }
