@@ -1,13 +1,14 @@
 -- What events beside some blocks leave.
-use Rattle.std.proofs.Common.{◌≡◌, ℕ, Bool, true, false, List, [], ◌∷◌, get_or, refl, sym, ◌∙◌, ap, subst, Contains}
-use Rattle.std.specs.Prelude.{Option}
+use Rattle.std.proofs.Common.{◌≡◌, ℕ, ◌<◌, Bool, true, false, List, [], ◌∷◌, length, get_or, refl, sym, ◌∙◌, ap, subst, Contains}
+use Rattle.std.specs.Prelude.{Option, Some}
 use Rattle.std.proofs.lemmas.Bool.{false≢true}
 use Rattle.std.proofs.lemmas.List.Elements.{Contains-get_or}
 use Rattle.ark_media.specs.Journal.{Event, Read, Write, Sync, Out, History, block, current, onto, device_events}
 use Rattle.ark_media.specs.Calls.{Adds}
-use Rattle.ark_media.proofs.Stopping.{current_other}
-use Rattle.ark_held.specs.Held.{SameAt}
+use Rattle.ark_media.specs.Stops.{MayHold, Whole}
+use Rattle.ark_media.proofs.Stopping.{current_other, other_write, sync_narrows}
 use Rattle.ark_held.specs.Beside.{AreBeside}
+use Rattle.ark_held.specs.Keeps.{SameAt}
 
 other : (blocks : List ℕ) (m n : ℕ) → Contains blocks n → (Contains blocks m → ⊥) → n ≡ m → ⊥
 other blocks m n has apart same = apart (subst (λ (k : ℕ). Contains blocks k) same has)
@@ -20,12 +21,25 @@ current_beside base blocks (Read m ok ∷ es) j n has beside = current_beside ba
 current_beside base blocks (Sync ok ∷ es) j n has beside = current_beside base blocks es (Sync ok ∷ j) n has beside
 current_beside base blocks (Out bytes ∷ es) j n has beside = current_beside base blocks es (Out bytes ∷ j) n has beside
 
-pub same_beside : (before after : Option History) (es : List Event) (blocks : List ℕ) → Adds before after es → AreBeside blocks es → SameAt before after blocks
-same_beside before after es blocks adds beside = λ h told.
+-- and a stop may leave no more of it
+pub may_beside : (base : List (List ℕ)) (blocks : List ℕ) (es j : List Event) (n : ℕ) → n < length base → Contains blocks n → AreBeside blocks es → (c : List ℕ) → MayHold Whole base (onto es j) n c → MayHold Whole base j n c
+may_beside base blocks [] j n lt has beside c left = left
+may_beside base blocks (Write m w took ok ∷ es) j n lt has beside c left = other_write Whole base j m n w took ok (other blocks m n has beside.0) c (may_beside base blocks es (Write m w took ok ∷ j) n lt has beside.1 c left)
+may_beside base blocks (Read m ok ∷ es) j n lt has beside c left = may_beside base blocks es (Read m ok ∷ j) n lt has beside c left
+may_beside base blocks (Sync ok ∷ es) j n lt has beside c left = sync_narrows Whole (λ b. refl) base j ok n lt c (may_beside base blocks es (Sync ok ∷ j) n lt has beside c left)
+may_beside base blocks (Out bytes ∷ es) j n lt has beside c left = may_beside base blocks es (Out bytes ∷ j) n lt has beside c left
+
+pub same_beside : (before after : Option History) (es : List Event) (blocks : List ℕ) → Adds before after es → ((h : History) → after ≡ Some h → (n : ℕ) → Contains blocks n → n < length h.base) → AreBeside blocks es → SameAt before after blocks
+same_beside before after es blocks adds inside beside = λ h told.
     let was = adds.told h told in (
       record { base = h.base; journal = was.0 },
       was.1,
-      λ k lt. ap (λ (j : List Event). block (current h.base j) (get_or blocks k 0)) was.2 ∙ current_beside h.base blocks es was.0 (get_or blocks k 0) (Contains-get_or blocks k 0 lt) beside,
+      λ k lt.
+          let has = Contains-get_or blocks k 0 lt in (
+            ap (λ (j : List Event). block (current h.base j) (get_or blocks k 0)) was.2 ∙ current_beside h.base blocks es was.0 (get_or blocks k 0) has beside,
+            λ c left. may_beside h.base blocks es was.0 (get_or blocks k 0) (inside h told (get_or blocks k 0) has) has beside c
+                (subst (λ (j : List Event). MayHold Whole h.base j (get_or blocks k 0) c) was.2 left),
+          ),
     )
 
 abbrev is_call : List Event → Bool
@@ -45,4 +59,4 @@ outputs_beside blocks (Sync ok ∷ es) silent = absurd (not_silent _ _ silent)
 
 -- the same blocks, and told as before
 pub same_told : (told : Option History) (blocks : List ℕ) → SameAt told told blocks
-same_told told blocks = λ h is. (h, is, λ k lt. refl)
+same_told told blocks = λ h is. (h, is, λ k lt. (refl, λ c left. left))

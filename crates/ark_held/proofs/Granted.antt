@@ -1,6 +1,6 @@
--- A new area under a new label.
-use Rattle.std.proofs.Common.{◌≡◌, ℕ, zero, suc, ◌+◌, Bool, true, false, cond, ◌&&◌, List, [], ◌∷◌, ◌++◌, length, nat_eq, refl, sym, ◌∙◌, ap, arith, bytes_eq}
-use Rattle.std.specs.Prelude.{Option, Some, None, find, slice_get, is_some}
+-- A new raw area under a new label.
+use Rattle.std.proofs.Common.{◌≡◌, ℕ, ◌+◌, Bool, true, false, cond, not, ◌&&◌, List, [], ◌∷◌, ◌++◌, length, nat_eq, refl, sym, ◌∙◌, ap, subst, arith, bytes_eq}
+use Rattle.std.specs.Prelude.{Option, Some, None, find, option_map, option_and_then, slice_get, slice_index_or, is_some}
 use Rattle.std.specs.Option.{option_or}
 use Rattle.std.specs.Map.{lookup}
 use Rattle.std.proofs.lemmas.Bool.{false≢true}
@@ -8,67 +8,31 @@ use Rattle.std.proofs.lemmas.Bool.Decides.{nat_tests}
 use Rattle.std.proofs.lemmas.List.{length-append}
 use Rattle.std.proofs.lemmas.List.Elements.{filter-append}
 use Rattle.std.proofs.lemmas.List.Folds.{find-append}
-use Rattle.std.proofs.lemmas.Slice.Eq.{bytes_eq-Decides}
+use Rattle.ark_base.specs.declared.kind.Kind.TheVariants as kind
+use Rattle.ark_media.specs.Journal.{History}
 use Rattle.ark_table.specs.Slots.{Slot}
+use Rattle.ark_filters.specs.declared.live.Live.{Live}
 use Rattle.ark_caps.specs.Labels.{value_at}
 use Rattle.ark_caps.specs.declared.capability.Capability.{Capability}
+use Rattle.ark_region.specs.Frames.{bytes_of}
 use Rattle.ark_machine.specs.Objects
 use Rattle.ark_machine.specs.Objects.{Raw}
-use Rattle.ark_machine.specs.Machine.{Machine, with_new}
+use Rattle.ark_machine.specs.Machine.{Machine, Held, with_new}
 use Rattle.ark_machine.specs.Plane.{is_slot_of}
-use Rattle.ark_held.specs.Words.{Labels, AreaList, new_area_cap, with_area, added_to}
-use Rattle.ark_held.specs.Held.{Around, slot_at, IsRaw, Matches, Holds, is_area, area_labels, Grows, StaysAt}
-use Rattle.ark_held.proofs.Keeping.{all_kept, all_more}
+use Rattle.ark_machine.specs.Control.{is_open_on, is_socket_on}
+use Rattle.ark_held.specs.Words.{Labels, AreaList, new_area_cap, area_in}
+use Rattle.ark_held.specs.Totals.{bit, uses, cover_count, lent_count, open_count, socket_count}
+use Rattle.ark_held.specs.Kept.{BufferKept, CardKept, Tables}
+use Rattle.ark_held.specs.Around.{Around, slot_at}
+use Rattle.ark_held.specs.Areas.{IsRaw}
+use Rattle.ark_held.specs.Held.{Holds, is_area, area_labels, has_key}
+use Rattle.ark_held.specs.Keeps.{SameAt, Keeps, any_label, any_piece}
+use Rattle.ark_held.proofs.Lists.{name_same, not_some, number_front, lookup_front, lookup_last, lookup_other, turned, total_last}
 use Rattle.ark_held.proofs.Besides.{same_told}
-
--- Lists with one more at the end.
-
-slice_front : (xs : List ℕ) (g i h : ℕ) → slice_get xs i ≡ Some h → slice_get (xs ++ g ∷ []) i ≡ Some h
-slice_front [] g i h is = absurd (false≢true (ap is_some is))
-slice_front (x ∷ xs) g zero h is = is
-slice_front (x ∷ xs) g (suc i) h is = slice_front xs g i h is
-
-slice_last : (xs : List ℕ) (g : ℕ) → slice_get (xs ++ g ∷ []) (length xs) ≡ Some g
-slice_last [] g = refl
-slice_last (x ∷ xs) g = slice_last xs g
-
-module _ {K V : Type 0} (test : K → Bool) where
-  pub lookup_front : (es : List (K × V)) (e : K × V) (v : V) → lookup test es ≡ Some v → lookup test (es ++ e ∷ []) ≡ Some v
-  lookup_front [] e v is = absurd (false≢true (ap is_some is))
-  lookup_front (x ∷ xs) e v is = by (test x.0) (lookup_front xs e v) is
-    where
-      by : (b : Bool) → (lookup test xs ≡ Some v → lookup test (xs ++ e ∷ []) ≡ Some v) → cond b (Some x.1) (lookup test xs) ≡ Some v → cond b (Some x.1) (lookup test (xs ++ e ∷ [])) ≡ Some v
-      by true rest h = h
-      by false rest h = rest h
-
-  pub lookup_last : (es : List (K × V)) (e : K × V) → lookup test es ≡ None → lookup test (es ++ e ∷ []) ≡ cond (test e.0) (Some e.1) None
-  lookup_last [] e none = refl
-  lookup_last (x ∷ xs) e none = by (test x.0) (lookup_last xs e) none
-    where
-      by : (b : Bool) → (lookup test xs ≡ None → lookup test (xs ++ e ∷ []) ≡ cond (test e.0) (Some e.1) None) → cond b (Some x.1) (lookup test xs) ≡ None → cond b (Some x.1) (lookup test (xs ++ e ∷ [])) ≡ cond (test e.0) (Some e.1) None
-      by true rest h = absurd (false≢true (sym (ap is_some h)))
-      by false rest h = rest h
-
-  pub lookup_none : (es : List (K × V)) (e : K × V) → lookup test (es ++ e ∷ []) ≡ None → (lookup test es ≡ None) × (test e.0 ≡ false)
-  lookup_none [] e none = (refl, by (test e.0) none)
-    where
-      by : (b : Bool) → cond b (Some e.1) None ≡ None → b ≡ false
-      by true h = absurd (false≢true (sym (ap is_some h)))
-      by false h = refl
-  lookup_none (x ∷ xs) e none = by (test x.0) (lookup_none xs e) none
-    where
-      by : (b : Bool) → (lookup test (xs ++ e ∷ []) ≡ None → (lookup test xs ≡ None) × (test e.0 ≡ false)) → cond b (Some x.1) (lookup test (xs ++ e ∷ [])) ≡ None → (cond b (Some x.1) (lookup test xs) ≡ None) × (test e.0 ≡ false)
-      by true rest h = absurd (false≢true (sym (ap is_some h)))
-      by false rest h = rest h
-
--- an area of a new grant goes last
-pub added_last : (g : ℕ) (blocks : List ℕ) (es : AreaList) → lookup (nat_eq g) es ≡ None → with_area es g blocks ≡ es ++ (g, blocks) ∷ []
-added_last g blocks es none = ap (λ o. added_to es g blocks o) none
+use Rattle.ark_held.proofs.Finding.{stands_at}
+use Rattle.ark_held.proofs.Creating.{but, created}
 
 -- Slots with one more.
-
-pub slot_front : (name l : List ℕ) (slots : List Slot) (t u : Slot) → find (λ v. is_slot_of name l v) slots ≡ Some u → find (λ v. is_slot_of name l v) (slots ++ t ∷ []) ≡ Some u
-slot_front name l slots t u is = find-append (λ v. is_slot_of name l v) slots (t ∷ []) ∙ ap (λ o. option_or o (find (λ v. is_slot_of name l v) (t ∷ []))) is
 
 pub slot_last : (name l : List ℕ) (slots : List Slot) (t : Slot) → find (λ v. is_slot_of name l v) slots ≡ None → find (λ v. is_slot_of name l v) (slots ++ t ∷ []) ≡ cond (is_slot_of name l t) (Some t) None
 slot_last name l slots t is = find-append (λ v. is_slot_of name l v) slots (t ∷ []) ∙ ap (λ o. option_or o (find (λ v. is_slot_of name l v) (t ∷ []))) is
@@ -77,89 +41,103 @@ or_none : {A : Type 0} (o : Option A) → option_or o None ≡ o
 or_none None = refl
 or_none (Some x) = refl
 
+-- a slot that is not at this name and label is not found there
+slot_apart : (name l : List ℕ) (slots : List Slot) (t : Slot) → is_slot_of name l t ≡ false → find (λ v. is_slot_of name l v) (slots ++ t ∷ []) ≡ find (λ v. is_slot_of name l v) slots
+slot_apart name l slots t apart =
+    find-append (λ v. is_slot_of name l v) slots (t ∷ [])
+    ∙ ap (λ b. option_or (find (λ v. is_slot_of name l v) slots) (cond b (Some t) None)) apart
+    ∙ or_none (find (λ v. is_slot_of name l v) slots)
+
 -- a slot of another application is found under no label of this one
 pub slot_other : (name l : List ℕ) (slots : List Slot) (t : Slot) → bytes_eq name t.app ≡ false → find (λ v. is_slot_of name l v) (slots ++ t ∷ []) ≡ find (λ v. is_slot_of name l v) slots
-slot_other name l slots t apart =
-    find-append (λ v. is_slot_of name l v) slots (t ∷ [])
-    ∙ ap (λ b. option_or (find (λ v. is_slot_of name l v) slots) (cond (b && bytes_eq l t.label) (Some t) None)) apart
-    ∙ or_none (find (λ v. is_slot_of name l v) slots)
+slot_other name l slots t apart = slot_apart name l slots t (ap (λ b. b && bytes_eq l t.label) apart)
 
 and_false : (b : Bool) → (b && false) ≡ false
 and_false true = refl
 and_false false = refl
 
-bytes_same : (l k : List ℕ) → l ≡ k → bytes_eq l k ≡ true
-bytes_same l k e = (bytes_eq-Decides l k).1 e
+pub plus_zero : (n : ℕ) → n + 0 ≡ n
+plus_zero n = omega arith
 
 nat_same : (g : ℕ) → nat_eq g g ≡ true
 nat_same g = grind (arith, nat_tests)
 
-module _ (x : Around) (labels : Labels) (m : Machine) (h : Holds x labels m) (s : List ℕ) (g : ℕ) (t : Slot) (r : Raw) where
-  -- what is around it then
-  abbrev pub grown : Around
-  grown = record { name = x.name; numbers = x.numbers ++ g ∷ []; areas = x.areas ++ (g, t.blocks) ∷ []; slots = x.slots ++ t ∷ []; told = x.told }
+pub not_but : (l k : List ℕ) → but l k ≡ true → bytes_eq l k ≡ false
+not_but l k h = by (bytes_eq l k) h
+  where
+    by : (b : Bool) → not b ≡ true → b ≡ false
+    by true h = absurd (false≢true h)
+    by false h = refl
 
-  grows : Grows x grown
-  grows = record {
-    numbers = λ i k is. slice_front x.numbers g i k is;
-    areas = λ k blocks is. lookup_front (nat_eq k) x.areas (g, t.blocks) blocks is;
-    slots = λ l u is. slot_front x.name l x.slots t u is;
+module _ (x y : Around) (h : Holds x) (s : List ℕ) (g : ℕ) (t : Slot) (r : Raw)
+    (absent : value_at x.labels s ≡ None) (unused : lookup (nat_eq g) x.areas ≡ None) (fresh : (i : ℕ) → slice_get x.numbers i ≡ Some g → ⊥)
+    (app : t.app ≡ x.name) (label : t.label ≡ s) (raw : t.kind ≡ kind.Raw) (fits : IsRaw x.told t.blocks r)
+    (name : y.name ≡ x.name) (now : y.now ≡ x.now) (numbers : y.numbers ≡ x.numbers ++ g ∷ []) (labels : y.labels ≡ x.labels ++ (s, new_area_cap g) ∷ [])
+    (areas : y.areas ≡ x.areas ++ (g, area_in t) ∷ []) (tables : y.tables ≡ x.tables) (slots : y.slots ≡ x.slots ++ t ∷ []) (rules : y.rules ≡ x.rules) (told : y.told ≡ x.told)
+    (machine : y.machine ≡ with_new x.machine s (Objects.raw r)) where
+  abbrev new_one : Held
+  new_one = record { label = s; serial = x.machine.serial; object = Objects.raw r }
+
+  slot_then : (l : List ℕ) → slot_at y l ≡ find (λ v. is_slot_of x.name l v) (x.slots ++ t ∷ [])
+  slot_then l = ap (λ (n : List ℕ). find (λ v. is_slot_of n l v) y.slots) name ∙ ap (λ (ts : List Slot). find (λ v. is_slot_of x.name l v) ts) slots
+
+  is_its : is_slot_of x.name s t ≡ true
+  is_its = ap (λ b. b && bytes_eq s t.label) (name_same x.name t.app (sym app)) ∙ name_same s t.label (sym label)
+
+  others : (l : List ℕ) → but s l ≡ true → slot_at y l ≡ slot_at x l
+  others l apart =
+      slot_then l
+      ∙ slot_apart x.name l x.slots t (ap (λ b. bytes_eq x.name t.app && b) (ap (λ k. bytes_eq l k) label ∙ turned s l (not_but s l apart)) ∙ and_false (bytes_eq x.name t.app))
+
+  -- a grant of a label is not the new one
+  old_grant : (l : List ℕ) (c : Capability) → value_at x.labels l ≡ Some c → nat_eq c.grant g ≡ false
+  old_grant l c is =
+      let at = stands_at x l c h is in
+      let differ : c.grant ≡ g → ⊥ = λ e. fresh at.held.serial (at.matches.serial ∙ ap (λ (n : ℕ). Some n) e) in
+      grind (arith, nat_tests, differ)
+
+  area_other : (l : List ℕ) (c : Capability) → value_at x.labels l ≡ Some c → lookup (nat_eq c.grant) y.areas ≡ lookup (nat_eq c.grant) x.areas
+  area_other l c is = ap (λ (es : AreaList). lookup (nat_eq c.grant) es) areas ∙ lookup_other (nat_eq c.grant) x.areas (g, area_in t) (old_grant l c is)
+
+  keeps : Keeps (but s) any_label any_piece x y
+  keeps = record {
+    now = omega (arith, now);
+    numbers = λ i n is. ap (λ (ns : List ℕ). slice_get ns i) numbers ∙ number_front x.numbers g i n is;
+    frames = ap (λ (z : Tables). length z.memory.taken) tables;
+    bytes = λ b rests. ap (λ (z : Tables). bytes_of z.memory b) tables;
+    labels = λ l c named is. ap (λ (ls : Labels). value_at ls l) labels ∙ lookup_front (bytes_eq l) x.labels (s, new_area_cap g) c is;
+    places = λ l c named is its. ap (λ (z : Tables). option_map (λ (b : BufferKept). b.piece) (z.buffers c.key)) tables;
+    logs = λ l c named is its. ap (λ (z : Tables). option_and_then (λ (k : CardKept). k.log) (z.cards c.key)) tables;
+    buffers = λ l c same is its. ap (λ (z : Tables). z.buffers c.key) tables;
+    cards = λ l c same is its. ap (λ (z : Tables). z.cards c.key) tables;
+    nets = λ l c same is its. ap (λ (z : Tables). z.nets c.key) tables;
+    doors = λ l c same is its. ap (λ (z : Tables). z.doors c.key) tables;
+    rates = λ l c same is its. ap (λ (z : Tables). z.rates c.key) tables;
+    sockets = λ l c same is its. ap (λ (z : Tables). z.sockets c.key) tables;
+    rules = λ l c same is its. ap (λ (rs : List Live). find (λ v. nat_eq v.grant c.grant) rs) rules;
+    areas = λ l c same is its. area_other l c is;
+    chains = λ l c same is its. ap (λ (z : Tables). z.chains c.grant) tables;
+    slots = others;
+    told = λ l u same is. subst (λ (o : Option History). SameAt x.told o u.blocks) (sym told) (same_told x.told u.blocks);
+    lent = λ l same. ap (λ (m : Machine). lent_count m l) machine ∙ total_last (λ z. uses l z.object) x.machine.held new_one ∙ plus_zero (lent_count x.machine l);
+    opened = λ l same. ap (λ (m : Machine). open_count m l) machine ∙ total_last (λ z. bit (is_open_on l z.object)) x.machine.held new_one ∙ plus_zero (open_count x.machine l);
+    socketed = λ l same. ap (λ (m : Machine). socket_count m l) machine ∙ total_last (λ z. bit (is_socket_on l z.object)) x.machine.held new_one ∙ plus_zero (socket_count x.machine l);
   }
 
-  module _ (new : value_at labels s ≡ None) (unused : lookup (nat_eq g) x.areas ≡ None) (app : t.app ≡ x.name) (label : t.label ≡ s) (fits : IsRaw x.told t.blocks r) where
-    is_its : is_slot_of x.name s t ≡ true
-    is_its = ap (λ b. b && bytes_eq s t.label) (bytes_same x.name t.app (sym app)) ∙ bytes_same s t.label (sym label)
-
-    one : Matches grown (s, new_area_cap g) (record { label = s; serial = m.serial; object = Objects.raw r })
-    one = record {
-      label = refl;
-      serial = ap (λ i. slice_get (x.numbers ++ g ∷ []) i) (sym h.serials) ∙ slice_last x.numbers g;
-      object = record {
+  -- the machine has it under its label
+  pub granted : Holds y
+  granted = created x y h s (new_area_cap g) (Objects.raw r) absent labels fresh
+      (λ k d is kinds stored key. absurd (false≢true (sym (ap has_key kinds) ∙ stored))) keeps machine numbers now
+      (ap (λ (es : AreaList). length es) areas ∙ length-append x.areas ((g, area_in t) ∷ []) ∙ ap (λ n. n + 1) h.areas
+      ∙ sym (ap (λ (ls : Labels). length (area_labels ls)) labels
+      ∙ ap (λ (ls : Labels). length ls) (filter-append (λ (p : List ℕ × Capability). is_area p.1.kind) x.labels ((s, new_area_cap g) ∷ []))
+      ∙ length-append (area_labels x.labels) ((s, new_area_cap g) ∷ [])))
+      (λ j. plus_zero (cover_count x.machine j) ∙ h.taken j ∙ sym (ap (λ (z : Tables). bit (slice_index_or z.memory.taken j false)) tables))
+      (record {
         slot = t;
-        kind = refl;
-        kept = lookup_last (nat_eq g) x.areas (g, t.blocks) unused ∙ ap (λ b. cond b (Some t.blocks) None) (nat_same g);
-        there = slot_last x.name s x.slots t (h.unlisted s new) ∙ ap (λ b. cond b (Some t) None) is_its;
-        fits = fits;
-      };
-    }
-
-    -- the machine has it under its label
-    pub granted : Holds grown (labels ++ (s, new_area_cap g) ∷ []) (with_new m s (Objects.raw r))
-    granted = record {
-      made = h.made;
-      serials = length-append x.numbers (g ∷ []) ∙ ap (λ n. n + 1) h.serials;
-      held = all_more grown labels m.held (s, new_area_cap g) _ (all_kept x grown grows (λ l u is. same_told x.told u.blocks) labels m.held h.held) one;
-      areas = length-append x.areas ((g, t.blocks) ∷ []) ∙ ap (λ n. n + 1) h.areas
-          ∙ sym (ap (λ (l : Labels). length l) (filter-append (λ (p : List ℕ × Capability). is_area p.1.kind) labels ((s, new_area_cap g) ∷ [])) ∙ length-append (area_labels labels) ((s, new_area_cap g) ∷ []));
-      unlisted = λ l none.
-          let not = lookup_none (bytes_eq l) labels (s, new_area_cap g) none in
-          slot_last x.name l x.slots t (h.unlisted l not.0)
-          ∙ ap (λ b. cond b (Some t) None) (ap (λ k. bytes_eq x.name t.app && bytes_eq l k) label ∙ ap (λ b. bytes_eq x.name t.app && b) not.1 ∙ and_false (bytes_eq x.name t.app));
-    }
-
--- the same machine, where what is around it stays
-pub holds_kept : (x y : Around) (labels : Labels) (m : Machine) → y.numbers ≡ x.numbers → y.areas ≡ x.areas → ((l : List ℕ) → slot_at y l ≡ slot_at x l) → ((l : List ℕ) → StaysAt x y l) → Holds x labels m → Holds y labels m
-holds_kept x y labels m numbers areas slots stays h = record {
-  made = h.made;
-  serials = ap (λ (l : List ℕ). length l) numbers ∙ h.serials;
-  held = all_kept x y grows_same stays labels m.held h.held;
-  areas = ap (λ (l : AreaList). length l) areas ∙ h.areas;
-  unlisted = λ l none. slots l ∙ h.unlisted l none;
-}
-  where
-    grows_same : Grows x y
-    grows_same = record {
-      numbers = λ i k is. ap (λ (l : List ℕ). slice_get l i) numbers ∙ is;
-      areas = λ k blocks is. ap (λ (l : AreaList). lookup (nat_eq k) l) areas ∙ is;
-      slots = λ l u is. slots l ∙ is;
-    }
-
--- an application that was just made holds nothing
-pub holds_none : (x : Around) (m : Machine) → m.made ≡ true → m.serial ≡ 0 → m.held ≡ [] → x.numbers ≡ [] → x.areas ≡ [] → ((l : List ℕ) → slot_at x l ≡ None) → Holds x [] m
-holds_none x m made serial held numbers areas slots = record {
-  made = made;
-  serials = ap (λ (l : List ℕ). length l) numbers ∙ sym serial;
-  held = rw held tt;
-  areas = ap (λ (l : AreaList). length l) areas;
-  unlisted = λ l none. slots l;
-}
+        its_kind = refl;
+        kept = ap (λ (es : AreaList). lookup (nat_eq g) es) areas ∙ lookup_last (nat_eq g) x.areas (g, area_in t) unused ∙ ap (λ b. cond b (Some (area_in t)) None) (nat_same g);
+        there = slot_then s ∙ slot_last x.name s x.slots t (h.unlisted s absent) ∙ ap (λ b. cond b (Some t) None) is_its;
+        raw = raw;
+        fits = subst (λ (o : Option History). IsRaw o t.blocks r) (sym told) fits;
+      })

@@ -1,122 +1,242 @@
--- What an application's labels stand for, where little changes: laws over the list of its labels.
-use Rattle.std.proofs.Common.{◌≡◌, ℕ, suc, Bool, true, false, cond, List, [], ◌∷◌, ◌++◌, length, map, refl, sym, ◌∙◌, ap, subst, bytes_eq}
-use Rattle.std.specs.Prelude.{Option, Some, find, filter as select}
-use Rattle.std.proofs.lemmas.Slice.Eq.{bytes_eq-Decides}
-use Rattle.ark_media.specs.Journal.{History}
+-- The frame law: what an object's label stands for stays, where what the object names and has stays.
+use Rattle.std.proofs.Common.{◌≡◌, ℕ, zero, suc, ◌+◌, ◌<◌, ◌≤◌, Bool, true, false, List, [], ◌∷◌, length, map, get_or, refl, sym, ◌∙◌, ap, subst, arith}
+use Rattle.std.specs.Prelude.{Option, Some, None, is_some, option_map, option_and_then, slice_get}
+use Rattle.std.specs.List.{AllByRecursion}
+use Rattle.ark_base.specs.declared.kind.Outcome.{Outcome}
+use Rattle.ark_media.specs.Journal.{History, block, current}
+use Rattle.ark_entry.specs.Found.{found_of}
 use Rattle.ark_caps.specs.Labels.{value_at}
+use Rattle.ark_caps.specs.declared.capability.CapKind.{CapKind}
+use Rattle.ark_caps.specs.declared.capability.CapKind.TheVariants as cap_kind
 use Rattle.ark_caps.specs.declared.capability.Capability.{Capability}
+use Rattle.ark_region.specs.Frames.{Piece, Lies, frames_of}
+use Rattle.ark_vic.specs.declared.descriptor.Descriptor.{Descriptor}
+use Rattle.ark_vic.specs.declared.descriptor.Completion.{Completion}
+use Rattle.ark_caladan.specs.Chain.{Log, Opened, Waiting}
 use Rattle.ark_machine.specs.Objects
-use Rattle.ark_machine.specs.Objects.{Object, Raw, is_vsa}
-use Rattle.ark_machine.specs.Machine.{Machine, Held, holding, count_of}
+use Rattle.ark_machine.specs.Objects.{Object, Raw, Vsic, Vnic, Job, transfer, flush, phase, Place, named as in_buffer, taken, Paced, Buffer}
+use Rattle.ark_machine.specs.Machine.{Held}
+use Rattle.ark_machine.specs.Start.{view}
 use Rattle.ark_held.specs.Words.{Labels}
-use Rattle.ark_held.specs.Held.{Around, IsRaw, Fits, Matches, AllMatch, AtLabel, Holds, is_area, area_labels, SameAt, Grows, StaysAt}
+use Rattle.ark_held.specs.Kept.{BufferKept, PaceKept, CardKept, ChainKept, WaitingKept}
+use Rattle.ark_held.specs.Around.{Around, slot_at, Names, IsGranted, Each, Both, piece_of}
+use Rattle.ark_held.specs.Areas.{IsRaw, IsListed, IsArea, IsLog, IsOpened, IsWaiting}
+use Rattle.ark_held.specs.Cards.{HasBuffer, IsPaced, IsWatched, IsJob, IsEnded, IsCard, IsBuffer}
+use Rattle.ark_held.specs.Network.{IsPlace, IsReceiving, IsReceived, IsSending, IsSent, IsNet}
+use Rattle.ark_held.specs.Held.{Fits, Matches, AllMatch, AreApart}
+use Rattle.ark_held.specs.Keeps.{SameAt, Keeps, JobWithin, PlaceWithin, PacedWithin, LabelWithin, OpenedWithin, Within}
+use Rattle.ark_held.proofs.Lists.{each_kept, each_all, value_behind, value_first}
 
--- At one label.
+-- Areas.
 
-raw_kept : (before after : Option History) (blocks : List ℕ) (r : Raw) → SameAt before after blocks → IsRaw before blocks r → IsRaw after blocks r
+view_same : (a b : List (List ℕ)) (blocks : List ℕ) → ((k : ℕ) → k < length blocks → block a (get_or blocks k 0) ≡ block b (get_or blocks k 0)) → view a blocks ≡ view b blocks
+view_same a b [] same = refl
+view_same a b (n ∷ ns) same =
+    ap (λ (c : List ℕ). c ∷ view a ns) (same zero (omega arith))
+    ∙ ap (λ (l : List (List ℕ)). block b n ∷ l) (view_same a b ns (λ k lt. same (suc k) (omega (arith, lt))))
+
+pub raw_kept : (before after : Option History) (blocks : List ℕ) (r : Raw) → SameAt before after blocks → IsRaw before blocks r → IsRaw after blocks r
 raw_kept before after blocks r same is = record {
   size = is.size;
-  content = λ h told k lt. let was = same h told in is.content was.0 was.1 k lt ∙ sym (was.2 k lt);
+  content = λ h told k lt. let was = same h told in is.content was.0 was.1 k lt ∙ sym (was.2 k lt).0;
+  choices = is.choices;
+  maybe = λ h told k lt c left. let was = same h told in is.maybe was.0 was.1 k lt c ((was.2 k lt).1 c left);
 }
 
-module _ (x y : Around) (grows : Grows x y) where
-  fits_kept : (l : List ℕ) (c : Capability) (o : Object) → StaysAt x y l → Fits x l c o → Fits y l c o
-  fits_kept l c (Objects.raw r) stays f = record {
-    slot = f.slot;
-    kind = f.kind;
-    kept = grows.areas c.grant f.slot.blocks f.kept;
-    there = grows.slots l f.slot f.there;
-    fits = raw_kept x.told y.told f.slot.blocks r (stays f.slot f.there) f.fits;
+listed_kept : (before after : Option History) (blocks : List ℕ) (g : Log) → SameAt before after blocks → IsListed before blocks g → IsListed after blocks g
+listed_kept before after blocks g same is = record {
+  now = λ h told.
+      let was = same h told in
+      ap (λ (l : List (List ℕ)). found_of g.kind l) (view_same (current h.base h.journal) (current was.0.base was.0.journal) blocks (λ k lt. (was.2 k lt).0)) ∙ is.now was.0 was.1;
+  left = λ h told contents shows.
+      let was = same h told in
+      is.left was.0 was.1 contents (record { size = shows.size; each = λ k lt. (was.2 k lt).1 (get_or contents k []) (shows.each k lt) });
+}
+
+module _ (same named : List ℕ → Bool) (rests : Piece → Bool) (x y : Around) (k : Keeps same named rests x y) where
+  -- What objects name.
+
+  names_kept : (l : List ℕ) (kind : CapKind) (key : ℕ) → named l ≡ true → Names x l kind key → Names y l kind key
+  names_kept l kind key stays n = record { cap = n.cap; there = k.labels l n.cap stays n.there; its_kind = n.its_kind; its_key = n.its_key }
+
+  granted_kept : (l : List ℕ) (kind : CapKind) (grant : ℕ) → named l ≡ true → IsGranted x l kind grant → IsGranted y l kind grant
+  granted_kept l kind grant stays n = record { cap = n.cap; there = k.labels l n.cap stays n.there; its_kind = n.its_kind; its_grant = n.its_grant }
+
+  has_kept : (tag : ℕ) (given : Option Piece) (l : List ℕ) → named l ≡ true → HasBuffer x tag given l → HasBuffer y tag given l
+  has_kept tag given l stays b = record {
+    named = names_kept l cap_kind.Buf tag stays b.named;
+    some = b.some;
+    place = subst (λ (t : ℕ). option_map (λ (e : BufferKept). e.piece) (y.tables.buffers t) ≡ given) b.named.its_key
+        (k.places l b.named.cap stays b.named.there b.named.its_kind
+        ∙ subst (λ (t : ℕ). option_map (λ (e : BufferKept). e.piece) (x.tables.buffers t) ≡ given) (sym b.named.its_key) b.place);
   }
-  fits_kept l c (Objects.log g) stays f = f
-  fits_kept l c (Objects.vsic v) stays f = f
-  fits_kept l c (Objects.vnic v) stays f = f
-  fits_kept l c (Objects.filter g card) stays f = f
-  fits_kept l c (Objects.door d) stays f = f
-  fits_kept l c (Objects.rate q b) stays f = f
-  fits_kept l c (Objects.buffer b) stays f = f
-  fits_kept l c (Objects.socket k) stays f = f
 
-  -- the object of a label whose blocks stay matches still
-  pub matches_kept : (p : List ℕ × Capability) (h : Held) → StaysAt x y p.0 → Matches x p h → Matches y p h
-  matches_kept p h stays m = record { label = m.label; serial = grows.numbers h.serial p.1.grant m.serial; object = fits_kept p.0 p.1 h.object stays m.object }
+  lies_kept : (p : Piece) → Lies x.tables.memory.taken p → Lies y.tables.memory.taken p
+  lies_kept p lies = subst (λ (n : ℕ). p.start + frames_of p.len ≤ n) (sym k.frames) lies
 
-  pub all_kept : ((l : List ℕ) → StaysAt x y l) → (ps : Labels) (hs : List Held) → AllMatch x ps hs → AllMatch y ps hs
-  all_kept stays [] [] all = tt
-  all_kept stays (p ∷ ps) (h ∷ hs) all = (matches_kept p h (stays p.0) all.0, all_kept stays ps hs all.1)
-  all_kept stays [] (h ∷ hs) all = absurd all
-  all_kept stays (p ∷ ps) [] all = absurd all
+  paced_kept : (o : Option PaceKept) (p : Option Paced) → PacedWithin named rests p → Both (IsPaced x) o p → Both (IsPaced y) o p
+  paced_kept None None w b = tt
+  paced_kept (Some a) (Some p) w b = record {
+    rate = names_kept p.rate cap_kind.Rate a.rate w b.rate;
+    per_tick = b.per_tick;
+    burst = b.burst;
+    past = (let later = k.now in let past = b.past in omega (arith, later, past));
+    passes = b.passes;
+  }
+  paced_kept None (Some p) w b = absurd b
+  paced_kept (Some a) None w b = absurd b
 
--- what stands under a label of the table stands under that of the machine
-by_test : (P : Bool → Type 0) (t : Bool) → (t ≡ true → P true) → (t ≡ false → P false) → P t
-by_test P true h k = h refl
-by_test P false h k = k refl
+  watched_kept : (o : Option ℕ) (d : Option (List ℕ)) → LabelWithin named rests d → Both (IsWatched x) o d → Both (IsWatched y) o d
+  watched_kept None None w b = tt
+  watched_kept (Some key) (Some d) w b = names_kept d cap_kind.Door key w b
+  watched_kept None (Some d) w b = absurd b
+  watched_kept (Some key) None w b = absurd b
 
-same_label : (l k : List ℕ) → bytes_eq l k ≡ true → l ≡ k
-same_label l k h = (bytes_eq-Decides l k).0 h
+  used_kept : (o : Option ℕ) (d : Option (List ℕ)) → LabelWithin named rests d → Both (λ g v. IsGranted x v cap_kind.Vnic g) o d → Both (λ g v. IsGranted y v cap_kind.Vnic g) o d
+  used_kept None None w b = tt
+  used_kept (Some g) (Some v) w b = granted_kept v cap_kind.Vnic g w b
+  used_kept None (Some v) w b = absurd b
+  used_kept (Some g) None w b = absurd b
 
-matches_at : (x : Around) (p : List ℕ × Capability) (h : Held) (l : List ℕ) → p.0 ≡ l → Matches x p h → Matches x (l, p.1) h
-matches_at x p h l same m = record { label = m.label ∙ same; serial = m.serial; object = subst (λ (k : List ℕ). Fits x k p.1 h.object) same m.object }
+  -- Descriptors.
 
-pub found : (x : Around) (l : List ℕ) (ps : Labels) (hs : List Held) → AllMatch x ps hs → AtLabel x l (value_at ps l) (find (λ h. bytes_eq l h.label) hs)
-found x l [] [] all = tt
-found x l (p ∷ ps) (h ∷ hs) all =
-    subst (λ (k : List ℕ). AtLabel x l (value_at (p ∷ ps) l) (cond (bytes_eq l k) (Some h) (find (λ h. bytes_eq l h.label) hs))) (sym all.0.label)
-    (by_test (λ t. AtLabel x l (cond t (Some p.1) (value_at ps l)) (cond t (Some h) (find (λ h. bytes_eq l h.label) hs))) (bytes_eq l p.0)
-    (λ yes. matches_at x p h l (sym (same_label l p.0 yes)) all.0) (λ no. found x l ps hs all.1))
-found x l [] (h ∷ hs) all = absurd all
-found x l (p ∷ ps) [] all = absurd all
+  job_kept : (log : Option ℕ) (d : Descriptor) (j : Job) → JobWithin named rests j → IsJob x log d j → IsJob y log d j
+  job_kept log d (transfer t) w is = record {
+    does = is.does;
+    vsa = k.numbers t.vsa d.grant is.vsa;
+    off = is.off;
+    count = is.count;
+    wrap = is.wrap;
+    from = is.from;
+    buffer = has_kept d.tag d.buf t.buffer w is.buffer;
+  }
+  job_kept log d flush w is = is
+  job_kept log d (phase p) w is = is
 
--- a label more, at the end
-pub all_more : (x : Around) (ps : Labels) (hs : List Held) (p : List ℕ × Capability) (h : Held) → AllMatch x ps hs → Matches x p h → AllMatch x (ps ++ p ∷ []) (hs ++ h ∷ [])
-all_more x [] [] p h all one = (one, tt)
-all_more x (q ∷ qs) (g ∷ gs) p h all one = (all.0, all_more x qs gs p h all.1 one)
-all_more x [] (g ∷ gs) p h all one = absurd all
-all_more x (q ∷ qs) [] p h all one = absurd all
+  ended_kept : (c : Completion) (u : Job × Outcome) → JobWithin named rests u.0 → IsEnded x c u → IsEnded y c u
+  ended_kept c (transfer t, o) w is = (is.0, is.1, has_kept c.tag c.buf t.buffer w is.2)
+  ended_kept c (flush, o) w is = is
+  ended_kept c (phase p, o) w is = is
 
--- another object at one label, and others as they were
-pub all_changed : (x y : Around) (l : List ℕ) (o : Object) → ((p : List ℕ × Capability) (h : Held) → bytes_eq l p.0 ≡ true → Matches x p h → Matches y p (holding o h))
-    → ((p : List ℕ × Capability) (h : Held) → bytes_eq l p.0 ≡ false → Matches x p h → Matches y p h)
-    → (ps : Labels) (hs : List Held) → AllMatch x ps hs → AllMatch y ps (map (λ h. cond (bytes_eq l h.label) (holding o h) h) hs)
-all_changed x y l o here there [] [] all = tt
-all_changed x y l o here there (p ∷ ps) (h ∷ hs) all = (
-  subst (λ (k : List ℕ). Matches y p (cond (bytes_eq l k) (holding o h) h)) (sym all.0.label)
-      (by_test (λ t. Matches y p (cond t (holding o h) h)) (bytes_eq l p.0) (λ yes. here p h yes all.0) (λ no. there p h no all.0)),
-  all_changed x y l o here there ps hs all.1,
-)
-all_changed x y l o here there [] (h ∷ hs) all = absurd all
-all_changed x y l o here there (p ∷ ps) [] all = absurd all
+  place_kept : (tag : ℕ) (given : Option Piece) (p : Place) → PlaceWithin named rests p → IsPlace x tag given p → IsPlace y tag given p
+  place_kept tag given (in_buffer b) w is = has_kept tag given b w is
+  place_kept tag given (taken b) w is = (is.0, lies_kept (piece_of b) is.1, is.2 ∙ sym (k.bytes (piece_of b) w))
 
--- Areas are counted by their labels.
+  receiving_kept : (d : Descriptor) (p : Place) → PlaceWithin named rests p → IsReceiving x d p → IsReceiving y d p
+  receiving_kept d p w is = (is.0, place_kept d.tag d.buf p w is.1)
 
-kind_is : (x : Around) (l : List ℕ) (c : Capability) (o : Object) → Fits x l c o → is_vsa o ≡ is_area c.kind
-kind_is x l c (Objects.raw r) f = sym (ap is_area f.kind)
-kind_is x l c (Objects.log g) f = absurd f
-kind_is x l c (Objects.vsic v) f = absurd f
-kind_is x l c (Objects.vnic v) f = absurd f
-kind_is x l c (Objects.filter g card) f = absurd f
-kind_is x l c (Objects.door d) f = absurd f
-kind_is x l c (Objects.rate q b) f = absurd f
-kind_is x l c (Objects.buffer b) f = absurd f
-kind_is x l c (Objects.socket k) f = absurd f
+  received_kept : (c : Completion) (u : Place × ℕ) → PlaceWithin named rests u.0 → IsReceived x c u → IsReceived y c u
+  received_kept c (p, len) w is = (is.0, place_kept c.tag c.buf p w is.1)
 
-longer : {A B : Type 0} (t : Bool) (a : A) (xs : List A) (b : B) (ys : List B) → length xs ≡ length ys → length (cond t (a ∷ xs) xs) ≡ length (cond t (b ∷ ys) ys)
-longer true a xs b ys same = ap suc same
-longer false a xs b ys same = same
+  sending_kept : (d : Descriptor) (p : Place × ℕ) → PlaceWithin named rests p.0 → IsSending x d p → IsSending y d p
+  sending_kept d (p, len) w is = (is.0, is.1, place_kept d.tag d.buf p w is.2)
 
-count_held : (x : Around) (ps : Labels) (hs : List Held) → AllMatch x ps hs → length (select (λ h. is_vsa h.object) hs) ≡ length (area_labels ps)
-count_held x [] [] all = refl
-count_held x (p ∷ ps) (h ∷ hs) all =
-    ap (λ t. length (cond t (h ∷ select (λ h. is_vsa h.object) hs) (select (λ h. is_vsa h.object) hs))) (kind_is x p.0 p.1 h.object all.0.object)
-    ∙ longer (is_area p.1.kind) h (select (λ h. is_vsa h.object) hs) p (area_labels ps) (count_held x ps hs all.1)
-count_held x [] (h ∷ hs) all = absurd all
-count_held x (p ∷ ps) [] all = absurd all
+  sent_kept : (c : Completion) (u : Place × Outcome) → PlaceWithin named rests u.0 → IsSent x c u → IsSent y c u
+  sent_kept c (p, o) w is = (is.0, place_kept c.tag c.buf p w is.1)
 
-pub count_areas : (x : Around) (labels : Labels) (m : Machine) → Holds x labels m → count_of is_vsa m ≡ length x.areas
-count_areas x labels m h = count_held x labels m.held h.held ∙ sym h.areas
+  -- Open logs.
 
-pub count_labels : (x : Around) (ps : Labels) (hs : List Held) → AllMatch x ps hs → length hs ≡ length ps
-count_labels x [] [] all = refl
-count_labels x (p ∷ ps) (h ∷ hs) all = ap suc (count_labels x ps hs all.1)
-count_labels x [] (h ∷ hs) all = absurd all
-count_labels x (p ∷ ps) [] all = absurd all
+  waiting_kept : (a : WaitingKept) (b : Waiting) → IsWaiting x a b → IsWaiting y a b
+  waiting_kept a b is = record { command = is.command; room = is.room; lies = λ e there. lies_kept e.piece (is.lies e there) }
+
+  opened_kept : (grant : ℕ) (a : Option ChainKept) (o : Option Opened) → OpenedWithin named rests o → Both (IsOpened x grant) a o → Both (IsOpened y grant) a o
+  opened_kept grant None None w b = tt
+  opened_kept grant (Some a) (Some o) w b = record {
+    card = names_kept o.card cap_kind.Vsic a.card w b.card;
+    on = subst (λ (t : ℕ). option_and_then (λ (c : CardKept). c.log) (y.tables.cards t) ≡ Some grant) b.card.its_key
+        (k.logs o.card b.card.cap w b.card.there b.card.its_kind
+        ∙ subst (λ (t : ℕ). option_and_then (λ (c : CardKept). c.log) (x.tables.cards t) ≡ Some grant) (sym b.card.its_key) b.on);
+    failed = b.failed;
+    header = b.header;
+    lies = lies_kept a.header.piece b.lies;
+    waiting = each_all (IsWaiting x) (IsWaiting y) waiting_kept a.waiting o.waiting b.waiting;
+    done = b.done;
+  }
+  opened_kept grant None (Some o) w b = absurd b
+  opened_kept grant (Some a) None w b = absurd b
+
+  -- Objects by their labels.
+
+  fits_kept : (l : List ℕ) (c : Capability) (o : Object) → same l ≡ true → value_at x.labels l ≡ Some c → Within named rests o → Fits x l c o → Fits y l c o
+  fits_kept l c (Objects.raw r) stays at w f = record {
+    slot = f.slot;
+    its_kind = f.its_kind;
+    kept = k.areas l c stays at f.its_kind ∙ f.kept;
+    there = k.slots l stays ∙ f.there;
+    raw = f.raw;
+    fits = raw_kept x.told y.told f.slot.blocks r (k.told l f.slot stays f.there) f.fits;
+  }
+  fits_kept l c (Objects.log g) stays at w f = record {
+    slot = f.slot;
+    its_kind = f.its_kind;
+    kept = k.areas l c stays at f.its_kind ∙ f.kept;
+    there = k.slots l stays ∙ f.there;
+    same_kind = f.same_kind;
+    no_raw = f.no_raw;
+    blocks = f.blocks;
+    opened = subst (λ (a : Option ChainKept). Both (IsOpened y c.grant) a g.opened) (sym (k.chains l c stays at f.its_kind)) (opened_kept c.grant (x.tables.chains c.grant) g.opened w f.opened);
+    listed = listed_kept x.told y.told f.slot.blocks g (k.told l f.slot stays f.there) f.listed;
+  }
+  fits_kept l c (Objects.vsic v) stays at w f = record {
+    its_kind = f.its_kind;
+    card = f.card;
+    kept = k.cards l c stays at f.its_kind ∙ f.kept;
+    size = f.size;
+    posted = each_kept (IsJob x f.card.log) (IsJob y f.card.log) (JobWithin named rests) (job_kept f.card.log) f.card.ring.posted v.queue.posted w.0 f.posted;
+    unreaped = each_kept (IsEnded x) (IsEnded y) (λ u. JobWithin named rests u.0) ended_kept f.card.ring.unreaped v.queue.unreaped w.1 f.unreaped;
+    moved = f.moved;
+    bound = each_all (λ g s. slice_get x.numbers s ≡ Some g) (λ g s. slice_get y.numbers s ≡ Some g) (λ g s is. k.numbers s g is) f.card.bound v.bound f.bound;
+    pace = paced_kept f.card.pace v.pace w.2 f.pace;
+    door = watched_kept f.card.door v.door w.3 f.door;
+    log = f.log ∙ sym (k.opened l stays);
+  }
+  fits_kept l c (Objects.vnic v) stays at w f = record {
+    its_kind = f.its_kind;
+    net = f.net;
+    kept = k.nets l c stays at f.its_kind ∙ f.kept;
+    rx_size = f.rx_size;
+    tx_size = f.tx_size;
+    rx_posted = each_kept (IsReceiving x) (IsReceiving y) (PlaceWithin named rests) receiving_kept f.net.rx.posted v.rx.posted w.0 f.rx_posted;
+    rx_unreaped = each_kept (IsReceived x) (IsReceived y) (λ u. PlaceWithin named rests u.0) received_kept f.net.rx.unreaped v.rx.unreaped w.1 f.rx_unreaped;
+    rx_moved = f.rx_moved;
+    tx_posted = each_kept (IsSending x) (IsSending y) (λ p. PlaceWithin named rests p.0) sending_kept f.net.tx.posted v.tx.posted w.2 f.tx_posted;
+    tx_unreaped = each_kept (IsSent x) (IsSent y) (λ u. PlaceWithin named rests u.0) sent_kept f.net.tx.unreaped v.tx.unreaped w.3 f.tx_unreaped;
+    tx_moved = f.tx_moved;
+    rx_pace = paced_kept f.net.rx_pace v.rx_pace w.4 f.rx_pace;
+    tx_pace = paced_kept f.net.tx_pace v.tx_pace w.5 f.tx_pace;
+    rx_door = watched_kept f.net.rx_door v.rx_door w.6 f.rx_door;
+    tx_door = watched_kept f.net.tx_door v.tx_door w.7 f.tx_door;
+    socketed = f.socketed;
+    sockets = f.sockets ∙ sym (k.socketed l stays);
+  }
+  fits_kept l c (Objects.filter r on) stays at w f = record {
+    its_kind = f.its_kind;
+    live = f.live;
+    kept = k.rules l c stays at f.its_kind ∙ f.kept;
+    rule = f.rule;
+    card = used_kept f.live.vnic on w f.card;
+  }
+  fits_kept l c (Objects.door d) stays at w f = record { its_kind = f.its_kind; kept = k.doors l c stays at f.its_kind ∙ f.kept }
+  fits_kept l c (Objects.rate q b) stays at w f = record { its_kind = f.its_kind; kept = k.rates l c stays at f.its_kind ∙ f.kept }
+  fits_kept l c (Objects.buffer b) stays at w f = record {
+    its_kind = f.its_kind;
+    entry = f.entry;
+    kept = k.buffers l c stays at f.its_kind ∙ f.kept;
+    place = f.place;
+    lies = lies_kept (piece_of b) f.lies;
+    bytes = f.bytes ∙ sym (k.bytes (piece_of b) w);
+    owned = f.owned;
+    lent = f.lent ∙ sym (k.lent l stays);
+  }
+  fits_kept l c (Objects.socket s) stays at w f = record {
+    its_kind = f.its_kind;
+    socket = f.socket;
+    kept = k.sockets l c stays at f.its_kind ∙ f.kept;
+    card = names_kept s.card cap_kind.Vnic f.socket.card w f.card;
+    port = f.port;
+    datagrams = f.datagrams;
+  }
+
+  -- the object of a label that stays matches still
+  pub matches_kept : (p : List ℕ × Capability) (h : Held) → same p.0 ≡ true → value_at x.labels p.0 ≡ Some p.1 → Within named rests h.object → Matches x p h → Matches y p h
+  matches_kept p h stays at w m = record { label = m.label; serial = k.numbers h.serial p.1.grant m.serial; object = fits_kept p.0 p.1 h.object stays at w m.object }

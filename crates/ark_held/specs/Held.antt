@@ -1,58 +1,30 @@
--- What an application's labels and areas stand for: the objects of its private machine.
-use Rattle.std.specs.Prelude.{◌≡◌, ℕ, ◌<◌, Bool, true, false, List, [], ◌∷◌, length, nat_eq, get_or, slice_get, filter as select, find, Option, Some, None}
-use Rattle.std.specs.Map.{lookup}
-use Rattle.ark_media.specs.Journal.{History, block, current}
-use Rattle.ark_table.specs.Slots.{Slot}
+-- What an application's labels and tables stand for: the objects of its private machine.
+use Rattle.std.specs.Prelude.{◌≡◌, ℕ, Bool, true, false, List, [], ◌∷◌, length, slice_get, slice_index_or, filter as select, Option, Some, None}
 use Rattle.ark_caps.specs.Labels.{value_at}
 use Rattle.ark_caps.specs.declared.capability.CapKind.{CapKind}
 use Rattle.ark_caps.specs.declared.capability.CapKind.TheVariants as cap_kind
 use Rattle.ark_caps.specs.declared.capability.Capability.{Capability}
 use Rattle.ark_machine.specs.Objects
-use Rattle.ark_machine.specs.Objects.{Object, Raw, is_vsa}
-use Rattle.ark_machine.specs.Machine.{Machine, Held}
-use Rattle.ark_machine.specs.Plane.{is_slot_of}
-use Rattle.ark_held.specs.Words.{Labels, AreaList}
+use Rattle.ark_machine.specs.Objects.{Object}
+use Rattle.ark_machine.specs.Machine.{Held}
+use Rattle.ark_held.specs.Words.{Labels}
+use Rattle.ark_held.specs.Totals.{bit, cover_count}
+use Rattle.ark_held.specs.Around.{Around, slot_at}
+use Rattle.ark_held.specs.Areas.{IsArea, IsLog}
+use Rattle.ark_held.specs.Cards.{IsBuffer, IsDoor, IsRate, IsCard}
+use Rattle.ark_held.specs.Network.{IsNet, IsRule, IsSocket}
 
--- all that one label's object is compared with
-pub record Around : Type 0 where
-  -- the application
-  pub name : List ℕ
-  -- the grant numbers of the machine's objects: that of object i is at place i
-  pub numbers : List ℕ
-  pub areas : AreaList
-  -- the slots that are held
-  pub slots : List Slot
-  -- what the disk tells
-  pub told : Option History
-
--- the slot of the application's area at a label
-abbrev pub slot_at : Around → List ℕ → Option Slot
-slot_at x l = find (λ t. is_slot_of x.name l t) x.slots
-
--- where the history is told, the area's content is the current image at these blocks
-pub record IsRaw (told : Option History) (blocks : List ℕ) (r : Raw) : Type 0 where
-  pub size : length r.content ≡ length blocks
-  pub content : (h : History) → told ≡ Some h → (k : ℕ) → k < length blocks → get_or r.content k [] ≡ block (current h.base h.journal) (get_or blocks k 0)
-
--- a raw area: its blocks are kept under the number of its grant, and are those of its slot
-pub record IsArea (x : Around) (l : List ℕ) (c : Capability) (r : Raw) : Type 0 where
-  pub slot : Slot
-  pub kind : c.kind ≡ cap_kind.Vsa
-  pub kept : lookup (nat_eq c.grant) x.areas ≡ Some slot.blocks
-  pub there : slot_at x l ≡ Some slot
-  pub fits : IsRaw x.told slot.blocks r
-
--- The object under a label is what its capability stands for. No word makes the other kinds yet.
+-- the object under a label is what its capability stands for
 abbrev pub Fits : Around → List ℕ → Capability → Object → Type 0
 Fits x l c (Objects.raw r) = IsArea x l c r
-Fits x l c (Objects.log g) = ⊥
-Fits x l c (Objects.vsic v) = ⊥
-Fits x l c (Objects.vnic v) = ⊥
-Fits x l c (Objects.filter f card) = ⊥
-Fits x l c (Objects.door d) = ⊥
-Fits x l c (Objects.rate q b) = ⊥
-Fits x l c (Objects.buffer b) = ⊥
-Fits x l c (Objects.socket k) = ⊥
+Fits x l c (Objects.log g) = IsLog x l c g
+Fits x l c (Objects.vsic v) = IsCard x l c v
+Fits x l c (Objects.vnic v) = IsNet x l c v
+Fits x l c (Objects.filter f card) = IsRule x c f card
+Fits x l c (Objects.door d) = IsDoor x c d
+Fits x l c (Objects.rate q b) = IsRate x c q b
+Fits x l c (Objects.buffer b) = IsBuffer x l c b
+Fits x l c (Objects.socket k) = IsSocket x c k
 
 -- a label and its capability stand for what the machine holds there
 pub record Matches (x : Around) (p : List ℕ × Capability) (h : Held) : Type 0 where
@@ -72,6 +44,11 @@ AtLabel x l None None = Unit {0}
 AtLabel x l (Some c) (Some h) = Matches x (l, c) h
 AtLabel x l _ _ = ⊥
 
+-- no label stands twice
+abbrev pub AreApart : Labels → Type 0
+AreApart [] = Unit {0}
+AreApart (p ∷ ps) = (value_at ps p.0 ≡ None) × AreApart ps
+
 abbrev pub is_area : CapKind → Bool
 is_area cap_kind.Vsa = true
 is_area _ = false
@@ -80,26 +57,30 @@ is_area _ = false
 abbrev pub area_labels : Labels → Labels
 area_labels ps = select (λ p. is_area p.1.kind) ps
 
--- an application's labels and areas stand for this machine
-pub record Holds (x : Around) (labels : Labels) (m : Machine) : Type 0 where
-  pub made : m.made ≡ true
-  pub serials : length x.numbers ≡ m.serial
-  pub held : AllMatch x labels m.held
-  pub areas : length x.areas ≡ length (area_labels labels)
+-- whether an object of this kind lies under a key of a table
+abbrev pub has_key : CapKind → Bool
+has_key cap_kind.Vsa = false
+has_key cap_kind.Filter = false
+has_key _ = true
+
+-- no two labels have one grant, and no two of one kind one key
+pub record AreOwn (labels : Labels) : Type 0 where
+  pub grants : (l k : List ℕ) (c d : Capability) → value_at labels l ≡ Some c → value_at labels k ≡ Some d → c.grant ≡ d.grant → l ≡ k
+  pub keys : (l k : List ℕ) (c d : Capability) → value_at labels l ≡ Some c → value_at labels k ≡ Some d → c.kind ≡ d.kind → has_key c.kind ≡ true → c.key ≡ d.key → l ≡ k
+
+-- an application's labels and tables stand for its machine
+pub record Holds (x : Around) : Type 0 where
+  pub made : x.machine.made ≡ true
+  pub now : x.machine.now ≡ x.now
+  -- an object has the grant of its number, and no grant has two
+  pub serials : length x.numbers ≡ x.machine.serial
+  pub one : (i j g : ℕ) → slice_get x.numbers i ≡ Some g → slice_get x.numbers j ≡ Some g → i ≡ j
+  pub held : AllMatch x x.labels x.machine.held
+  pub apart : AreApart x.labels
+  pub own : AreOwn x.labels
+  pub areas : length x.areas ≡ length (area_labels x.labels)
   -- a slot of the application has its label
-  pub unlisted : (l : List ℕ) → value_at labels l ≡ None → slot_at x l ≡ None
-
--- the same image at these blocks, where it is told after
-abbrev pub SameAt : Option History → Option History → List ℕ → Type 0
-SameAt before after blocks = (h : History) → after ≡ Some h →
-    (g : History) × (before ≡ Some g) × ((k : ℕ) → k < length blocks → block (current h.base h.journal) (get_or blocks k 0) ≡ block (current g.base g.journal) (get_or blocks k 0))
-
--- from x to y: what is kept stays, and may be more
-pub record Grows (x y : Around) : Type 0 where
-  pub numbers : (i g : ℕ) → slice_get x.numbers i ≡ Some g → slice_get y.numbers i ≡ Some g
-  pub areas : (g : ℕ) (blocks : List ℕ) → lookup (nat_eq g) x.areas ≡ Some blocks → lookup (nat_eq g) y.areas ≡ Some blocks
-  pub slots : (l : List ℕ) (t : Slot) → slot_at x l ≡ Some t → slot_at y l ≡ Some t
-
--- the blocks of the area at a label have the same content
-abbrev pub StaysAt : Around → Around → List ℕ → Type 0
-StaysAt x y l = (t : Slot) → slot_at x l ≡ Some t → SameAt x.told y.told t.blocks
+  pub unlisted : (l : List ℕ) → value_at x.labels l ≡ None → slot_at x l ≡ None
+  pub frames : length x.tables.memory.taken ≡ x.machine.frames
+  -- a frame is taken where one live buffer has it, and no frame has two
+  pub taken : (j : ℕ) → cover_count x.machine j ≡ bit (slice_index_or x.tables.memory.taken j false)

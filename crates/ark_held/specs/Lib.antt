@@ -1,3 +1,10 @@
 pub mod Words
+pub mod Totals
+pub mod Kept
+pub mod Around
+pub mod Areas
+pub mod Cards
+pub mod Network
 pub mod Held
 pub mod Beside
+pub mod Keeps

@@ -1,23 +1,37 @@
 -- What is found under a label, and why nothing can be added there.
 use Rattle.std.specs.Prelude.{ℕ, Bool, true, false, ◌||◌, List, [], ◌∷◌, ◌++◌, length, nat_eq, nat_le, Option, Some, None, Result, Ok, Err}
 use Rattle.std.specs.Map.{lookup}
+use Rattle.ark_base.specs.declared.kind.Kind.{Kind}
+use Rattle.ark_base.specs.declared.kind.Kind.TheVariants as kind
 use Rattle.ark_base.specs.declared.refusal.Refusal.{Refusal}
 use Rattle.ark_base.specs.declared.refusal.Refusal.TheVariants as r
+use Rattle.ark_table.specs.Slots.{Slot}
 use Rattle.ark_caps.specs.Labels.{value_at}
 use Rattle.ark_caps.specs.declared.capability.CapKind.{CapKind}
 use Rattle.ark_caps.specs.declared.capability.CapKind.TheVariants as cap_kind
 use Rattle.ark_caps.specs.declared.capability.Capability.{Capability}
+use Rattle.ark_held.specs.declared.areas.Area.{Area}
 
 -- an application's labels, and its areas by the numbers of their grants
 abbrev pub Labels : Type 0
 Labels = List (List ℕ × Capability)
 
 abbrev pub AreaList : Type 0
-AreaList = List (ℕ × List ℕ)
+AreaList = List (ℕ × Area)
 
-abbrev pub found_blocks : Option (List ℕ) → Result (List ℕ) Refusal
+-- the area of a slot
+abbrev pub area_in : Slot → Area
+area_in t = record { kind = t.kind; spans = t.blocks }
+
+-- the blocks of a raw area; those of a log or queue are its own
+abbrev pub raw_blocks : Kind → List ℕ → Result (List ℕ) Refusal
+raw_blocks kind.Raw blocks = Ok blocks
+raw_blocks kind.Log blocks = Err r.WrongKind
+raw_blocks kind.Queue blocks = Err r.WrongKind
+
+abbrev pub found_blocks : Option Area → Result (List ℕ) Refusal
 found_blocks None = Err r.WrongKind
-found_blocks (Some blocks) = Ok blocks
+found_blocks (Some a) = raw_blocks a.kind a.spans
 
 abbrev pub area_of : AreaList → CapKind → ℕ → Result (List ℕ) Refusal
 area_of areas cap_kind.Vsa grant = found_blocks (lookup (nat_eq grant) areas)
@@ -27,7 +41,7 @@ abbrev pub area_under : AreaList → List ℕ → Option Capability → Result (
 area_under areas l None = Err (r.NoGrant l)
 area_under areas l (Some c) = area_of areas c.kind c.grant
 
--- the blocks of the area under a label, or why there are none
+-- the blocks of the raw area under a label, or why there are none
 abbrev pub area_at : Labels → AreaList → List ℕ → Result (List ℕ) Refusal
 area_at labels areas l = area_under areas l (value_at labels l)
 
@@ -47,10 +61,10 @@ no_room labels areas l = room_under labels areas (value_at labels l)
 abbrev pub new_area_cap : ℕ → Capability
 new_area_cap grant = record { kind = cap_kind.Vsa; grant = grant; key = 0 }
 
-abbrev pub added_to : AreaList → ℕ → List ℕ → Option (List ℕ) → AreaList
-added_to areas grant blocks None = areas ++ (grant, blocks) ∷ []
-added_to areas grant blocks (Some old) = areas
+abbrev pub added_to : AreaList → ℕ → Area → Option Area → AreaList
+added_to areas grant area None = areas ++ (grant, area) ∷ []
+added_to areas grant area (Some old) = areas
 
 -- with an area more at the end, unless there is one of this grant
-abbrev pub with_area : AreaList → ℕ → List ℕ → AreaList
-with_area areas grant blocks = added_to areas grant blocks (lookup (nat_eq grant) areas)
+abbrev pub with_area : AreaList → ℕ → Area → AreaList
+with_area areas grant area = added_to areas grant area (lookup (nat_eq grant) areas)

@@ -2,7 +2,7 @@ ghost use Rattle.std.specs.Prelude.{◌≡◌, ◌<◌, [], length, nat_eq, IfOk
 ghost use Rattle.std.specs.Map.{lookup};
 ghost use Rattle.ark_held.specs.Words.{with_area};
 
-use ark_base::Memory;
+use ark_base::{Kind, Memory};
 use ark_extents::Spans;
 use indexmap::IndexMap;
 use std::alloc::Global;
@@ -11,22 +11,30 @@ use std::marker::Model;
 /// The most areas that an application holds.
 pub const AREAS: usize = 8;
 
+/// An area of blocks: what it is for, and its blocks.
+#[derive(Clone, Copy, Debug)]
+pub struct Area {
+    pub kind: Kind,
+    pub spans: Spans,
+}
+
 /// The areas of an application by the numbers of their grants, at most 8. Contracts see the list of pairs of a number
-/// and the blocks, in the order of adding.
+/// and the area, in the order of adding.
 #[derive(Drop)]
 pub struct Areas {
-    spans: IndexMap<u64, Spans>,
+    areas: IndexMap<u64, Area>,
 }
 
 impl Model for Areas {
     ghost use Rattle.std.specs.Prelude.{◌≡◌, ◌≤◌, ◌+◌, List, ℕ, length};
     ghost use Rattle.indexmap.specs.IndexMap as map;
+    ghost use Rattle.ark_held.specs.declared.areas.Area.{Area};
 
-    ghost Value = { List (ℕ × List ℕ) };
+    ghost Value = { List (ℕ × Area) };
 
-    ghost view = { λ a. a.spans.entries };
+    ghost view = { λ a. a.areas.entries };
 
-    ghost invariant = { λ a. (length a.spans.entries ≤ 8) × (8 ≤ length a.spans.entries + map.spare a.spans) };
+    ghost invariant = { λ a. (length a.areas.entries ≤ 8) × (8 ≤ length a.areas.entries + map.spare a.areas) };
 }
 
 impl Areas {
@@ -35,7 +43,7 @@ impl Areas {
         ensures empty { IfOk result (λ a. a ≡ []) }
     {
         match IndexMap::with_capacity(alloc, AREAS) {
-            Ok(spans) => Ok(Areas { spans }),
+            Ok(areas) => Ok(Areas { areas }),
             Err(_) => Err(Memory),
         }
     }
@@ -44,25 +52,25 @@ impl Areas {
     pub fn len(&self) -> usize
         ensures len { result ≡ length self.now }
     {
-        self.spans.len()
+        self.areas.len()
     }
 
-    /// The blocks of the area of this grant; `None` where there is none.
-    pub fn get(&self, grant: u64) -> Option<Spans>
-        ensures blocks { result ≡ lookup (nat_eq grant) self.now }
+    /// The area of this grant; `None` where there is none.
+    pub fn get(&self, grant: u64) -> Option<Area>
+        ensures area { result ≡ lookup (nat_eq grant) self.now }
     {
-        self.spans.get(&grant).copied()
+        self.areas.get(&grant).copied()
     }
 
     /// Adds an area at the end, unless there is one of this grant. It takes no memory.
-    pub fn add(&mut self, grant: u64, spans: Spans)
+    pub fn add(&mut self, grant: u64, area: Area)
         requires room { length self.old < 8 }
-        ensures added { self.new ≡ with_area self.old grant spans }
+        ensures added { self.new ≡ with_area self.old grant area }
     {
-        if self.spans.contains_key(&grant) {
+        if self.areas.contains_key(&grant) {
             return;
         }
-        match self.spans.insert(grant, spans) {
+        match self.areas.insert(grant, area) {
             Ok(_) => {}
             Err(_) => unreachable!(),
         }

@@ -5,4 +5,4 @@ mod app;
 mod areas;
 
 pub use app::App;
-pub use areas::{AREAS, Areas};
+pub use areas::{AREAS, Area, Areas};

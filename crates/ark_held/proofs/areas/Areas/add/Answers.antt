@@ -1,18 +1,23 @@
+use Rattle.ark_held.proofs.Granted.{granted}
+use Rattle.ark_held.proofs.Passing.{beside}
+use Rattle.ark_held.proofs.Written.{written, raw_stands}
+use Rattle.ark_held.proofs.Fresh.{holds_none}
 use Rattle.std.proofs.Common.{◌∙◌, ap, sym, List, ℕ, [], ◌∷◌, ◌++◌}
 use Rattle.std.specs.Prelude.{nat_eq}
 use Rattle.std.specs.Map.{lookup}
 use Rattle.indexmap.proofs.CallerLemmas.{insert_entry-new}
 use Rattle.ark_caps.proofs.LabelLemmas.{finds_none}
-use Rattle.ark_held.proofs.Granted.{added_last}
+use Rattle.ark_held.specs.Words.{AreaList}
+use Rattle.ark_held.proofs.Adding.{added_last}
 use Rattle.ark_held.proofs.areas.Areas.add.Goals as goal
 
 pub returns : goal.returns
 returns c =
     let grant = c.args.grant in
-    let none = finds_none (lookup (nat_eq grant) c.self.inside.spans.entries) c.contains_key.result c.contains_key.ensures c.if-contains_key.false in
+    let none = finds_none (lookup (nat_eq grant) c.self.inside.areas.entries) c.contains_key.result c.contains_key.ensures c.if-contains_key.false in
     record {
       added = c.in-Ok.ensures.entries
-          ∙ insert_entry-new nat_eq c.self.inside.spans grant c.args.spans none
-          ∙ ap (λ (es : List (ℕ × List ℕ)). es ++ (grant, c.args.spans) ∷ []) c.self.view_is
-          ∙ sym (added_last grant c.args.spans c.args.self.now (sym (ap (λ (es : List (ℕ × List ℕ)). lookup (nat_eq grant) es) c.self.view_is) ∙ none));
+          ∙ insert_entry-new nat_eq c.self.inside.areas grant c.args.area none
+          ∙ ap (λ (es : AreaList). es ++ (grant, c.args.area) ∷ []) c.self.view_is
+          ∙ sym (added_last grant c.args.area c.args.self.now (sym (ap (λ (es : AreaList). lookup (nat_eq grant) es) c.self.view_is) ∙ none));
     }
