@@ -1,5 +1,5 @@
 -- The row of `app`, as a host comes to it.
-use Rattle.std.proofs.Common.{◌≡◌, ℕ, true, false, ◌<◌, ◌≤◌, cond, List, [], ◌∷◌, ◌++◌, length, map, get_or, nat_le, refl, sym, ◌∙◌, ap, subst, bytes_eq, arith}
+use Rattle.std.proofs.Common.{◌≡◌, ℕ, true, false, ◌<◌, ◌≤◌, cond, List, [], ◌∷◌, ◌++◌, length, map, replicate, get_or, nat_le, refl, sym, ◌∙◌, ap, subst, bytes_eq, arith}
 use Rattle.std.proofs.lemmas.Bool.{false≢true}
 use Rattle.std.proofs.lemmas.Bool.Decides.{nat_tests}
 use Rattle.std.proofs.lemmas.Slice.Eq.{bytes_eq-Decides}
@@ -17,10 +17,9 @@ use Rattle.ark_machine.specs.Step.{usual_frames}
 use Rattle.ark_machine.specs.Plane.{Plane, max_apps}
 use Rattle.ark_machine.specs.System.{System, machine_of}
 use Rattle.ark_machine.specs.Follow.{ended}
-use Rattle.ark_held.specs.Held.{Holds}
 use Rattle.ark_held.specs.declared.app.App.{App}
 use Rattle.ark_held.proofs.Besides.{same_told}
-use Rattle.ark_held.proofs.Granted.{holds_none}
+use Rattle.ark_held.proofs.Fresh.{holds_none}
 use Rattle.ark_host.specs.declared.host.Host.{Host}
 use Rattle.ark_host.specs.Stands.{Stands, Turned, AtApp, IsHeld, IsUnmade, IsZero, app_row, app_of, around}
 use Rattle.ark_host.proofs.Lists.{first_found, none_found}
@@ -116,7 +115,7 @@ module _ (s : System) (host : Host) (told : Told) (a : List ℕ) (frames : Optio
 
       -- it is made now
       module _ (now : Host) (app : App) (items : now.apps.items ≡ host.apps.items ++ app ∷ []) (free : now.free ≡ host.free) (grants : now.grants ≡ host.grants) (slots : now.slots ≡ host.slots) (clock : now.clock ≡ host.clock)
-          (name : app.name ≡ a) (labels : app.labels ≡ []) (areas : app.areas ≡ []) where
+          (name : app.name ≡ a) (labels : app.labels ≡ []) (areas : app.areas ≡ []) (memory : app.region.taken ≡ replicate (unwrap_or frames usual_frames) false) where
         abbrev plane : Plane
         plane = record s.plane { apps = s.plane.apps ++ a ∷ [] }
 
@@ -124,12 +123,17 @@ module _ (s : System) (host : Host) (told : Told) (a : List ℕ) (frames : Optio
         gone = none_at s host told a st (none_if (position (λ x. bytes_eq a x.name) host.apps.items) new)
 
         own : IsHeld now.grants told (with_set s plane a one) a app
-        own = record {
-          numbers = [];
-          holds = subst (λ (m : Machine). Holds (around (with_set s plane a one) told a [] app.areas) app.labels m) (sym (set_here s plane a one refl))
-              (rw labels (holds_none (around (with_set s plane a one) told a [] app.areas) one refl (ap (λ (m : Machine). m.serial) gone.machine) (ap (λ (m : Machine). m.held) gone.machine) refl areas gone.slots));
-          below = λ g le. rw areas refl;
-        }
+        own =
+            let here : machine_of (with_set s plane a one) a ≡ one = set_here s plane a one refl in
+            record {
+              numbers = [];
+              holds = holds_none (around (with_set s plane a one) told a [] app (machine_of (with_set s plane a one) a)) (ap (λ (m : Machine). m.made) here)
+                  (ap (λ (m : Machine). m.now) here ∙ st.same_now a) (ap (λ (m : Machine). m.serial) here ∙ ap (λ (m : Machine). m.serial) gone.machine)
+                  (ap (λ (m : Machine). m.held) here ∙ ap (λ (m : Machine). m.held) gone.machine) refl labels areas gone.slots
+                  (memory ∙ ap (λ (m : Machine). replicate m.frames false) (sym here));
+              below = λ i g is. absurd (false≢true (ap is_some is));
+              unused = λ g le. rw areas refl;
+            }
 
         found_last : (b : List ℕ) → app_of now.apps.items b ≡ option_or (app_of host.apps.items b) (cond (bytes_eq b a) (Some app) None)
         found_last b =
@@ -153,10 +157,14 @@ module _ (s : System) (host : Host) (told : Told) (a : List ℕ) (frames : Optio
           none = λ want. refl;
           stands = record {
             size = st.size;
+            based = st.based;
+            own = st.own;
+            filters = st.filters;
             apps = ap (λ (l : List (List ℕ)). l ++ a ∷ []) st.apps ∙ more_names host.apps.items ∙ sym (ap (λ (l : List App). map (λ x. x.name) l) items);
             slots = st.slots ∙ sym slots;
             free = st.free ∙ sym free;
             settled = st.settled;
+            unsettled = st.unsettled;
             apart = st.apart;
             inside = st.inside;
             zero = subst (λ (l : List ℕ). IsZero told l) (sym free) st.zero;

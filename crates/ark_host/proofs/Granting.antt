@@ -1,6 +1,6 @@
 -- The row of `vsa`, as a host comes to it.
-use Rattle.std.proofs.Common.{◌≡◌, ⊎_elim, ℕ, ◌+◌, ◌<◌, ◌≤◌, Bool, true, false, cond, ◌||◌, nat_le, nat_lt, nat_eq, List, [], ◌∷◌, ◌++◌, length, map, take, drop, replicate, get_or, set, refl, sym, ◌∙◌, ap, subst, arith, bytes_eq, Contains}
-use Rattle.std.specs.Prelude.{Option, Some, None, position, is_some, unwrap_or}
+use Rattle.std.proofs.Common.{◌≡◌, ⊎_elim, inl, inr, ℕ, ◌+◌, ◌<◌, ◌≤◌, Bool, true, false, cond, ◌||◌, nat_le, nat_lt, nat_eq, List, [], ◌∷◌, ◌++◌, length, map, take, drop, replicate, get_or, set, refl, sym, ◌∙◌, ap, subst, arith, bytes_eq, Contains}
+use Rattle.std.specs.Prelude.{Option, Some, None, position, slice_get, is_some, unwrap_or}
 use Rattle.std.specs.Map.{lookup}
 use Rattle.std.proofs.lemmas.Bool.{false≢true}
 use Rattle.std.proofs.lemmas.Bool.Decides.{nat_tests}
@@ -28,14 +28,18 @@ use Rattle.ark_machine.specs.Granting.{new_slot}
 use Rattle.ark_machine.specs.System.{System, machine_of}
 use Rattle.ark_machine.specs.Follow.{ended}
 use Rattle.ark_caps.specs.declared.capability.Capability.{Capability}
-use Rattle.ark_held.specs.Words.{Labels, AreaList, no_room, room_under, limit_if, new_area_cap, with_area}
-use Rattle.ark_held.specs.Held.{Holds, AtLabel, IsRaw, Around}
-use Rattle.ark_held.proofs.Keeping.{found, count_areas, count_labels}
+use Rattle.ark_held.specs.Words.{Labels, AreaList, no_room, room_under, limit_if, new_area_cap, with_area, area_in}
+use Rattle.ark_held.specs.Areas.{IsRaw}
+use Rattle.ark_held.specs.Held.{AtLabel}
+use Rattle.ark_held.proofs.Lists.{lookup_last, number_cases}
+use Rattle.ark_held.proofs.Finding.{found, count_areas, count_labels}
 use Rattle.ark_held.proofs.Besides.{same_told}
-use Rattle.ark_held.proofs.Granted.{granted, added_last, lookup_last, slot_other}
+use Rattle.ark_held.proofs.Adding.{added_last}
+use Rattle.ark_held.proofs.Granted.{granted, slot_other}
 use Rattle.ark_held.specs.declared.app.App.{App}
+use Rattle.ark_held.specs.declared.areas.Area.{Area}
 use Rattle.ark_host.specs.declared.host.Host.{Host}
-use Rattle.ark_host.specs.Stands.{Stands, Turned, IsHeld, AreApart, AreInside, around, app_of, vsa_row}
+use Rattle.ark_host.specs.Stands.{Stands, Turned, IsHeld, AreApart, AreInside, around, tables_of, app_of, vsa_row}
 use Rattle.ark_host.proofs.Machines.{by_test}
 use Rattle.ark_host.proofs.Lists.{get_there, found_set, map_set, contains_in, in_contains, in_take, in_drop}
 use Rattle.ark_host.proofs.Freeing.{free_after, granted_not_free, free_inside}
@@ -54,6 +58,10 @@ lt_true n m lt = grind (arith, nat_tests)
 lt_false : (n m : ℕ) → m ≤ n → nat_lt n m ≡ false
 lt_false n m le = grind (arith, nat_tests)
 
+-- a raw area of these blocks
+abbrev pub raw_area : List ℕ → Area
+raw_area blocks = record { kind = kind.Raw; spans = blocks }
+
 -- Under one label: a refusal, or that nothing is held there.
 
 abbrev pub full : System → List ℕ → Bool
@@ -68,10 +76,10 @@ Refuses s a l (Some _) = ⊥
 module _ (grants : ℕ) (told : Told) (s : System) (a l : List ℕ) (app : App) (h : IsHeld grants told s a app) where
   counted : full s a ≡ (nat_le 64 (length app.labels) || nat_le 8 (length app.areas))
   counted =
-      ap (λ n. nat_le 64 n || nat_le 8 (count_of is_vsa (machine_of s a))) (count_labels (around s told a h.numbers app.areas) app.labels (machine_of s a).held h.holds.held)
-      ∙ ap (λ n. nat_le 64 (length app.labels) || nat_le 8 n) (count_areas (around s told a h.numbers app.areas) app.labels (machine_of s a) h.holds)
+      ap (λ n. nat_le 64 n || nat_le 8 (count_of is_vsa (machine_of s a))) (count_labels (around s told a h.numbers app (machine_of s a)) app.labels (machine_of s a).held h.holds.held)
+      ∙ ap (λ n. nat_le 64 (length app.labels) || nat_le 8 n) (count_areas (around s told a h.numbers app (machine_of s a)) h.holds)
 
-  by_label : (c : Option Capability) (o : Option Held) → at (machine_of s a) l ≡ o → AtLabel (around s told a h.numbers app.areas) l c o → Refuses s a l (room_under app.labels app.areas c)
+  by_label : (c : Option Capability) (o : Option Held) → at (machine_of s a) l ≡ o → AtLabel (around s told a h.numbers app (machine_of s a)) l c o → Refuses s a l (room_under app.labels app.areas c)
   by_label None None is m = by_test (nat_le 64 (length app.labels) || nat_le 8 (length app.areas)) (λ b. (nat_le 64 (length app.labels) || nat_le 8 (length app.areas)) ≡ b → Refuses s a l (limit_if b))
       (λ yes q. (is, counted ∙ q)) (λ no q. (is, counted ∙ q)) refl
   by_label (Some c) (Some x) is m = (x, is)
@@ -80,7 +88,7 @@ module _ (grants : ℕ) (told : Told) (s : System) (a l : List ℕ) (app : App) 
 
   pub refuses : (o : Option Refusal) → o ≡ no_room app.labels app.areas l → Refuses s a l o
   refuses o is = subst (λ (x : Option Refusal). Refuses s a l x) (sym is)
-      (by_label (value_at app.labels l) (at (machine_of s a) l) refl (found (around s told a h.numbers app.areas) l app.labels (machine_of s a).held h.holds.held))
+      (by_label (value_at app.labels l) (at (machine_of s a) l) refl (found (around s told a h.numbers app (machine_of s a)) l app.labels (machine_of s a).held h.holds.held))
 
 module _ (host : Host) (told : Told) (s : System) (a l : List ℕ) (n : ℕ) (st : Stands host told s) where
   -- Rows.
@@ -168,12 +176,19 @@ module _ (host : Host) (told : Told) (s : System) (a l : List ℕ) (n : ℕ) (st
             count : length slot.blocks ≡ n
             count = ap (λ (f : List ℕ). length f) slot_blocks ∙ length-take n host.free ∙ grind (arith, nat_tests)
 
+            block_free : (k : ℕ) → k < length slot.blocks → Contains host.free (get_or slot.blocks k 0)
+            block_free k lt = subst (λ (f : List ℕ). Contains f (get_or slot.blocks k 0)) st.free (is_free (get_or slot.blocks k 0) (Contains-get_or slot.blocks k 0 lt))
+
             zero_content : IsRaw told.history slot.blocks raw
             zero_content = record {
               size = length-replicate n zero_block ∙ sym count;
               content = λ h is k lt.
                   get_or-replicate n k zero_block [] (omega (arith, lt, count))
-                  ∙ sym (st.zero h is (get_or slot.blocks k 0) (subst (λ (f : List ℕ). Contains f (get_or slot.blocks k 0)) st.free (is_free (get_or slot.blocks k 0) (Contains-get_or slot.blocks k 0 lt))));
+                  ∙ sym (st.zero h is (get_or slot.blocks k 0) (block_free k lt)).0;
+              choices = length-replicate n (zero_block ∷ []) ∙ sym count;
+              maybe = λ h is k lt c left.
+                  subst (λ (l : List (List ℕ)). Contains l c) (sym (get_or-replicate n k (zero_block ∷ []) [] (omega (arith, lt, count))))
+                  (subst (λ (z : List ℕ). Contains (zero_block ∷ []) z) (sym ((st.zero h is (get_or slot.blocks k 0) (block_free k lt)).1 c left)) (in_contains (zero_block ∷ []) zero_block (inl refl)));
             }
 
             all_apart : AreApart plane.slots
@@ -188,31 +203,31 @@ module _ (host : Host) (told : Told) (s : System) (a l : List ℕ) (n : ℕ) (st
                 (λ new. subst (λ (m : ℕ). k < m) st.size (free_inside s.plane k (is_free k (subst (λ (v : Slot). Contains v.blocks k) (sym new) block)))) (Contains-push_cases s.plane.slots slot t has)
 
             module _ (now : Host) (app app1 : App) (h : IsHeld host.grants told s a app) (unlabelled : value_at app.labels l ≡ None)
-                (labels : app1.labels ≡ app.labels ++ (l, new_area_cap host.grants) ∷ []) (held : app1.areas ≡ with_area app.areas host.grants (take n host.free))
+                (labels : app1.labels ≡ app.labels ++ (l, new_area_cap host.grants) ∷ []) (held : app1.areas ≡ with_area app.areas host.grants (raw_area (take n host.free))) (region : app1.region ≡ app.region)
                 (free : now.free ≡ drop n host.free) (grants : now.grants ≡ host.grants + 1) (slots : now.slots ≡ host.slots + 1) (clock : now.clock ≡ host.clock)
                 (names : map (λ x. x.name) now.apps.items ≡ map (λ x. x.name) host.apps.items)
                 (here : (b : List ℕ) → bytes_eq b a ≡ true → app_of now.apps.items b ≡ Some app1) (others : (b : List ℕ) → bytes_eq b a ≡ false → app_of now.apps.items b ≡ app_of host.apps.items b) where
-              more_areas : app1.areas ≡ app.areas ++ (host.grants, slot.blocks) ∷ []
-              more_areas = held ∙ ap (λ (bs : List ℕ). with_area app.areas host.grants bs) (sym slot_blocks) ∙ added_last host.grants slot.blocks app.areas (h.below host.grants (omega arith))
+              more_areas : app1.areas ≡ app.areas ++ (host.grants, area_in slot) ∷ []
+              more_areas = held ∙ ap (λ (bs : List ℕ). with_area app.areas host.grants (raw_area bs)) (sym slot_blocks) ∙ added_last host.grants (area_in slot) app.areas (h.unused host.grants (omega arith))
 
-              -- what is around the application then
-              abbrev around_it : Around
-              around_it = record { name = a; numbers = h.numbers ++ host.grants ∷ []; areas = app.areas ++ (host.grants, slot.blocks) ∷ []; slots = s.plane.slots ++ slot ∷ []; told = told.history }
-
-              its : Holds around_it (app.labels ++ (l, new_area_cap host.grants) ∷ []) one
-              its = granted (around s told a h.numbers app.areas) app.labels (machine_of s a) h.holds l host.grants slot raw unlabelled (h.below host.grants (omega arith)) refl refl zero_content
+              new_number : (i : ℕ) → slice_get h.numbers i ≡ Some host.grants → ⊥
+              new_number i is = let lt = h.below i host.grants is in absurd (omega (arith, lt))
 
               own : IsHeld now.grants told after a app1
               own = record {
                 numbers = h.numbers ++ host.grants ∷ [];
-                holds = subst (λ (m : Machine). Holds (around after told a (h.numbers ++ host.grants ∷ []) app1.areas) app1.labels m) (sym (set_here s plane a one made))
-                    (subst (λ (ls : Labels). Holds (around after told a (h.numbers ++ host.grants ∷ []) app1.areas) ls one) (sym labels)
-                    (subst (λ (es : AreaList). Holds (around after told a (h.numbers ++ host.grants ∷ []) es) (app.labels ++ (l, new_area_cap host.grants) ∷ []) one) (sym more_areas) its));
-                below = λ g le.
+                holds = granted (around s told a h.numbers app (machine_of s a)) (around after told a (h.numbers ++ host.grants ∷ []) app1 (machine_of after a)) h.holds l host.grants slot raw
+                    unlabelled (h.unused host.grants (omega arith)) new_number refl refl refl zero_content
+                    refl refl refl labels more_areas (ap tables_of region) refl refl refl (set_here s plane a one made);
+                below = λ i g is. elim (number_cases h.numbers host.grants i g is) [
+                  | inl old ↦ let lt = h.below i g old in omega (arith, lt, grants)
+                  | inr new ↦ omega (arith, new.1, grants)
+                ];
+                unused = λ g le.
                     let other : nat_eq g host.grants ≡ false = grind (arith, nat_tests, grants, le) in
                     ap (λ (es : AreaList). lookup (nat_eq g) es) more_areas
-                    ∙ lookup_last (nat_eq g) app.areas (host.grants, slot.blocks) (h.below g (omega (arith, grants, le)))
-                    ∙ ap (λ b. cond b (Some slot.blocks) None) other;
+                    ∙ lookup_last (nat_eq g) app.areas (host.grants, area_in slot) (h.unused g (omega (arith, grants, le)))
+                    ∙ ap (λ b. cond b (Some (area_in slot)) None) other;
               }
 
               pub vsa_granted : Turned now told s a (w.vsa a l n kind.Raw) (vsa_row s a l n [] said.Ok) [] said.Ok []
@@ -223,10 +238,14 @@ module _ (host : Host) (told : Told) (s : System) (a l : List ℕ) (n : ℕ) (st
                 none = λ want. refl;
                 stands = record {
                   size = st.size;
+                  based = st.based;
+                  own = st.own;
+                  filters = st.filters;
                   apps = st.apps ∙ sym names;
                   slots = length-append s.plane.slots (slot ∷ []) ∙ ap (λ k. k + 1) st.slots ∙ sym slots;
                   free = free_after s.plane slot n refl ∙ ap (λ (f : List ℕ). drop n f) st.free ∙ sym free;
                   settled = st.settled;
+                  unsettled = st.unsettled;
                   apart = all_apart;
                   inside = all_inside;
                   zero = λ h is k has. st.zero h is k (in_contains host.free k (in_drop n host.free k (contains_in (drop n host.free) k (subst (λ (f : List ℕ). Contains f k) free has))));
@@ -277,14 +296,14 @@ module _ (items : List App) (a : List ℕ) (place : ℕ) (app app1 : App) (at : 
 
 pub vsa_done : (host now : Host) (told : Told) (s : System) (a l : List ℕ) (n place : ℕ) (app app1 : App) (spans : List ℕ) → Stands host told s
     → position (λ x. bytes_eq a x.name) host.apps.items ≡ Some place → get_or host.apps.items place app ≡ app → None ≡ no_room app.labels app.areas l → host.slots < max_slots → n ≤ length host.free
-    → length (runs_of (take n host.free)) ≤ max_runs → spans ≡ take n host.free → app1.name ≡ app.name → app1.labels ≡ app.labels ++ (l, new_area_cap host.grants) ∷ [] → app1.areas ≡ with_area app.areas host.grants spans
+    → length (runs_of (take n host.free)) ≤ max_runs → spans ≡ take n host.free → app1.name ≡ app.name → app1.labels ≡ app.labels ++ (l, new_area_cap host.grants) ∷ [] → app1.areas ≡ with_area app.areas host.grants (raw_area spans) → app1.region ≡ app.region
     → now.apps.items ≡ set host.apps.items place app1 → now.free ≡ drop n host.free → now.grants ≡ host.grants + 1 → now.slots ≡ host.slots + 1 → now.clock ≡ host.clock
     → Turned now told s a (w.vsa a l n kind.Raw) (vsa_row s a l n [] said.Ok) [] said.Ok []
-vsa_done host now told s a l n place app app1 spans st at there none few enough compact taken name labels held items free grants slots clock =
+vsa_done host now told s a l n place app app1 spans st at there none few enough compact taken name labels held region items free grants slots clock =
     let h = held_there s host told a st place app at there in
     let open_one = refuses host.grants told s a l app h None none in
     vsa_granted host told s a l n st h.holds.made open_one.0 open_one.1 few enough compact now app app1 h (unlabelled_by app.labels app.areas (value_at app.labels l) none) labels
-    (held ∙ ap (λ (bs : List ℕ). with_area app.areas host.grants bs) taken) free grants slots clock
+    (held ∙ ap (λ (bs : List ℕ). with_area app.areas host.grants (raw_area bs)) taken) region free grants slots clock
     (ap (λ (xs : List App). map (λ x. x.name) xs) items ∙ names_set host.apps.items a place app app1 at there name)
     (λ b same. ap (λ (xs : List App). app_of xs b) items ∙ set_at host.apps.items a place app app1 at there name b ∙ ap (λ t. cond t (Some app1) (app_of host.apps.items b)) same)
     (λ b apart. ap (λ (xs : List App). app_of xs b) items ∙ set_at host.apps.items a place app app1 at there name b ∙ ap (λ t. cond t (Some app1) (app_of host.apps.items b)) apart)

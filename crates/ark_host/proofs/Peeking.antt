@@ -11,7 +11,7 @@ use Rattle.ark_script.specs.Line as w
 use Rattle.ark_script.specs.declared.said.Said.TheVariants as said
 use Rattle.ark_machine.specs.Bytes.{trimmed}
 use Rattle.ark_machine.specs.Objects
-use Rattle.ark_machine.specs.Objects.{Raw}
+use Rattle.ark_machine.specs.Objects.{Raw, as_raw}
 use Rattle.ark_machine.specs.Machine.{Machine, Held, at}
 use Rattle.ark_machine.specs.Areas as areas
 use Rattle.ark_machine.specs.Row.{Given, reads, says, answer, has_fault}
@@ -39,6 +39,10 @@ module _ (m : Machine) (l : List ℕ) (off : ℕ) (g : Given) where
   absent_row : m.made ≡ true → at m l ≡ None → areas.peek m l off g ≡ says m (said.Refused (r.NoGrant l))
   unfolding answer
   absent_row made none = rw (made, none) refl
+
+  other_row : (h : Held) → m.made ≡ true → at m l ≡ Some h → as_raw h.object ≡ None → areas.peek m l off g ≡ says m (said.Refused r.WrongKind)
+  unfolding answer
+  other_row h made there other = rw (made, there, other) refl
 
   module _ (h : Held) (raw : Raw) (made : m.made ≡ true) (there : at m l ≡ Some h) (object : h.object ≡ Objects.raw raw) where
     far_row : nat_le (length raw.content) off ≡ true → areas.peek m l off g ≡ says m (said.Refused r.OutOfRange)
@@ -68,6 +72,8 @@ module _ (host : Host) (told : Told) (s : System) (a l : List ℕ) (off : ℕ) (
   pub peek_refused : (e : Refusal) → HasNone told s a l off e → Turned host told s a (w.peek a l off) (peek_row s a l off [] (said.Refused e)) [] (said.Refused e) []
   peek_refused r.NoApplication h = refused host told s a (w.peek a l off) _ r.NoApplication refl refl (unmade_row (machine_of s a) l off (given_of s (w.peek a l off) [] (said.Refused r.NoApplication)) h) st
   peek_refused (r.NoGrant k) h = rw (h.1) (refused host told s a (w.peek a l off) _ (r.NoGrant l) refl refl (absent_row (machine_of s a) l off (given_of s (w.peek a l off) [] (said.Refused (r.NoGrant l))) h.0 h.2) st)
+  peek_refused r.WrongKind h =
+      refused host told s a (w.peek a l off) _ r.WrongKind refl refl (other_row (machine_of s a) l off (given_of s (w.peek a l off) [] (said.Refused r.WrongKind)) h.held h.made h.there h.other) st
   peek_refused r.OutOfRange h =
       let t = h.0 in
       refused host told s a (w.peek a l off) _ r.OutOfRange refl refl
@@ -76,7 +82,7 @@ module _ (host : Host) (told : Told) (s : System) (a l : List ℕ) (off : ℕ) (
 
 module _ (host : Host) (old new : Told) (s : System) (a l : List ℕ) (off n : ℕ) (st : Stands host old s) (b : IsBlock old s a l off n) (size : new.blocks ≡ old.blocks) where
   read_stands : (ok : Bool) → Adds old.history new.history (Read n ok ∷ []) → Stands host new s
-  read_stands ok adds = stands_beside host old new (Read n ok ∷ []) s adds size (λ blocks. tt) st
+  read_stands ok adds = stands_beside host old new (Read n ok ∷ []) s adds size (λ t slot. tt) tt st
 
   pub peek_read : (es : List Event) (out : List ℕ) → es ≡ Read n true ∷ [] → Adds old.history new.history es → IsHonest new.history n out
       → Turned host new s a (w.peek a l off) (peek_row s a l off es said.Bytes) es said.Bytes (trimmed out)

@@ -1,39 +1,38 @@
 -- The row of `poke`, as a host comes to it.
 use Rattle.std.proofs.Common.{◌≡◌, ℕ, ◌<◌, Bool, true, false, nat_le, List, [], ◌∷◌, length, refl, sym, ◌∙◌, ap, subst, arith, bytes_eq, Contains}
-use Rattle.std.specs.Prelude.{Option, Some, None, find, unwrap_or}
-use Rattle.std.proofs.lemmas.Bool.{false≢true, and_parts}
+use Rattle.std.specs.Prelude.{Option, Some, None, unwrap_or}
+use Rattle.std.proofs.lemmas.Bool.{false≢true}
 use Rattle.std.proofs.lemmas.List.Elements.{Contains-get_or}
 use Rattle.std.proofs.lemmas.Slice.Eq.{bytes_eq-Decides}
 use Rattle.ark_base.specs.declared.refusal.Refusal.{Refusal}
 use Rattle.ark_base.specs.declared.refusal.Refusal.TheVariants as r
-use Rattle.ark_media.specs.Journal.{Event, Write, History, block, current}
+use Rattle.ark_media.specs.Journal.{Event, Write, History}
 use Rattle.ark_media.specs.Calls.{Told, Adds}
-use Rattle.ark_media.proofs.Stopping.{current_other}
 use Rattle.ark_table.specs.Slots.{Slot}
 use Rattle.ark_script.specs.Line as w
 use Rattle.ark_script.specs.declared.said.Said.{Said}
 use Rattle.ark_script.specs.declared.said.Said.TheVariants as said
 use Rattle.ark_machine.specs.Bytes.{padded}
 use Rattle.ark_machine.specs.Objects
-use Rattle.ark_machine.specs.Objects.{Raw}
+use Rattle.ark_machine.specs.Objects.{Raw, as_raw}
 use Rattle.ark_machine.specs.Machine.{Machine, Held, at, with_object}
 use Rattle.ark_machine.specs.Areas as areas
 use Rattle.ark_machine.specs.Areas.{raw_written}
 use Rattle.ark_machine.specs.Row.{Given, Ended, writes, says, answer}
-use Rattle.ark_machine.specs.Plane.{is_slot_of, slot_of}
+use Rattle.ark_machine.specs.Plane.{slot_of}
 use Rattle.ark_machine.specs.System.{System, machine_of}
 use Rattle.ark_machine.specs.Follow.{ended, fails, goes_on, end_of}
-use Rattle.ark_held.specs.Held.{Holds, SameAt, Grows}
+use Rattle.ark_held.specs.Keeps.{SameAt}
 use Rattle.ark_held.proofs.Besides.{same_beside}
+use Rattle.ark_held.proofs.Granted.{not_but}
 use Rattle.ark_held.proofs.Written.{raw_stands, written}
 use Rattle.ark_held.specs.declared.app.App.{App}
 use Rattle.ark_host.specs.declared.host.Host.{Host}
 use Rattle.ark_host.specs.Stands.{Stands, Turned, AtApp, IsHeld, around, app_of, poke_row, given_of}
 use Rattle.ark_host.specs.Finds.{IsBlock, HasNone}
-use Rattle.ark_host.proofs.Lists.{find_in, in_contains}
 use Rattle.ark_host.proofs.Freeing.{granted_not_free}
 use Rattle.ark_host.proofs.Peeking.{le_true, at_block, off_inside}
-use Rattle.ark_host.proofs.Standing.{refused}
+use Rattle.ark_host.proofs.Standing.{refused, slot_names, slot_based, free_based, based_then, zero_then}
 use Rattle.ark_host.proofs.Setting.{with_set, set_apps, set_now, set_here}
 
 abbrev poke_said : Bool → Said
@@ -48,6 +47,10 @@ module _ (m : Machine) (l : List ℕ) (off : ℕ) (bytes : List ℕ) (g : Given)
   absent_row : m.made ≡ true → at m l ≡ None → areas.poke m l off bytes g ≡ says m (said.Refused (r.NoGrant l))
   unfolding answer
   absent_row made none = rw (made, none) refl
+
+  other_row : (h : Held) → m.made ≡ true → at m l ≡ Some h → as_raw h.object ≡ None → areas.poke m l off bytes g ≡ says m (said.Refused r.WrongKind)
+  unfolding answer
+  other_row h made there other = rw (made, there, other) refl
 
   module _ (h : Held) (raw : Raw) (made : m.made ≡ true) (there : at m l ≡ Some h) (object : h.object ≡ Objects.raw raw) where
     far_row : nat_le (length raw.content) off ≡ true → areas.poke m l off bytes g ≡ says m (said.Refused r.OutOfRange)
@@ -64,6 +67,8 @@ module _ (host : Host) (told : Told) (s : System) (a l : List ℕ) (off : ℕ) (
   pub poke_refused : (e : Refusal) → HasNone told s a l off e → Turned host told s a (w.poke a l off bytes) (poke_row s a l off bytes [] (said.Refused e)) [] (said.Refused e) []
   poke_refused r.NoApplication h = refused host told s a (w.poke a l off bytes) _ r.NoApplication refl refl (unmade_row (machine_of s a) l off bytes (given_of s (w.poke a l off bytes) [] (said.Refused r.NoApplication)) h) st
   poke_refused (r.NoGrant k) h = rw (h.1) (refused host told s a (w.poke a l off bytes) _ (r.NoGrant l) refl refl (absent_row (machine_of s a) l off bytes (given_of s (w.poke a l off bytes) [] (said.Refused (r.NoGrant l))) h.0 h.2) st)
+  poke_refused r.WrongKind h =
+      refused host told s a (w.poke a l off bytes) _ r.WrongKind refl refl (other_row (machine_of s a) l off bytes (given_of s (w.poke a l off bytes) [] (said.Refused r.WrongKind)) h.held h.made h.there h.other) st
   poke_refused r.OutOfRange h =
       let t = h.0 in
       refused host told s a (w.poke a l off bytes) _ r.OutOfRange refl refl
@@ -72,13 +77,6 @@ module _ (host : Host) (told : Told) (s : System) (a l : List ℕ) (off : ℕ) (
 
 some_slot : (t u : Slot) → Some t ≡ Some u → t ≡ u
 some_slot t u h = ap (λ o. unwrap_or o t) h
-
--- who found a slot is its application, under its label
-slot_names : (slots : List Slot) (b k : List ℕ) (u : Slot) → find (λ v. is_slot_of b k v) slots ≡ Some u → Contains slots u × (b ≡ u.app) × (k ≡ u.label)
-slot_names slots b k u is =
-    let f = find_in (λ v. is_slot_of b k v) slots u is in
-    let p = and_parts (bytes_eq b u.app) (bytes_eq k u.label) f.1 in
-    (in_contains slots u f.0, (bytes_eq-Decides b u.app).0 p.0, (bytes_eq-Decides k u.label).0 p.1)
 
 -- the device has the block
 pub block_inside : (host : Host) (told : Told) (s : System) (a l : List ℕ) (off n : ℕ) → Stands host told s → IsBlock told s a l off n → n < told.blocks
@@ -105,7 +103,8 @@ module _ (host : Host) (old new : Told) (s : System) (a l : List ℕ) (off n : �
   beside_other e k u found apart =
       let mine = slot_names s.plane.slots a l b.area.slot b.area.placed in
       let its = slot_names s.plane.slots e k u found in
-      same_beside old.history new.history (Write n c took ok ∷ []) u.blocks adds (
+      same_beside old.history new.history (Write n c took ok ∷ []) u.blocks adds
+      (λ h told m has. let was = adds.told h told in slot_based host old s st (record { base = h.base; journal = was.0 }) was.1 u m its.0 has) (
         λ has. let same = st.apart b.area.slot u n mine.0 its.0 block_in has in
             apart (its.1 ∙ ap (λ (v : Slot). v.app) (sym same) ∙ sym mine.1) (its.2 ∙ ap (λ (v : Slot). v.label) (sym same) ∙ sym mine.2),
         tt,
@@ -118,18 +117,14 @@ module _ (host : Host) (old new : Told) (s : System) (a l : List ℕ) (off n : �
   made = b.area.made
 
   own : (app : App) → IsHeld host.grants old s a app → IsHeld host.grants new after a app
-  own app h =
-      let x = around s old a h.numbers app.areas in
-      let y = around s new a h.numbers app.areas in
-      let grows : Grows x y = record { numbers = λ i g is. is; areas = λ g blocks is. is; slots = λ k t is. is } in
-      record {
-        numbers = h.numbers;
-        holds = subst (λ (m : Machine). Holds (around after new a h.numbers app.areas) app.labels m) (sym (set_here s s.plane a one made))
-            (written x y grows l b.area.slot raw b.area.placed
-            (raw_stands old.history new.history b.area.slot.blocks b.area.raw off n c took ok b.distinct b.near b.block inside adds b.area.fits)
-            app.labels (machine_of s a) refl refl (λ k. refl) (λ k no u found. beside_other a k u found (λ same_app same_label. not_same l k no (sym same_label))) h.holds);
-        below = h.below;
-      }
+  own app h = record {
+    numbers = h.numbers;
+    holds = written (around s old a h.numbers app (machine_of s a)) (around after new a h.numbers app (machine_of after a)) h.holds l b.area.slot b.area.raw raw b.area.held b.area.there b.area.object b.area.placed
+        (raw_stands old.history new.history b.area.slot.blocks b.area.raw off n c took ok b.distinct b.near b.block inside adds b.area.fits)
+        refl refl refl refl refl refl (λ k. refl) (λ k u apart found. beside_other a k u found (λ same_app same_label. not_same l k (not_but l k apart) (sym same_label))) (set_here s s.plane a one made);
+    below = h.below;
+    unused = h.unused;
+  }
 
   own_at : (o : Option App) → app_of host.apps.items a ≡ o → AtApp host.grants old s a o → (app : App) × (app_of host.apps.items a ≡ Some app) × IsHeld host.grants new after a app
   own_at None is h = absurd (false≢true (sym (ap (λ (m : Machine). m.made) h.machine) ∙ made))
@@ -140,18 +135,20 @@ module _ (host : Host) (old new : Told) (s : System) (a l : List ℕ) (off n : �
       let its = own_at (app_of host.apps.items a) refl (st.machines a) in
       record {
         size = st.size ∙ sym size;
+        based = based_then old new (Write n c took ok ∷ []) adds size st.based;
+        own = st.own;
+        filters = st.filters;
         apps = st.apps;
         slots = st.slots;
         free = st.free;
         settled = st.settled;
+        unsettled = st.unsettled;
         apart = st.apart;
         inside = λ t i slot has. subst (λ (m : ℕ). i < m) (sym size) (st.inside t i slot has);
-        zero = λ h told i has.
-            let was = adds.told h told in
-            let mine = slot_names s.plane.slots a l b.area.slot b.area.placed in
-            ap (λ (j : List Event). block (current h.base j) i) was.2
-            ∙ current_other h.base was.0 n i c took ok (λ same. granted_not_free s.plane b.area.slot n mine.0 block_in (subst (λ (q : List ℕ). Contains q n) (sym st.free) (subst (λ (q : ℕ). Contains host.free q) same has)))
-            ∙ st.zero (record { base = h.base; journal = was.0 }) was.1 i has;
+        zero = zero_then old new (Write n c took ok ∷ []) host.free adds (λ h is i has. free_based host old s st h is i has) (
+          λ has. granted_not_free s.plane b.area.slot n (slot_names s.plane.slots a l b.area.slot b.area.placed).0 block_in (subst (λ (q : List ℕ). Contains q n) (sym st.free) has),
+          tt,
+        ) st.zero;
         now = st.now;
         machines = set_apps s s.plane a one made host.grants host.grants old new host.apps.items host.apps.items its.0 (omega arith) its.2
             (λ e same. ap (λ (q : List ℕ). app_of host.apps.items q) ((bytes_eq-Decides e a).0 same) ∙ its.1) (λ e apart. refl) (λ e k apart. refl)

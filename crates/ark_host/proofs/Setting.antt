@@ -7,7 +7,7 @@ use Rattle.ark_table.specs.Slots.{Slot}
 use Rattle.ark_machine.specs.Machine.{Machine}
 use Rattle.ark_machine.specs.Plane.{Plane, slot_of}
 use Rattle.ark_machine.specs.System.{System, machine_of, set_machine}
-use Rattle.ark_held.specs.Held.{SameAt}
+use Rattle.ark_held.specs.Keeps.{SameAt}
 use Rattle.ark_held.specs.declared.app.App.{App}
 use Rattle.ark_host.specs.Stands.{AtApp, IsHeld, app_of}
 use Rattle.ark_host.proofs.Machines.{by_test, listed_machine-set, bytes_eq-same}

@@ -1,5 +1,5 @@
 -- What the host stands for, and what its functions promise.
-use Rattle.std.specs.Prelude.{◌≡◌, ℕ, ◌≤◌, ◌<◌, false, true, List, [], length, map, Option, Some, None, find, unwrap_or, nat_eq, bytes_eq, Contains}
+use Rattle.std.specs.Prelude.{◌≡◌, ℕ, ◌≤◌, ◌<◌, false, true, List, [], length, map, Option, Some, None, find, slice_get, unwrap_or, nat_eq, bytes_eq, Contains}
 use Rattle.std.specs.Map.{lookup}
 use Rattle.ark_base.specs.declared.kind.Kind.TheVariants as kind
 use Rattle.ark_media.specs.Journal.{Event, History, block, current, zero_block}
@@ -10,7 +10,7 @@ use Rattle.ark_script.specs.Line.{Line}
 use Rattle.ark_script.specs.Lines.{Meaning}
 use Rattle.ark_script.specs.Text.{wants_memory}
 use Rattle.ark_script.specs.declared.said.Said.{Said}
-use Rattle.ark_machine.specs.Machine.{unmade}
+use Rattle.ark_machine.specs.Machine.{Machine, unmade}
 use Rattle.ark_machine.specs.Row.{Row, Given}
 use Rattle.ark_machine.specs.Control as control
 use Rattle.ark_machine.specs.Areas as areas
@@ -20,14 +20,22 @@ use Rattle.ark_machine.specs.System.{System, Turn, machine_of, own_turn}
 use Rattle.ark_machine.specs.Built.{turn, calls_so_far}
 use Rattle.ark_machine.specs.Follow.{Follow, Performs, ends_of}
 use Rattle.ark_machine.specs.Replies.{MayLack}
-use Rattle.ark_held.specs.Words.{AreaList}
-use Rattle.ark_held.specs.Held.{Around, Holds}
+use Rattle.ark_region.specs.Frames.{Space}
+use Rattle.ark_held.specs.Kept.{Tables}
+use Rattle.ark_held.specs.Around.{Around}
+use Rattle.ark_held.specs.Areas.{MayStand}
+use Rattle.ark_held.specs.Held.{Holds}
 use Rattle.ark_held.specs.declared.app.App.{App}
 use Rattle.ark_host.specs.declared.host.Host.{Host}
 
--- where the history is told, these blocks are zero
+-- where the history is told, these blocks are zero, and a stop leaves them so
 abbrev pub IsZero : Told → List ℕ → Type 0
-IsZero told blocks = (h : History) → told.history ≡ Some h → (n : ℕ) → Contains blocks n → block (current h.base h.journal) n ≡ zero_block
+IsZero told blocks = (h : History) → told.history ≡ Some h → (n : ℕ) → Contains blocks n →
+    (block (current h.base h.journal) n ≡ zero_block) × ((c : List ℕ) → MayStand h n c → c ≡ zero_block)
+
+-- where the history is told, its base has the blocks of the device
+abbrev pub IsBased : Told → Type 0
+IsBased told = (h : History) → told.history ≡ Some h → length h.base ≡ told.blocks
 
 -- a block has one slot
 abbrev pub AreApart : List Slot → Type 0
@@ -40,15 +48,41 @@ AreInside size slots = (t : Slot) (n : ℕ) → Contains slots t → Contains t.
 abbrev pub app_of : List App → List ℕ → Option App
 app_of apps a = find (λ app. bytes_eq a app.name) apps
 
--- what the labels of an application are compared with
-abbrev pub around : System → Told → List ℕ → List ℕ → AreaList → Around
-around s told a numbers held = record { name = a; numbers = numbers; areas = held; slots = s.plane.slots; told = told.history }
+-- The tables of an application with this memory. Those of cards, doors, rates, buffers, sockets and open logs come with the words that make
+-- these; so far nothing lies in them.
+abbrev pub tables_of : Space → Tables
+tables_of memory = record {
+  memory = memory;
+  buffers = λ key. None;
+  cards = λ key. None;
+  nets = λ key. None;
+  doors = λ key. None;
+  rates = λ key. None;
+  sockets = λ key. None;
+  chains = λ grant. None;
+}
+
+-- what an application's labels are compared with; no filter is live so far
+abbrev pub around : System → Told → List ℕ → List ℕ → App → Machine → Around
+around s told a numbers app m = record {
+  name = a;
+  now = s.now;
+  numbers = numbers;
+  labels = app.labels;
+  areas = app.areas;
+  tables = tables_of app.region;
+  slots = s.plane.slots;
+  rules = [];
+  told = told.history;
+  machine = m;
+}
 
 -- an application that was made, by the grant numbers of its objects; later grants have greater numbers
 pub record IsHeld (grants : ℕ) (told : Told) (s : System) (a : List ℕ) (app : App) : Type 0 where
   pub numbers : List ℕ
-  pub holds : Holds (around s told a numbers app.areas) app.labels (machine_of s a)
-  pub below : (g : ℕ) → grants ≤ g → lookup (nat_eq g) app.areas ≡ None
+  pub holds : Holds (around s told a numbers app (machine_of s a))
+  pub below : (i g : ℕ) → slice_get numbers i ≡ Some g → g < grants
+  pub unused : (g : ℕ) → grants ≤ g → lookup (nat_eq g) app.areas ≡ None
 
 -- an application that was not made has no machine and no slot
 pub record IsUnmade (s : System) (a : List ℕ) : Type 0 where
@@ -63,10 +97,15 @@ AtApp grants told s a (Some app) = IsHeld grants told s a app
 -- of each application.
 pub record Stands (host : Host) (told : Told) (s : System) : Type 0 where
   pub size : s.plane.size ≡ told.blocks
+  pub based : IsBased told
+  -- no word gives addresses, or makes a filter, so far
+  pub own : s.plane.own ≡ None
+  pub filters : s.plane.filters ≡ []
   pub apps : s.plane.apps ≡ map (λ app. app.name) host.apps.items
   pub slots : length s.plane.slots ≡ host.slots
   pub free : free_blocks s.plane ≡ host.free
   pub settled : s.plane.failed ≡ false
+  pub unsettled : s.plane.unsettled ≡ None
   pub apart : AreApart s.plane.slots
   pub inside : AreInside told.blocks s.plane.slots
   pub zero : IsZero told host.free

@@ -39,11 +39,11 @@ pub struct Host {
 }
 
 impl Host {
-    ghost use Rattle.ark_host.specs.Stands.{Stands, Answered, IsZero};
+    ghost use Rattle.ark_host.specs.Stands.{Stands, Answered, IsZero, IsBased};
 
     /// The host of a fresh device of so many blocks: nothing is granted. `Memory` comes only for want of memory.
     pub fn new(alloc: Global, blocks: u32) -> Result<Host, Memory>
-        ensures stands { IfOk result (λ host. (told : Told) → told.blocks ≡ blocks → IsZero told (free_at_first blocks) → Stands host told (fresh_system told.blocks)) }
+        ensures stands { IfOk result (λ host. (told : Told) → told.blocks ≡ blocks → IsBased told → IsZero told (free_at_first blocks) → Stands host told (fresh_system told.blocks)) }
         ensures sound { IfOk result (λ host. IsSound host) }
         ensures none { IfOk result (λ host. host.lines ≡ 0) }
     {

@@ -1,4 +1,4 @@
-ghost use Rattle.std.specs.Prelude.{◌≡◌, [], bytes_eq, position};
+ghost use Rattle.std.specs.Prelude.{◌≡◌, ◌≤◌, [], bytes_eq, position, IfSome};
 ghost use Rattle.ark_media.specs.Calls.{Told};
 ghost use Rattle.ark_script.specs.Line as w;
 ghost use Rattle.ark_script.specs.Text.{IsSaid};
@@ -12,6 +12,9 @@ use ark_script::Said;
 // At most so many applications are made in a run.
 const MAX_APPS: usize = 16;
 
+// The frames of an application that asks for no number.
+const USUAL_FRAMES: u64 = 256;
+
 /// The place of the application of this name.
 pub fn place_of(apps: &[App], name: &AppName) -> Option<usize>
     ensures place { result ≡ position (λ app. bytes_eq name.now app.name) apps.now }
@@ -24,6 +27,7 @@ impl Host {
 
     // The word `app`.
     pub(super) fn make_app(&mut self, name: &AppName, frames: Option<u64>) -> Said
+        requires { IfSome frames (λ f. f ≤ 4096) }
         ensures turned { (told : Told) (s : System) → Stands self.old told s →
             Turned self.new told s name.now (w.app name.now frames) (app_row s name.now frames [] result) [] result [] }
         ensures said { IsSaid result }
@@ -31,14 +35,14 @@ impl Host {
         ensures lines { self.new.lines ≡ self.old.lines }
         ensures grants { self.new.grants ≡ self.old.grants }
     {
-        let _ = frames;
+        let frames = frames.unwrap_or(USUAL_FRAMES);
         if place_of(&self.apps, name).is_some() {
             return Said::Refused(Refusal::NameTaken);
         }
         if self.apps.len() >= MAX_APPS {
             return Said::Refused(Refusal::Limit);
         }
-        let Ok(app) = App::new(self.alloc, *name) else {
+        let Ok(app) = App::new(self.alloc, *name, frames as u32) else {
             return Said::Refused(Refusal::NoMemory);
         };
         let Ok(()) = self.apps.push(app) else {

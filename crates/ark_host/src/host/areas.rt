@@ -14,6 +14,7 @@ use super::apps::place_of;
 use super::bytes::{BLOCK, before_zeros, block_of, say, show};
 use ark_base::{AppName, Kind, Label, Refusal};
 use ark_extents::TakeFault;
+use ark_held::Area;
 use ark_media::Disk;
 use ark_script::{Hex, Reply, Said};
 
@@ -69,7 +70,8 @@ impl Host {
             Err(TakeFault::NoSpace) => Said::Refused(Refusal::NoSpace),
             Err(TakeFault::Scattered) => Said::Refused(Refusal::Scattered),
             Ok(spans) => {
-                self.apps[place].add_area(*label, self.grants, spans);
+                let kind = Kind::Raw;
+                self.apps[place].add_area(*label, self.grants, Area { kind, spans });
                 self.grants += 1;
                 self.slots += 1;
                 Said::Ok

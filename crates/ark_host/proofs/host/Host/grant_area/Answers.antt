@@ -50,4 +50,4 @@ returns-in-Ok-clause-turned c =
     let before : None ≡ no_room c.index.result.now.labels c.index.result.now.areas c.args.label.now = search rules in
     let none = subst (λ (x : App). None ≡ no_room x.labels x.areas c.args.label.now) same before in
     λ told s st. vsa_done c.args.self.now _ told s c.args.name.now c.args.label.now c.args.blocks c.in-Some.place app c.add_area.new.self c.in-Ok.spans st
-    place (sym c.index_mut.ensures.value) none (search rules) enough compact c.in-Ok.ensures.taken c.add_area.ensures.name c.add_area.ensures.labels c.add_area.ensures.areas refl c.in-Ok.ensures.rest refl refl refl
+    place (sym c.index_mut.ensures.value) none (search rules) enough compact c.in-Ok.ensures.taken c.add_area.ensures.name c.add_area.ensures.labels c.add_area.ensures.areas c.add_area.ensures.region refl c.in-Ok.ensures.rest refl refl refl
