@@ -19,8 +19,8 @@ use Rattle.ark_machine.specs.Replies.{Replies}
 use Rattle.ark_machine.proofs.Confining.{confined_of}
 use Rattle.ark_host.specs.declared.host.Host.{Host}
 use Rattle.ark_extents.specs.Free.{free_at_first}
-use Rattle.ark_host.specs.Stands.{Stands, IsZero}
-use Rattle.ark_cli.proofs.Formatted.{ready_zero}
+use Rattle.ark_host.specs.Stands.{Stands, IsZero, IsBased}
+use Rattle.ark_cli.proofs.Formatted.{ready_based, ready_zero}
 use Rattle.ark_cli.specs.Line.{within_limit}
 use Rattle.ark_cli.specs.Session.{Stopped, Ended, Ran, IsScriptEnd}
 use Rattle.ark_cli.specs.Opening.{SinceMake, IsOpening, IsReady, IsUnformatted, IsUnshown, OpensNot}
@@ -80,13 +80,13 @@ module _ (size : ℕ) (script : List ℕ) (added : List Event) (told : Told) (fi
   cut_ended (Damaged block) r = absurd r
 
 -- the script was run on the device that is ready
-pub open_ran : (size : ℕ) (t1 t2 : Told) (b0 b1 b2 : Beside) (host : Host) (line : List ℕ) (status : Status) → IsReady size t1 b0 b1 → ((told : Told) → told.blocks ≡ size → IsZero told (free_at_first size) → Stands host told (fresh_system told.blocks)) → line ≡ [] →
+pub open_ran : (size : ℕ) (t1 t2 : Told) (b0 b1 b2 : Beside) (host : Host) (line : List ℕ) (status : Status) → IsReady size t1 b0 b1 → ((told : Told) → told.blocks ≡ size → IsBased told → IsZero told (free_at_first size) → Stands host told (fresh_system told.blocks)) → line ≡ [] →
     Ran t1 t2 b1 b2 host line status → IsOpen size t2 b0 b2 status
 open_ran size t1 t2 b0 b1 b2 host line status ready stands none r =
     let first = opening size ready.events ready.calls in
     let cut : Cut size r.script r.events t2 status first =
     cut_ended size r.script r.events t2 first status
-    (subst (λ n. Ended (fresh_system n) r.script r.events t2 status) ready.since.blocks (r.ended (fresh_system t1.blocks) (stands t1 ready.since.blocks (ready_zero size t1 b0 b1 ready)) none)) in
+    (subst (λ n. Ended (fresh_system n) r.script r.events t2 status) ready.since.blocks (r.ended (fresh_system t1.blocks) (stands t1 ready.since.blocks (ready_based size t1 b0 b1 ready) (ready_zero size t1 b0 b1 ready)) none)) in
     let are : parts (first ++ r.events) ≡ record { whole = first ∷ cut.whole; unfinished = cut.unfinished } =
     parts-whole first r.events (opening_whole size ready.events ready.calls) ∙ ap (λ (p : Parts). record { whole = first ∷ p.whole; unfinished = p.unfinished }) cut.are in
     record {

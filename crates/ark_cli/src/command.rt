@@ -2,7 +2,7 @@ ghost use Rattle.std.specs.Prelude.{◌≡◌, ◌≤◌, ◌⊎◌, ℕ, List, 
 ghost use Rattle.ark_media.specs.Journal.{Event};
 ghost use Rattle.ark_media.specs.Calls.{Told, Goes, Rose};
 ghost use Rattle.ark_machine.specs.System.{fresh_system};
-ghost use Rattle.ark_host.specs.Stands.{Stands, IsZero};
+ghost use Rattle.ark_host.specs.Stands.{Stands, IsZero, IsBased};
 ghost use Rattle.ark_extents.specs.Free.{free_at_first};
 ghost use Rattle.ark_host.specs.Time.{IsSound};
 ghost use Rattle.ark_cli.specs.Words.{IsRun};
@@ -31,7 +31,7 @@ fn run_with<W: Outside>(
 ) -> Status
     requires low { 130 ≤ blocks }
     requires high { blocks ≤ 1048576 }
-    requires host { (told : Told) → told.blocks ≡ blocks → IsZero told (free_at_first blocks) → Stands host.old told (fresh_system told.blocks) }
+    requires host { (told : Told) → told.blocks ≡ blocks → IsBased told → IsZero told (free_at_first blocks) → Stands host.old told (fresh_system told.blocks) }
     requires sound { IsSound host.old }
     requires none { host.old.lines ≡ 0 }
     requires line { line.old ≡ [] }
