@@ -1,4 +1,6 @@
 mod Worked
+mod WorkedRings
+mod WorkedDevice
 mod Commands
 mod Leaving
 mod Opening
