@@ -1,5 +1,5 @@
 -- A log in five blocks of a device, worked out: what the laws of stops ask for can be met.
-use Rattle.std.proofs.Common.{◌≡◌, ◌<◌, inl, ℕ, zero, suc, true, false, List, [], ◌∷◌, ◌+◌, get_or, refl, ◌∙◌, arith}
+use Rattle.std.proofs.Common.{◌≡◌, ◌<◌, inl, ℕ, zero, suc, true, false, List, [], ◌∷◌, ◌+◌, length, get_or, refl, ◌∙◌, arith}
 use Rattle.ark_base.specs.declared.kind.Kind.TheVariants.{Log}
 use Rattle.ark_media.specs.Blocks.{blocks_in}
 use Rattle.ark_media.specs.Calls.{Writes}
@@ -17,13 +17,13 @@ use Rattle.ark_caladan.proofs.Repaired.{repaired_lies}
 use Rattle.ark_caladan.proofs.WorkedRings.{one, ring, lies, has_room, draft, draft_ring, with_draft_found, repaired, repaired_header}
 
 -- the header in block 1, and the ring in blocks 2 to 5
-abbrev rest : List ℕ
+abbrev pub rest : List ℕ
 rest = 2 ∷ (3 ∷ (4 ∷ (5 ∷ [])))
 
-abbrev blocks : List ℕ
+abbrev pub blocks : List ℕ
 blocks = 1 ∷ rest
 
-abbrev device : List (List ℕ)
+abbrev pub device : List (List ℕ)
 device = zero_block ∷ (zero_block ∷ ring)
 
 place : (k : ℕ) → k < 5 → get_or blocks k 0 ≡ k + 1
@@ -34,13 +34,20 @@ place (suc (suc (suc zero))) lt = refl
 place (suc (suc (suc (suc zero)))) lt = refl
 place (suc (suc (suc (suc (suc k))))) lt = absurd (omega (arith, lt))
 
+pub on_device : (base : List (List ℕ)) → length base ≡ 6 → OnDisk blocks base
+on_device base six = record { inside = λ k lt. omega (arith, place k lt, six); apart = λ i k li lk same. omega (arith, place i li, place k lk, same) }
+
 on_disk : OnDisk blocks device
-on_disk = record { inside = λ k lt. omega (arith, place k lt); apart = λ i k li lk same. omega (arith, place i li, place k lk, same) }
+on_disk = on_device device refl
+
+-- with no event an area is at rest in what is there
+pub rests_at : (base : List (List ℕ)) (a : ℕ → List ℕ) → ((k : ℕ) → k < 5 → block base (get_or blocks k 0) ≡ a k) → Rests blocks base [] a
+rests_at base a there = record { left = λ k lt content is. inl (is ∙ there k lt); now = λ k lt is_done. there k lt }
 
 abbrev idle : ℕ → List ℕ
 idle = view_of 4 zero_block 0 stored
 
-stands : (k : ℕ) → k < 5 → block device (get_or blocks k 0) ≡ idle k
+pub stands : (k : ℕ) → k < 5 → block device (get_or blocks k 0) ≡ idle k
 stands zero lt = refl
 stands (suc zero) lt = refl
 stands (suc (suc zero)) lt = refl
@@ -49,9 +56,9 @@ stands (suc (suc (suc (suc zero)))) lt = refl
 stands (suc (suc (suc (suc (suc k))))) lt = absurd (omega (arith, lt))
 
 rests : Rests blocks device [] idle
-rests = record { left = λ k lt content is. inl (is ∙ stands k lt); now = λ k lt is_done. stands k lt }
+rests = rests_at device idle stands
 
-whole : AllBlocks device
+pub whole : AllBlocks device
 whole zero lt = refl
 whole (suc zero) lt = refl
 whole (suc (suc zero)) lt = refl
@@ -100,14 +107,14 @@ stopped_at_draft =
     Log zero_block empty stored one lies payload has_room (and (λ k. false) 2) moved
 
 -- a device whose ring has the whole draft, as an opening may find it
-abbrev left_over : List (List ℕ)
+abbrev pub left_over : List (List ℕ)
 left_over = zero_block ∷ (zero_block ∷ draft_ring)
 
-opens : Opens Log 1 rest left_over empty one repaired_header repaired
+pub opens : Opens Log 1 rest left_over empty one repaired_header repaired
 unfolding blocks_in
 opens = record { read = refl; is_found = with_draft_found; new_read = refl; first = refl; start = refl; count = omega arith }
 
-left_whole : AllBlocks left_over
+pub left_whole : AllBlocks left_over
 unfolding blocks_in
 left_whole zero lt = refl
 left_whole (suc zero) lt = refl

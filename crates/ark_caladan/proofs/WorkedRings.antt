@@ -12,8 +12,8 @@ use Rattle.ark_entry.proofs.WorkedRings.{acked, payload, stands, stored}
 use Rattle.ark_caladan.specs.Chain.{append, trim, after}
 use Rattle.ark_caladan.specs.Numbers.{Fits}
 use Rattle.ark_caladan.specs.Leaves.{Lies, IsRing, Holds, HasRoom, with_draft, with_entry, HeaderAfter, Repairs}
-use Rattle.ark_caladan.proofs.Leaving.{rest_is_found, draft_is_found, marker_is_found, entry_lies, dropped_is_found, rest_lies}
-use Rattle.ark_caladan.proofs.Opening.{repaired_is_found, repaired_lies}
+use Rattle.ark_caladan.proofs.Leaving.{rest_is_found, draft_is_found, marker_is_found, entry_lies, dropped_is_found, rest_lies, rest_holds}
+use Rattle.ark_caladan.proofs.Opening.{repaired_is_found, repaired_lies, repaired_holds}
 
 -- one entry; the header is zeros
 abbrev pub one : Entries
@@ -111,16 +111,16 @@ two_lie : Lies Log 4 zero_block empty final (after one (append 2 payload))
 two_lie = entry_lies Log zero_block empty ring stored one is_ring lies payload has_room
 
 -- a trim of the entry, and its header
-fits : Fits one (trim 2)
+pub fits : Fits one (trim 2)
 fits = (omega arith, omega arith)
 
-abbrev trimmed : Header
+abbrev pub trimmed : Header
 trimmed = record { first = 2; start = 1; count = 0; end = 1 }
 
-abbrev trimmed_header : List ℕ
+abbrev pub trimmed_header : List ℕ
 trimmed_header = header_bytes Log 2 1 0 1
 
-header_after : HeaderAfter Log 4 trimmed_header empty one (trim 2) trimmed
+pub header_after : HeaderAfter Log 4 trimmed_header empty one (trim 2) trimmed
 header_after = record { read = refl; first = refl; start = refl; count = omega arith }
 
 holds_zeroed : Holds ring empty stored (zeroed 1 stored)
@@ -135,6 +135,26 @@ trimmed_found = dropped_is_found Log zero_block trimmed_header empty trimmed rin
 
 none_lie : Lies Log 4 trimmed_header trimmed [] (after one (trim 2))
 none_lie = rest_lies Log zero_block trimmed_header empty trimmed ring stored one (trim 2) is_ring lies fits (omega arith) header_after
+
+zeros_ring : IsRing (replicate 4 zero_block)
+zeros_ring = record { whole = all_whole; some = omega arith }
+  where
+    all_whole : AreWhole (replicate 4 zero_block)
+    all_whole zero lt = refl
+    all_whole (suc zero) lt = refl
+    all_whole (suc (suc zero)) lt = refl
+    all_whole (suc (suc (suc zero))) lt = refl
+    all_whole (suc (suc (suc (suc u)))) lt = absurd (omega (arith, lt))
+
+holds_zeros : Holds (replicate 4 zero_block) empty (zeroed 1 stored) (zeroed 1 stored)
+holds_zeros zero lt = inl refl
+holds_zeros (suc zero) lt = inl refl
+holds_zeros (suc (suc zero)) lt = inl refl
+holds_zeros (suc (suc (suc zero))) lt = inl refl
+holds_zeros (suc (suc (suc (suc u)))) lt = absurd (omega (arith, lt))
+
+none_hold : Holds (replicate 4 zero_block) trimmed [] []
+none_hold = rest_holds Log zero_block trimmed_header empty trimmed (replicate 4 zero_block) stored one (trim 2) zeros_ring lies fits (omega arith) header_after holds_zeros
 
 -- an opening that found the draft behind the list makes it zero, and writes a header that counts the entry
 abbrev pub repaired : Header
@@ -165,3 +185,14 @@ repaired_found = repaired_is_found Log zero_block empty draft_ring one is_draft_
 repaired_lie : Lies Log 4 repaired_header repaired stored one
 unfolding blocks_in
 repaired_lie = repaired_lies Log zero_block empty draft_ring one is_draft_ring refl with_draft_found repaired_header repaired ring is_ring repairs
+
+repaired_hold : Holds ring repaired stored stored
+unfolding blocks_in
+repaired_hold = repaired_holds Log zero_block empty draft_ring one is_draft_ring refl with_draft_found repaired_header repaired ring is_ring repairs behind
+  where
+    behind : (v : ℕ) → 1 ≤ v → v < 4 → reading ring 0 v ≡ zero_block
+    behind zero le lt = absurd (omega (arith, le))
+    behind (suc zero) le lt = refl
+    behind (suc (suc zero)) le lt = refl
+    behind (suc (suc (suc zero))) le lt = refl
+    behind (suc (suc (suc (suc v)))) le lt = absurd (omega (arith, lt))
