@@ -21,7 +21,7 @@ proto_of bytes = word_at bytes 12
 abbrev pub packet_under : ℕ → List ℕ → Option Packet
 packet_under proto rest = if nat_eq proto 2048 then packet_of rest else None
 
--- the IPv4 part of a frame
+-- the IPv4 part of a frame: it follows 14 octets of header (RFC 894, Frame Format)
 abbrev pub packet_in : List ℕ → Option Packet
 packet_in bytes = packet_under (proto_of bytes) (drop 14 bytes)
 
