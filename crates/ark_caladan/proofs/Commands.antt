@@ -1,5 +1,5 @@
 -- What commands do to a list.
-use Rattle.std.proofs.Common.{◌≡◌, ℕ, ◌+◌, ◌-◌, ◌*◌, List, [], ◌∷◌, ◌++◌, Bool, true, false, Option, Some, None, length, take, drop, get_or, refl, ◌∙◌, ap, arith, length-append}
+use Rattle.std.proofs.Common.{◌≡◌, ◌⊎◌, inl, inr, ℕ, zero, suc, ◌+◌, ◌-◌, ◌*◌, List, [], ◌∷◌, ◌++◌, Bool, true, false, Option, Some, None, length, take, drop, get_or, refl, sym, ◌∙◌, ap, subst, arith, length-append}
 use Rattle.std.specs.Prelude.{Contains}
 use Rattle.std.proofs.lemmas.List.{get_or_append_left, get_or-append-add, get_or-drop, length-drop}
 use Rattle.ark_entry.specs.Entry.{entry_blocks}
@@ -86,6 +86,33 @@ acknowledged (damaged n) c = (0, omega arith, refl)
 
 pub acknowledged_is_listed : (g : Log) → Contains (lists g) g.list
 acknowledged_is_listed g = acknowledged g.list (in_progress g)
+
+-- and what it may not
+only_two : (f : Found) (o : Option (Command × Bool)) (l : Entries) (c : Command × Bool) → f ≡ found l → o ≡ Some c → (m : Found) → Contains (list_choices f o) m
+    → (m ≡ found l) ⊎ (m ≡ found (after l c.0))
+only_two f o l c is some m has = pick (subst (λ (g : Found). Contains (list_choices g (Some c)) m) is (subst (λ (x : Option (Command × Bool)). Contains (list_choices f x) m) some has))
+  where
+    pick : Contains (found l ∷ found (after l c.0) ∷ []) m → (m ≡ found l) ⊎ (m ≡ found (after l c.0))
+    pick (zero, lt, same) = inl (sym same)
+    pick (suc zero, lt, same) = inr (sym same)
+    pick (suc (suc i), lt, same) = absurd (omega (arith, lt))
+
+pub only_listed : (g : Log) (l : Entries) (c : Command × Bool) → g.list ≡ found l → in_progress g ≡ Some c → (m : Found) → Contains (lists g) m → (m ≡ found l) ⊎ (m ≡ found (after l c.0))
+only_listed g l c is some m has = only_two g.list (in_progress g) l c is some m has
+
+only_one : (f m : Found) → Contains (f ∷ []) m → m ≡ f
+only_one f m (zero, lt, same) = sym same
+only_one f m (suc i, lt, same) = absurd (omega (arith, lt))
+
+none_more : (f : Found) (o : Option (Command × Bool)) → o ≡ None → (m : Found) → Contains (list_choices f o) m → m ≡ f
+none_more (found l) o none m has = only_one (found l) m (subst (λ (x : Option (Command × Bool)). Contains (list_choices (found l) x) m) none has)
+none_more (damaged n) o none m has = only_one (damaged n) m has
+
+pub none_else : (g : Log) → in_progress g ≡ None → (m : Found) → Contains (lists g) m → m ≡ g.list
+none_else g none m has = none_more g.list (in_progress g) none m has
+
+pub damaged_alone : (g : Log) (n : ℕ) → g.list ≡ damaged n → (m : Found) → Contains (lists g) m → m ≡ damaged n
+damaged_alone g n is m has = only_one (damaged n) m (subst (λ (f : Found). Contains (list_choices f (in_progress g)) m) is has)
 
 stored_too : (f : Found) (c : Option (Command × Bool)) → Contains (list_choices f c) (stored_after f c)
 stored_too (found l) (Some (c, true)) = (1, omega arith, refl)

@@ -1,4 +1,7 @@
 mod Worked
+mod WorkedRings
+mod WorkedDevice
+mod WorkedStops
 mod Commands
 mod Leaving
 mod Opening

@@ -7,6 +7,15 @@ use Rattle.ark_media.specs.Stops.{MayHold, MayLeave, Whole}
 use Rattle.ark_media.proofs.Stopping.{current_same, current_other, other_write, now_may, sync_narrows}
 use Rattle.ark_caladan.specs.Moving.{OnDisk, Moving, Rests, Elsewhere, and}
 
+-- what a stop may leave of the area's blocks gains nothing by an event elsewhere
+pub images_elsewhere : (blocks : List ℕ) (base : List (List ℕ)) → OnDisk blocks base → (j : List Event) (call : Call) (ok : Bool) (e : Event) → Elsewhere blocks call → Comes call ok e
+    → (k : ℕ) → k < length blocks → (c : List ℕ) → MayHold Whole base (e ∷ j) (get_or blocks k 0) c → MayHold Whole base j (get_or blocks k 0) c
+images_elsewhere blocks base on_disk j (Reads n) ok e away came k lt c left = subst (λ (ev : Event). MayHold Whole base (ev ∷ j) (get_or blocks k 0) c) came left
+images_elsewhere blocks base on_disk j Syncs ok e away came k lt c left =
+    sync_narrows Whole (λ x. refl) base j ok (get_or blocks k 0) (on_disk.inside k lt) c (subst (λ (ev : Event). MayHold Whole base (ev ∷ j) (get_or blocks k 0) c) came left)
+images_elsewhere blocks base on_disk j (Writes n written) ok e away came k lt c left =
+    other_write Whole base j n (get_or blocks k 0) written came.0 ok (away k lt) c (subst (λ (ev : Event). MayHold Whole base (ev ∷ j) (get_or blocks k 0) c) came.2 left)
+
 module _ (blocks : List ℕ) (base : List (List ℕ)) (on_disk : OnDisk blocks base) (j : List Event) (a b : ℕ → List ℕ) where
   abbrev pos : ℕ → ℕ
   pos k = get_or blocks k 0
@@ -16,15 +25,15 @@ module _ (blocks : List ℕ) (base : List (List ℕ)) (on_disk : OnDisk blocks b
 
   -- events elsewhere leave it, and so do syncs, failed or not
   pub elsewhere : (done : ℕ → Bool) (call : Call) (ok : Bool) (e : Event) → Elsewhere blocks call → Comes call ok e → Moving blocks base j a b done → Moving blocks base (e ∷ j) a b done
-  elsewhere done (Reads n) ok e away came moving = subst (λ (ev : Event). Moving blocks base (ev ∷ j) a b done) (sym came) (record { left = moving.left; now = moving.now })
-  elsewhere done Syncs ok e away came moving = subst (λ (ev : Event). Moving blocks base (ev ∷ j) a b done) (sym came) (record {
-    left = λ k lt content left. moving.left k lt content (sync_narrows Whole (λ c. refl) base j ok (pos k) (on_disk.inside k lt) content left);
-    now = moving.now;
-  })
-  elsewhere done (Writes n written) ok e away came moving = subst (λ (ev : Event). Moving blocks base (ev ∷ j) a b done) (sym came.2) (record {
-    left = λ k lt content left. moving.left k lt content (other_write Whole base j n (pos k) written came.0 ok (away k lt) content left);
-    now = λ k lt is_done. current_other base j n (pos k) written came.0 ok (away k lt) ∙ moving.now k lt is_done;
-  })
+  elsewhere done call ok e away came moving = record {
+    left = λ k lt content left. moving.left k lt content (images_elsewhere blocks base on_disk j call ok e away came k lt content left);
+    now = λ k lt is_done. stays call away came k lt ∙ moving.now k lt is_done;
+  }
+    where
+      stays : (called : Call) → Elsewhere blocks called → Comes called ok e → (k : ℕ) → k < length blocks → block (current base (e ∷ j)) (pos k) ≡ block (current base j) (pos k)
+      stays (Reads n) off is k lt = ap (λ (ev : Event). block (current base (ev ∷ j)) (pos k)) is
+      stays Syncs off is k lt = ap (λ (ev : Event). block (current base (ev ∷ j)) (pos k)) is
+      stays (Writes n written) off is k lt = ap (λ (ev : Event). block (current base (ev ∷ j)) (pos k)) is.2 ∙ current_other base j n (pos k) written is.0 ok (off k lt)
 
   -- and bytes put out
   pub output_leaves : (done : ℕ → Bool) (bytes : List ℕ) → Moving blocks base j a b done → Moving blocks base (Out bytes ∷ j) a b done

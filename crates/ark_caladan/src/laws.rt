@@ -1,14 +1,14 @@
 // Laws of the definitions, each the contract of a function that does nothing.
-ghost use Rattle.std.specs.Prelude.{◌<◌, Some, ◌≡◌, ◌≤◌, ◌⊎◌, ◌∷◌, drop, ◌+◌, ◌-◌, ◌*◌, ℕ, List, length, take, Contains};
+ghost use Rattle.std.specs.Prelude.{◌<◌, Bool, Some, None, ◌≡◌, ◌≤◌, ◌⊎◌, ◌∷◌, drop, ◌+◌, ◌-◌, ◌*◌, ℕ, List, length, take, Contains};
 ghost use Rattle.ark_base.specs.declared.kind.Kind.{Kind};
 ghost use Rattle.ark_media.specs.Journal.{zero_block};
 ghost use Rattle.ark_entry.specs.Header.{Header, header_of};
 ghost use Rattle.ark_entry.specs.Reading.{reading};
 ghost use Rattle.ark_entry.specs.Repair.{used_by, blocks_read};
 ghost use Rattle.ark_entry.specs.Entry.{entry_blocks};
-ghost use Rattle.ark_entry.specs.Found.{Entries, found, found_of};
+ghost use Rattle.ark_entry.specs.Found.{Entries, Found, found, damaged, found_of};
 ghost use Rattle.ark_entry.specs.Writing.{zeroed};
-ghost use Rattle.ark_caladan.specs.Chain.{Command, append, trim, pop, after, after_all, next_number, blocks_of, phases_of, moves_of, Log, lists, stored};
+ghost use Rattle.ark_caladan.specs.Chain.{Command, append, trim, pop, after, after_all, next_number, blocks_of, phases_of, moves_of, Log, in_progress, lists, stored};
 ghost use Rattle.ark_caladan.specs.Numbers.{Fits, AllFit, GoesOn, payload_of};
 ghost use Rattle.ark_caladan.specs.Leaves.{Lies, IsRing, Holds, HasRoom, with_draft, with_entry, dropped_by, freed_by, HeaderAfter, Repairs};
 
@@ -29,10 +29,14 @@ pub fn move_laws()
     ensures pop_moves { (l : Entries) (n : ℕ) → moves_of (phases_of l (pop n)) ≡ 2 * blocks_of (take 1 l.payloads) + 3 }
 {}
 
-/// What a stop may leave of a log holds its acknowledged list, and what an opening would find.
+/// What a stop may leave of a log holds its acknowledged list, and what an opening would find. While a command is in progress it is
+/// that list or the list after the command, and nothing else; with no command, or where the log is damaged, what is acknowledged alone.
 pub fn list_laws()
     ensures acknowledged_is_listed { (g : Log) → Contains (lists g) g.list }
     ensures stored_is_listed { (g : Log) → Contains (lists g) (stored g) }
+    ensures only_listed { (g : Log) (l : Entries) (c : Command × Bool) → g.list ≡ found l → in_progress g ≡ Some c → (m : Found) → Contains (lists g) m → (m ≡ found l) ⊎ (m ≡ found (after l c.0)) }
+    ensures none_else { (g : Log) → in_progress g ≡ None → (m : Found) → Contains (lists g) m → m ≡ g.list }
+    ensures damaged_alone { (g : Log) (n : ℕ) → g.list ≡ damaged n → (m : Found) → Contains (lists g) m → m ≡ damaged n }
 {}
 
 /// What is found in a ring while an append is carried out, whichever of its writes are there: the list, or, from the write of the

@@ -3,7 +3,7 @@ ghost use Rattle.std.specs.Prelude.{◌≡◌, ◌≤◌, ◌<◌, ◌⊎◌, �
 ghost use Rattle.ark_base.specs.declared.kind.Kind.{Kind};
 ghost use Rattle.ark_media.specs.Journal.{Event, Out, current};
 ghost use Rattle.ark_media.specs.Calls.{Call, Writes, Syncs, Comes};
-ghost use Rattle.ark_media.specs.Stops.{MayLeave, Whole};
+ghost use Rattle.ark_media.specs.Stops.{MayHold, MayLeave, Whole};
 ghost use Rattle.ark_entry.specs.Header.{Header};
 ghost use Rattle.ark_entry.specs.Found.{Entries, found, found_of};
 ghost use Rattle.ark_entry.specs.Reading.{reading};
@@ -14,10 +14,12 @@ ghost use Rattle.ark_caladan.specs.Numbers.{Fits};
 ghost use Rattle.ark_caladan.specs.Leaves.{Lies, HasRoom, with_draft, with_entry, dropped_by, freed_by, HeaderAfter};
 ghost use Rattle.ark_caladan.specs.Moving.{OnDisk, Moving, Rests, Elsewhere, and, view, view_of, AllBlocks, area_of, repaired, Opens};
 
-/// What each event does to an area that moves from view a to view b. It goes on so at any call elsewhere, at any sync, and at any
-/// write of a block of b at its place, whether that fails or not. A write that succeeds is done. A sync that succeeds when all
-/// that differs is done leaves b alone.
+/// What each event does to an area that moves from view a to view b. One of a call elsewhere, as a write of other blocks, a read or a
+/// sync, adds nothing to what a stop may leave of the area, and it goes on so. It goes on so, too, at any write of a block of b at its
+/// place, whether that fails or not. A write that succeeds is done. A sync that succeeds when all that differs is done leaves b alone.
 pub fn moving_laws()
+    ensures images_elsewhere { (blocks : List ℕ) (base : List (List ℕ)) → OnDisk blocks base → (j : List Event) (call : Call) (ok : Bool) (e : Event) → Elsewhere blocks call → Comes call ok e
+        → (k : ℕ) → k < length blocks → (c : List ℕ) → MayHold Whole base (e ∷ j) (get_or blocks k 0) c → MayHold Whole base j (get_or blocks k 0) c }
     ensures elsewhere { (blocks : List ℕ) (base : List (List ℕ)) → OnDisk blocks base → (j : List Event) (a b : ℕ → List ℕ) (done : ℕ → Bool) (call : Call) (ok : Bool) (e : Event)
         → Elsewhere blocks call → Comes call ok e → Moving blocks base j a b done → Moving blocks base (e ∷ j) a b done }
     ensures output_leaves { (blocks : List ℕ) (base : List (List ℕ)) → OnDisk blocks base → (j : List Event) (a b : ℕ → List ℕ) (done : ℕ → Bool) (bytes : List ℕ)

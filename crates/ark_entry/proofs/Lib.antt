@@ -1,4 +1,5 @@
 mod Worked
+pub mod WorkedRings
 pub mod Headers
 pub mod Emptiness
 pub mod Entries

@@ -55,14 +55,14 @@ zeros : found_of Queue (replicate 8 zero_block) ≡ found (record { first = 1; p
 zeros = refl
 
 -- an entry of 600 bytes whose two blocks are the last and the first of a ring of three
-wrapped : List ℕ
+abbrev pub wrapped : List ℕ
 wrapped = marked (entry_bytes 2 1 (replicate 600 7))
 
 wrapped_view : List (List ℕ)
 wrapped_view = header_bytes Log 2 2 0 2 ∷ (drop 512 wrapped ∷ (zero_block ∷ (take 512 wrapped ∷ [])))
 
 wraps : found_of Log wrapped_view ≡ found (record { first = 2; payloads = replicate 600 7 ∷ [] })
-unfolding wrapped wrapped_view
+unfolding wrapped_view
 wraps = refl
 
 -- 1, 1, 2 and 65 blocks

@@ -12,6 +12,8 @@ use Rattle.ark_filters.specs.declared.filter.Proto.TheVariants.{Eth, Ip, Udp, Tc
 use Rattle.ark_filters.specs.Filter.{is_peer, is_service}
 use Rattle.ark_filters.specs.In.{some_packet_matches, is_in}
 use Rattle.ark_filters.specs.Overlap.{Overlaps, peers_meet, services_meet, meets}
+use Rattle.ark_filters.specs.Rule.{IsReceiveRule}
+use Rattle.ark_filters.proofs.Overlapping.{some_own, some_is_own, turned, meets_overlap}
 use Rattle.ark_filters.proofs.Meeting.{peers_share, services_share}
 use Rattle.ark_filters.proofs.Receive.{receive, is_receive}
 use Rattle.ark_filters.proofs.Matched.{sender, port, eth_has, ip_seen, udp_seen, tcp_seen, one_packet, type_of_packet, ip_has, udp_has, tcp_has}
@@ -103,3 +105,8 @@ both_match f g own bytes hf hg first second =
 
 pub overlap_meets : (f g : Filter) (own : Own) → f.direction ≡ Rx → g.direction ≡ Rx → Overlaps f g own → meets f g ≡ true
 overlap_meets f g own hf hg both = both_match f g own both.frame hf hg both.first both.second
+
+-- so the order of the two does not matter
+pub both_ways : (f g : Filter) → IsReceiveRule f → IsReceiveRule g → meets f g ≡ true → meets g f ≡ true
+both_ways f g hf hg met =
+    overlap_meets g f some_own hg.direction hf.direction (turned f g some_own (meets_overlap f g some_own hf.direction hg.direction hf.rule hg.rule some_is_own met))

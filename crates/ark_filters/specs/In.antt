@@ -1,4 +1,4 @@
--- Which frames match a filter.
+-- Which frames match a filter. Ours, over fields of Ethernet (IEEE 802.3), IPv4 (RFC 791), UDP (RFC 768) and TCP (RFC 9293).
 use Rattle.std.specs.Prelude.{ℕ, List, [], ◌∷◌, ◌++◌, length, Bool, not, false, ◌&&◌, nat_eq, nat_le, bytes_eq, Option, Some, None}
 use Rattle.ark_packet.specs.Wire.{word_at}
 use Rattle.ark_packet.specs.Ip.{Packet, seen}

@@ -1,4 +1,4 @@
--- When two receive filters overlap: some frame matches both.
+-- When two receive filters overlap: some frame matches both. Ours: no standard fixes it.
 use Rattle.std.specs.Prelude.{◌≡◌, ℕ, ◌<◌, ◌≤◌, List, take, length, slice_index, Bool, true, false, ◌&&◌, ◌||◌, nat_eq, nat_le}
 use Rattle.std.specs.List.{list_any}
 use Rattle.ark_packet.specs.declared.own.Own.{Own}

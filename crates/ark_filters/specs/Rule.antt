@@ -1,4 +1,5 @@
--- The filters that a line can give.
+-- The filters that a line can give. Ours; addresses and services have the sizes of IEEE 802.3, RFC 791, RFC 768
+-- and RFC 9293.
 use Rattle.std.specs.Prelude.{◌≡◌, ℕ, ◌-◌, ◌<◌, ◌≤◌, List, take, drop, length, replicate, slice_index}
 use Rattle.std.specs.List.{All}
 use Rattle.ark_packet.specs.Wire.{IsAddress}

@@ -1,3 +1,4 @@
+mod Worked
 pub mod Parting
 pub mod Composing
 pub mod Planning

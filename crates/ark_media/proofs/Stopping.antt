@@ -1,9 +1,9 @@
 -- What each event does to what a stop may leave, and that the recursion says what the words say.
 use Rattle.std.proofs.Common.{◌≡◌, ◌⊎◌, inl, inr, ⊎_elim, ℕ, ◌<◌, Bool, true, false, List, [], ◌∷◌, ◌++◌, length, refl, sym, ◌∙◌, ap, subst, arith, get_or-set_same, get_or-set_other}
 use Rattle.std.proofs.lemmas.Bool.{cases_eq}
-use Rattle.std.proofs.lemmas.List.{length-set}
+use Rattle.std.proofs.lemmas.List.{length-set, ext_get_or}
 use Rattle.ark_media.specs.Journal.{Event, Read, Write, Sync, Out, block, current}
-use Rattle.ark_media.specs.Stops.{MayHold, MayLeave, NoSync, WrittenIn, IsLeft, LeftInWords}
+use Rattle.ark_media.specs.Stops.{MayHold, MayLeave, AnyBytes, NoSync, WrittenIn, IsLeft, LeftInWords}
 
 abbrev Image : Type 0
 Image = List (List ℕ)
@@ -42,6 +42,19 @@ now_may Torn whole base (Read m ok ∷ j) n lt = now_may Torn whole base j n lt
 now_may Torn whole base (Sync true ∷ j) n lt = refl
 now_may Torn whole base (Sync false ∷ j) n lt = now_may Torn whole base j n lt
 now_may Torn whole base (Out bytes ∷ j) n lt = now_may Torn whole base j n lt
+
+-- so what stands is an image that it may leave
+pub now_left : (Torn : List ℕ → List ℕ → Type 0) → ((c : List ℕ) → Torn c c) → (base : Image) (j : List Event) → MayLeave Torn base j (current base j)
+now_left Torn whole base j = record { size = length-current base j; each = λ n lt. now_may Torn whole base j n lt }
+
+-- and after a sync that succeeded the only one
+pub synced_alone : (Torn : List ℕ → List ℕ → Type 0) (base : Image) (j : List Event) (image : Image) → MayLeave Torn base (Sync true ∷ j) image → image ≡ current base j
+synced_alone Torn base j image leaves =
+    ext_get_or [] image (current base j) (leaves.size ∙ sym (length-current base j)) (λ n lt. leaves.each n (omega (arith, leaves.size, lt)))
+
+-- any bytes: also those that were written
+pub any_same : (c : List ℕ) → AnyBytes c c
+any_same c = record { size = refl; bytes = λ are. are }
 
 -- a sync narrows
 pub sync_narrows : (Torn : List ℕ → List ℕ → Type 0) → ((c : List ℕ) → Torn c c) → (base : Image) (j : List Event) (ok : Bool) (n : ℕ) → n < length base → (b : List ℕ) → MayHold Torn base (Sync ok ∷ j) n b → MayHold Torn base j n b

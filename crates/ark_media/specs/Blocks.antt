@@ -1,4 +1,4 @@
--- Bytes as blocks, and blocks as bytes.
+-- Bytes as blocks, and blocks as bytes. Ours: no standard fixes them.
 use Rattle.std.specs.Prelude.{◌≡◌, ℕ, zero, suc, ◌/◌, List, [], ◌∷◌, ◌++◌, length, take, drop}
 
 -- the first n blocks of the bytes

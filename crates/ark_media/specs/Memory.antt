@@ -1,4 +1,4 @@
--- What a device in memory notes.
+-- What a device in memory notes. Ours: no standard fixes it.
 use Rattle.std.specs.Prelude.{◌≡◌, ◌<◌, ◌≤◌, ◌+◌, ◌*◌, ◌%◌, ℕ, Bool, true, false, List, [], ◌∷◌, ◌++◌, Option, Some, None, length}
 use Rattle.ark_media.specs.Journal.{Event, History, onto, output_of}
 use Rattle.ark_media.specs.Calls.{Told}

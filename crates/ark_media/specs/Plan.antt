@@ -1,4 +1,4 @@
--- Which calls fail.
+-- Which calls fail. Ours: no standard fixes it.
 use Rattle.std.specs.Prelude.{ℕ, ◌<◌, ◌≤◌, ◌==◌, leb, List, [], ◌∷◌, if◌then◌else◌}
 use Rattle.ark_media.specs.declared.schedule.Fail.{Fail}
 use Rattle.ark_media.specs.declared.schedule.Turn.{Turn}

@@ -1,4 +1,4 @@
--- The base that is told has the size of the device.
+-- The base that is told has the size of the device. Ours: no standard fixes it.
 use Rattle.std.specs.Prelude.{◌≡◌, ℕ, Bool, true, false, [], Option, Some, None, length, refl}
 use Rattle.std.proofs.Common.{subst}
 use Rattle.ark_media.specs.Journal.{History, onto}

@@ -1,4 +1,4 @@
--- What a kept event stands for.
+-- What a kept event stands for. Ours: no standard fixes it.
 use Rattle.std.specs.Prelude.{◌≡◌, ℕ, ◌-◌, ◌<◌, ◌≤◌, List, [], ◌∷◌, length, map, take, drop, get_or}
 use Rattle.ark_media.specs.Journal.{Event, Read, Write, Sync, Out, output_of}
 use Rattle.ark_media.specs.declared.tape.Kept.{Kept}

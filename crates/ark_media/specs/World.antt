@@ -1,4 +1,4 @@
--- What each call of a world in memory does.
+-- What each call of a world in memory does. Ours: no standard fixes it.
 use Rattle.std.specs.Prelude.{◌≡◌, ℕ, ◌+◌, ◌-◌, ◌^◌, min, Bool, true, false, List, Some, take}
 use Rattle.ark_media.specs.Journal.{Event, Read, Write, Sync, Out}
 use Rattle.ark_media.specs.Calls.{Told, Beside, Moves}

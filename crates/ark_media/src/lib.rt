@@ -2,6 +2,7 @@
 #![tactic(auto)]
 
 mod event;
+mod laws;
 mod memory;
 mod outside;
 mod recorded;
@@ -10,6 +11,7 @@ mod source;
 mod tape;
 
 pub use event::Event;
+pub use laws::stop_laws;
 pub use memory::MemoryWorld;
 pub use outside::{AttachFailed, Disk, DiskFailed, Outside, SinkFailed, SourceFailed};
 pub use schedule::Fail;

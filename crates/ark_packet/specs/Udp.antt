@@ -7,7 +7,7 @@ use Rattle.ark_packet.specs.declared.udp.Udp.{Udp}
 use Rattle.ark_packet.specs.declared.udp.Bad.{Bad}
 use Rattle.ark_packet.specs.declared.udp.Bad.TheVariants as bad
 
--- a datagram as plain data
+-- a datagram as plain data: which fields are kept is ours
 pub record Datagram : Type 0 where
   pub from : List ℕ
   pub to : List ℕ
@@ -19,25 +19,29 @@ abbrev pub shown : Result Udp Bad → Result Datagram Bad
 shown (Err e) = Err e
 shown (Ok u) = Ok (record { from = u.from; to = u.to; from_port = u.from_port; to_port = u.to_port; payload = u.payload.now })
 
--- The header: source port, destination port, length, checksum, two octets each. The length counts header and data.
+-- The header: source port, destination port, length, checksum, two octets each (RFC 768, Format). The length counts
+-- header and data (RFC 768, Fields).
 abbrev pub length_field : List ℕ → ℕ
 length_field octets = word_at octets 4
 
+-- The length is 8 at least (RFC 768, Fields), and its octets are there. That it may be below the payload's, what follows being
+-- skipped, is ours.
 abbrev pub has_length : List ℕ → Bool
 has_length octets = nat_le 8 (length octets) && (nat_le 8 (length_field octets) && nat_le (length_field octets) (length octets))
 
--- header and data, as the length says
+-- header and data, as the length says (RFC 768, Fields)
 abbrev pub octets_of : Packet → List ℕ
 octets_of p = take (length_field p.payload) p.payload
 
--- What the checksum covers: source, destination, a zero, the protocol, the length, and then header and data.
+-- What the checksum covers: source, destination, a zero, the protocol, the length, and then header and data (RFC 768, Fields).
 abbrev pub covered : List ℕ → List ℕ → ℕ → List ℕ → List ℕ
 covered from to protocol octets = from ++ (to ++ ((0 ∷ (protocol ∷ slice_range octets 4 6)) ++ octets))
 
--- A checksum field of zero says that there is none.
+-- A checksum field of zero says that there is none (RFC 768, Fields).
 abbrev pub is_sum_right : List ℕ → List ℕ → ℕ → List ℕ → Bool
 is_sum_right from to protocol octets = nat_eq (word_at octets 6) 0 || is_right (covered from to protocol octets)
 
+-- ports by their places, and the data behind the header (RFC 768, Format)
 abbrev pub datagram_of : Packet → Datagram
 datagram_of p = record {
   from = p.from;
@@ -47,7 +51,8 @@ datagram_of p = record {
   payload = drop 8 (octets_of p);
 }
 
--- The datagram of an IPv4 part, or the first of the refusals that holds.
+-- The datagram of an IPv4 part of protocol 17 (RFC 768, Protocol Number), or the first of the refusals that holds. Their order is
+-- ours, and that a fragment is refused and not put together.
 abbrev pub datagram_in : Option Packet → Result Datagram Bad
 datagram_in None = Err bad.Kind
 datagram_in (Some p) =
