@@ -1,6 +1,6 @@
 -- Another content of the object under one label.
-use Rattle.std.proofs.Common.{◌≡◌, ℕ, ◌+◌, Bool, true, false, cond, List, [], ◌∷◌, length, map, refl, sym, ◌∙◌, ap, subst, arith, bytes_eq}
-use Rattle.std.specs.Prelude.{Option, Some, None, find, slice_get, slice_index_or}
+use Rattle.std.proofs.Common.{◌≡◌, ℕ, ◌+◌, true, false, cond, List, [], ◌∷◌, length, map, refl, sym, ◌∙◌, ap, subst, arith, bytes_eq}
+use Rattle.std.specs.Prelude.{Some, None, find, slice_get, slice_index_or}
 use Rattle.ark_caps.specs.Labels.{value_at}
 use Rattle.ark_caps.specs.declared.capability.Capability.{Capability}
 use Rattle.ark_machine.specs.Objects.{Object}
@@ -10,8 +10,8 @@ use Rattle.ark_held.specs.Totals.{bit, total, cover_count, object_covers}
 use Rattle.ark_held.specs.Around.{Around, slot_at}
 use Rattle.ark_held.specs.Held.{Fits, AllMatch, Matches, AreApart, AreOwn, Holds, area_labels}
 use Rattle.ark_held.specs.Keeps.{Keeps, any_label, any_piece}
-use Rattle.ark_held.proofs.Lists.{by_test, same_name, name_same, head_apart, value_first, value_behind}
-use Rattle.ark_held.proofs.Finding.{its_own, none_found}
+use Rattle.ark_held.proofs.Lists.{by_test, same_name, head_apart, value_first, value_behind}
+use Rattle.ark_held.proofs.Finding.{its_own}
 use Rattle.ark_held.proofs.Staying.{within}
 use Rattle.ark_held.proofs.Keeping.{matches_kept}
 use Rattle.ark_held.proofs.Creating.{but, but_other}
@@ -59,10 +59,10 @@ module _ (x y : Around) (l : List ℕ) (g : Held) (o : Object) (keeps : Keeps (b
       subst (λ (k : List ℕ). AllMatch y (p ∷ ps) (cond (bytes_eq l k) (holding o h) h ∷ map (put_at l o) hs)) (sym all.0.label)
       (by_test (λ t. bytes_eq l p.0 ≡ t → AllMatch y (p ∷ ps) (cond t (holding o h) h ∷ map (put_at l o) hs)) (bytes_eq l p.0)
       (λ yes q.
-          let none : value_at ps l ≡ None = ap (λ k. value_at ps k) (same_name l p.0 q) ∙ apart.0 in (
-            here p h q (its_own x l p ps h g hs all.0 q is) (among p.0 p.1 (value_first p ps)) all.0,
-            subst (λ (zs : List Held). AllMatch y ps zs) (sym (none_put x l o ps hs all.1 none)) (all_there ps hs apart.1 none (λ k c at. among k c (value_behind p ps k c apart at)) all.1),
-          ))
+      let none : value_at ps l ≡ None = ap (λ k. value_at ps k) (same_name l p.0 q) ∙ apart.0 in (
+        here p h q (its_own x l p ps h g hs all.0 q is) (among p.0 p.1 (value_first p ps)) all.0,
+        subst (λ (zs : List Held). AllMatch y ps zs) (sym (none_put x l o ps hs all.1 none)) (all_there ps hs apart.1 none (λ k c at. among k c (value_behind p ps k c apart at)) all.1),
+      ))
       (λ no q. (
         there p h q (among p.0 p.1 (value_first p ps)) all.0,
         all_changed ps hs apart.1 (λ k c at. among k c (value_behind p ps k c apart at))
@@ -82,13 +82,13 @@ total_put x l o g f (p ∷ ps) (h ∷ hs) apart all is =
     subst (λ (k : List ℕ). total (λ z. f z.object) (cond (bytes_eq l k) (holding o h) h ∷ map (put_at l o) hs) + f g.object ≡ total (λ z. f z.object) (h ∷ hs) + f o) (sym all.0.label)
     (by_test (λ t. bytes_eq l p.0 ≡ t → total (λ z. f z.object) (cond t (holding o h) h ∷ map (put_at l o) hs) + f g.object ≡ total (λ z. f z.object) (h ∷ hs) + f o) (bytes_eq l p.0)
     (λ yes q.
-        let none : value_at ps l ≡ None = ap (λ k. value_at ps k) (same_name l p.0 q) ∙ apart.0 in
-        let rest : total (λ (z : Held). f z.object) (map (put_at l o) hs) ≡ total (λ (z : Held). f z.object) hs = ap (λ (zs : List Held). total (λ z. f z.object) zs) (none_put x l o ps hs all.1 none) in
-        let same : f h.object ≡ f g.object = ap (λ (z : Held). f z.object) (its_own x l p ps h g hs all.0 q is) in
-        omega (arith, rest, same))
+    let none : value_at ps l ≡ None = ap (λ k. value_at ps k) (same_name l p.0 q) ∙ apart.0 in
+    let rest : total (λ (z : Held). f z.object) (map (put_at l o) hs) ≡ total (λ (z : Held). f z.object) hs = ap (λ (zs : List Held). total (λ z. f z.object) zs) (none_put x l o ps hs all.1 none) in
+    let same : f h.object ≡ f g.object = ap (λ (z : Held). f z.object) (its_own x l p ps h g hs all.0 q is) in
+    omega (arith, rest, same))
     (λ no q.
-        let rest = total_put x l o g f ps hs apart.1 all.1 (sym (ap (λ b. cond b (Some h) (find (λ z. bytes_eq l z.label) hs)) (ap (λ k. bytes_eq l k) all.0.label ∙ q)) ∙ is) in
-        omega (arith, rest)) refl)
+    let rest = total_put x l o g f ps hs apart.1 all.1 (sym (ap (λ b. cond b (Some h) (find (λ z. bytes_eq l z.label) hs)) (ap (λ k. bytes_eq l k) all.0.label ∙ q)) ∙ is) in
+    omega (arith, rest)) refl)
 total_put x l o g f [] (h ∷ hs) apart all is = absurd all
 total_put x l o g f (p ∷ ps) [] apart all is = absurd all
 

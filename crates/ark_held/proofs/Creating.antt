@@ -1,17 +1,17 @@
 -- A new object under a new label.
-use Rattle.std.proofs.Common.{◌≡◌, inl, inr, ℕ, ◌+◌, Bool, true, false, not, List, [], ◌∷◌, ◌++◌, length, refl, sym, ◌∙◌, ap, subst, arith, bytes_eq}
-use Rattle.std.specs.Prelude.{Option, Some, None, slice_get, slice_index_or}
+use Rattle.std.proofs.Common.{◌≡◌, inl, inr, ℕ, ◌+◌, Bool, true, false, not, List, [], ◌∷◌, ◌++◌, length, refl, sym, ◌∙◌, ap, subst, bytes_eq}
+use Rattle.std.specs.Prelude.{Some, None, slice_get, slice_index_or}
 use Rattle.std.proofs.lemmas.List.{length-append}
 use Rattle.ark_caps.specs.Labels.{value_at}
 use Rattle.ark_caps.specs.declared.capability.Capability.{Capability}
 use Rattle.ark_machine.specs.Objects.{Object}
 use Rattle.ark_machine.specs.Machine.{Machine, Held, with_new}
 use Rattle.ark_held.specs.Words.{Labels}
-use Rattle.ark_held.specs.Totals.{bit, total, cover_count, object_covers}
+use Rattle.ark_held.specs.Totals.{bit, cover_count, object_covers}
 use Rattle.ark_held.specs.Around.{Around, slot_at}
 use Rattle.ark_held.specs.Held.{Fits, AllMatch, Matches, AreOwn, Holds, area_labels, has_key}
 use Rattle.ark_held.specs.Keeps.{Keeps, any_label, any_piece}
-use Rattle.ark_held.proofs.Lists.{by_test, same_name, name_other, other_name, not_some, some_same, number_last, number_cases, value_last, value_other, apart_last, total_last}
+use Rattle.ark_held.proofs.Lists.{by_test, same_name, name_other, not_some, some_same, number_last, number_cases, value_last, value_other, apart_last, total_last}
 use Rattle.ark_held.proofs.Finding.{stands_at}
 use Rattle.ark_held.proofs.Staying.{all_kept, all_stay}
 

@@ -1,7 +1,6 @@
 -- What stands under one label, and how many objects there are of a kind.
-use Rattle.std.proofs.Common.{◌≡◌, ℕ, suc, Bool, true, false, cond, List, [], ◌∷◌, ◌++◌, length, refl, sym, ◌∙◌, ap, subst, bytes_eq}
-use Rattle.std.specs.Prelude.{Option, Some, None, find, slice_get, filter as select}
-use Rattle.std.proofs.lemmas.Bool.{false≢true}
+use Rattle.std.proofs.Common.{◌≡◌, ℕ, suc, Bool, true, false, cond, List, [], ◌∷◌, length, refl, sym, ◌∙◌, ap, subst, bytes_eq}
+use Rattle.std.specs.Prelude.{Option, Some, None, find, filter as select}
 use Rattle.ark_caps.specs.Labels.{value_at}
 use Rattle.ark_caps.specs.declared.capability.Capability.{Capability}
 use Rattle.ark_machine.specs.Objects
@@ -9,8 +8,8 @@ use Rattle.ark_machine.specs.Objects.{Object, is_vsa}
 use Rattle.ark_machine.specs.Machine.{Held, at, count_of}
 use Rattle.ark_held.specs.Words.{Labels}
 use Rattle.ark_held.specs.Around.{Around}
-use Rattle.ark_held.specs.Held.{Fits, Matches, AllMatch, AtLabel, Holds, AreApart, is_area, area_labels}
-use Rattle.ark_held.proofs.Lists.{by_test, same_name, name_other, other_name, not_some, some_same, head_apart}
+use Rattle.ark_held.specs.Held.{Fits, Matches, AllMatch, AtLabel, Holds, is_area, area_labels}
+use Rattle.ark_held.proofs.Lists.{by_test, same_name, not_some, some_same}
 
 -- Under one label.
 

@@ -1,10 +1,7 @@
 -- An application that was just made holds nothing.
-use Rattle.std.proofs.Common.{◌≡◌, ℕ, zero, suc, Bool, true, false, List, [], ◌∷◌, length, replicate, refl, sym, ◌∙◌, ap, subst}
-use Rattle.std.specs.Prelude.{Option, Some, None, slice_get, slice_index_or, is_some}
-use Rattle.std.proofs.lemmas.Bool.{false≢true}
+use Rattle.std.proofs.Common.{◌≡◌, ℕ, zero, suc, Bool, true, false, List, [], length, replicate, refl, sym, ◌∙◌, ap, subst}
+use Rattle.std.specs.Prelude.{Some, None, slice_get, slice_index_or}
 use Rattle.std.proofs.lemmas.List.{length-replicate}
-use Rattle.ark_caps.specs.Labels.{value_at}
-use Rattle.ark_caps.specs.declared.capability.Capability.{Capability}
 use Rattle.ark_machine.specs.Machine.{Held}
 use Rattle.ark_held.specs.Words.{Labels, AreaList}
 use Rattle.ark_held.specs.Totals.{bit, total, object_covers}

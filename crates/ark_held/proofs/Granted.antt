@@ -1,6 +1,6 @@
 -- A new raw area under a new label.
 use Rattle.std.proofs.Common.{◌≡◌, ℕ, ◌+◌, Bool, true, false, cond, not, ◌&&◌, List, [], ◌∷◌, ◌++◌, length, nat_eq, refl, sym, ◌∙◌, ap, subst, arith, bytes_eq}
-use Rattle.std.specs.Prelude.{Option, Some, None, find, option_map, option_and_then, slice_get, slice_index_or, is_some}
+use Rattle.std.specs.Prelude.{Option, Some, None, find, option_map, option_and_then, slice_get, slice_index_or}
 use Rattle.std.specs.Option.{option_or}
 use Rattle.std.specs.Map.{lookup}
 use Rattle.std.proofs.lemmas.Bool.{false≢true}
@@ -27,7 +27,7 @@ use Rattle.ark_held.specs.Around.{Around, slot_at}
 use Rattle.ark_held.specs.Areas.{IsRaw}
 use Rattle.ark_held.specs.Held.{Holds, is_area, area_labels, has_key}
 use Rattle.ark_held.specs.Keeps.{SameAt, Keeps, any_label, any_piece}
-use Rattle.ark_held.proofs.Lists.{name_same, not_some, number_front, lookup_front, lookup_last, lookup_other, turned, total_last}
+use Rattle.ark_held.proofs.Lists.{name_same, number_front, lookup_front, lookup_last, lookup_other, turned, total_last}
 use Rattle.ark_held.proofs.Besides.{same_told}
 use Rattle.ark_held.proofs.Finding.{stands_at}
 use Rattle.ark_held.proofs.Creating.{but, created}

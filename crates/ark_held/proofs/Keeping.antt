@@ -1,7 +1,6 @@
 -- The frame law: what an object's label stands for stays, where what the object names and has stays.
-use Rattle.std.proofs.Common.{◌≡◌, ℕ, zero, suc, ◌+◌, ◌<◌, ◌≤◌, Bool, true, false, List, [], ◌∷◌, length, map, get_or, refl, sym, ◌∙◌, ap, subst, arith}
-use Rattle.std.specs.Prelude.{Option, Some, None, is_some, option_map, option_and_then, slice_get}
-use Rattle.std.specs.List.{AllByRecursion}
+use Rattle.std.proofs.Common.{◌≡◌, ℕ, zero, suc, ◌+◌, ◌<◌, ◌≤◌, Bool, true, List, [], ◌∷◌, length, get_or, refl, sym, ◌∙◌, ap, subst, arith}
+use Rattle.std.specs.Prelude.{Option, Some, None, option_map, option_and_then, slice_get}
 use Rattle.ark_base.specs.declared.kind.Outcome.{Outcome}
 use Rattle.ark_media.specs.Journal.{History, block, current}
 use Rattle.ark_entry.specs.Found.{found_of}
@@ -17,15 +16,14 @@ use Rattle.ark_machine.specs.Objects
 use Rattle.ark_machine.specs.Objects.{Object, Raw, Vsic, Vnic, Job, transfer, flush, phase, Place, named as in_buffer, taken, Paced, Buffer}
 use Rattle.ark_machine.specs.Machine.{Held}
 use Rattle.ark_machine.specs.Start.{view}
-use Rattle.ark_held.specs.Words.{Labels}
 use Rattle.ark_held.specs.Kept.{BufferKept, PaceKept, CardKept, ChainKept, WaitingKept}
-use Rattle.ark_held.specs.Around.{Around, slot_at, Names, IsGranted, Each, Both, piece_of}
-use Rattle.ark_held.specs.Areas.{IsRaw, IsListed, IsArea, IsLog, IsOpened, IsWaiting}
-use Rattle.ark_held.specs.Cards.{HasBuffer, IsPaced, IsWatched, IsJob, IsEnded, IsCard, IsBuffer}
-use Rattle.ark_held.specs.Network.{IsPlace, IsReceiving, IsReceived, IsSending, IsSent, IsNet}
-use Rattle.ark_held.specs.Held.{Fits, Matches, AllMatch, AreApart}
+use Rattle.ark_held.specs.Around.{Around, Names, IsGranted, Both, piece_of}
+use Rattle.ark_held.specs.Areas.{IsRaw, IsListed, IsOpened, IsWaiting}
+use Rattle.ark_held.specs.Cards.{HasBuffer, IsPaced, IsWatched, IsJob, IsEnded}
+use Rattle.ark_held.specs.Network.{IsPlace, IsReceiving, IsReceived, IsSending, IsSent}
+use Rattle.ark_held.specs.Held.{Fits, Matches}
 use Rattle.ark_held.specs.Keeps.{SameAt, Keeps, JobWithin, PlaceWithin, PacedWithin, LabelWithin, OpenedWithin, Within}
-use Rattle.ark_held.proofs.Lists.{each_kept, each_all, value_behind, value_first}
+use Rattle.ark_held.proofs.Lists.{each_kept, each_all}
 
 -- Areas.
 
@@ -157,7 +155,7 @@ module _ (same named : List ℕ → Bool) (rests : Piece → Bool) (x y : Around
 
   -- Objects by their labels.
 
-  fits_kept : (l : List ℕ) (c : Capability) (o : Object) → same l ≡ true → value_at x.labels l ≡ Some c → Within named rests o → Fits x l c o → Fits y l c o
+  pub fits_kept : (l : List ℕ) (c : Capability) (o : Object) → same l ≡ true → value_at x.labels l ≡ Some c → Within named rests o → Fits x l c o → Fits y l c o
   fits_kept l c (Objects.raw r) stays at w f = record {
     slot = f.slot;
     its_kind = f.its_kind;

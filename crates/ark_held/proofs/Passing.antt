@@ -1,6 +1,6 @@
 -- What an application holds, where nothing that it holds changes.
-use Rattle.std.proofs.Common.{◌≡◌, ℕ, ◌+◌, ◌≤◌, Bool, true, false, List, length, refl, sym, ◌∙◌, ap, subst, arith, nat_eq}
-use Rattle.std.specs.Prelude.{Option, Some, None, find, option_map, option_and_then, slice_get, slice_index_or}
+use Rattle.std.proofs.Common.{◌≡◌, ℕ, ◌≤◌, false, List, length, refl, sym, ◌∙◌, ap, subst, arith, nat_eq}
+use Rattle.std.specs.Prelude.{Option, Some, find, option_map, option_and_then, slice_get, slice_index_or}
 use Rattle.std.specs.Map.{lookup}
 use Rattle.ark_media.specs.Journal.{Event, History}
 use Rattle.ark_table.specs.Slots.{Slot}

@@ -1,6 +1,6 @@
 -- A block of an area that was written.
-use Rattle.std.proofs.Common.{◌≡◌, inl, inr, ⊎_elim, ℕ, ◌+◌, ◌<◌, Bool, true, false, List, [], ◌∷◌, ◌++◌, length, map, get_or, set, refl, sym, ◌∙◌, ap, subst, arith, get_or-set_same, get_or-set_other, nat_eq, Contains}
-use Rattle.std.specs.Prelude.{Option, Some, None, find, option_map, option_and_then, slice_get, slice_index_or}
+use Rattle.std.proofs.Common.{◌≡◌, inl, inr, ⊎_elim, ℕ, ◌<◌, Bool, true, false, List, [], ◌∷◌, ◌++◌, length, map, get_or, set, refl, sym, ◌∙◌, ap, subst, arith, get_or-set_same, get_or-set_other, nat_eq, Contains}
+use Rattle.std.specs.Prelude.{Option, Some, find, option_map, option_and_then, slice_get, slice_index_or}
 use Rattle.std.specs.Map.{lookup}
 use Rattle.std.proofs.lemmas.Bool.{cases_eq}
 use Rattle.std.proofs.lemmas.List.{length-set}
@@ -24,8 +24,8 @@ use Rattle.ark_held.specs.Words.{Labels, AreaList}
 use Rattle.ark_held.specs.Totals.{bit, total, uses, object_covers}
 use Rattle.ark_held.specs.Kept.{BufferKept, CardKept, Tables}
 use Rattle.ark_held.specs.Around.{Around, slot_at}
-use Rattle.ark_held.specs.Areas.{IsRaw, IsArea, MayStand}
-use Rattle.ark_held.specs.Held.{Fits, Matches, Holds}
+use Rattle.ark_held.specs.Areas.{IsRaw}
+use Rattle.ark_held.specs.Held.{Fits, Holds}
 use Rattle.ark_held.specs.Keeps.{SameAt, Keeps, any_label, any_piece}
 use Rattle.ark_held.proofs.Lists.{some_same}
 use Rattle.ark_held.proofs.Creating.{but}
@@ -51,7 +51,7 @@ module _ (base : List (List ℕ)) (j : List Event) (blocks : List ℕ) (r : Raw)
   written_maybe size was k lt c left = elim (cases_eq k off) [
     | inl same_place ↦
         let list : get_or (set r.maybe off (get_or r.maybe off [] ++ b ∷ [])) k [] ≡ get_or r.maybe off [] ++ b ∷ [] =
-            ap (λ (i : ℕ). get_or (set r.maybe off (get_or r.maybe off [] ++ b ∷ [])) i []) same_place ∙ get_or-set_same r.maybe off (get_or r.maybe off [] ++ b ∷ []) [] (omega (arith, size, near)) in
+        ap (λ (i : ℕ). get_or (set r.maybe off (get_or r.maybe off [] ++ b ∷ [])) i []) same_place ∙ get_or-set_same r.maybe off (get_or r.maybe off [] ++ b ∷ []) [] (omega (arith, size, near)) in
         subst (λ (l : List (List ℕ)). Contains l c) (sym list)
         (⊎_elim (λ new. subst (λ (z : List ℕ). Contains (get_or r.maybe off [] ++ b ∷ []) z) (sym new.1) (Contains-push (get_or r.maybe off []) b))
         (λ old. Contains-append_left (get_or r.maybe off []) (b ∷ []) c (subst (λ (i : ℕ). Contains (get_or r.maybe i []) c) same_place (was k lt c old))) left)
@@ -131,7 +131,7 @@ module _ (x y : Around) (h : Holds x) (l : List ℕ) (t : Slot) (r q : Raw) (hel
   pub written : Holds y
   written = changed x y h l held (Objects.raw q) at_l keeps machine labels numbers now (ap (λ (es : AreaList). length es) areas) slots
       (λ j.
-          let none : object_covers j held.object ≡ 0 = ap (object_covers j) object in
-          let same : bit (slice_index_or y.tables.memory.taken j false) ≡ bit (slice_index_or x.tables.memory.taken j false) = ap (λ (z : Tables). bit (slice_index_or z.memory.taken j false)) tables in
-          omega (arith, none, same))
+      let none : object_covers j held.object ≡ 0 = ap (object_covers j) object in
+      let same : bit (slice_index_or y.tables.memory.taken j false) ≡ bit (slice_index_or x.tables.memory.taken j false) = ap (λ (z : Tables). bit (slice_index_or z.memory.taken j false)) tables in
+      omega (arith, none, same))
       (λ c is m. its c (subst (λ (o : Object). Fits x l c o) object m.object))

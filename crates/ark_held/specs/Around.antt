@@ -1,5 +1,5 @@
 -- What is looked at to say what an application's labels stand for.
-use Rattle.std.specs.Prelude.{◌≡◌, ℕ, Bool, true, false, List, [], ◌∷◌, length, find, Option, Some, None}
+use Rattle.std.specs.Prelude.{◌≡◌, ℕ, List, [], ◌∷◌, length, find, Option, Some, None}
 use Rattle.ark_media.specs.Journal.{History}
 use Rattle.ark_table.specs.Slots.{Slot}
 use Rattle.ark_filters.specs.declared.live.Live.{Live}

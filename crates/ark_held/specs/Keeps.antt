@@ -2,7 +2,7 @@
 use Rattle.std.specs.Prelude.{◌≡◌, ℕ, ◌<◌, ◌≤◌, Bool, true, List, [], ◌∷◌, length, nat_eq, get_or, slice_get, find, Option, Some, None, option_map, option_and_then, Contains}
 use Rattle.std.specs.List.{AllByRecursion}
 use Rattle.std.specs.Map.{lookup}
-use Rattle.ark_media.specs.Journal.{Event, Write, History, block, current}
+use Rattle.ark_media.specs.Journal.{Event, History, block, current}
 use Rattle.ark_media.specs.Calls.{Adds}
 use Rattle.ark_table.specs.Slots.{Slot}
 use Rattle.ark_caps.specs.Labels.{value_at}

@@ -8,3 +8,4 @@ pub mod Network
 pub mod Held
 pub mod Beside
 pub mod Keeps
+pub mod Writes

@@ -1,5 +1,5 @@
 -- What network cards, filters and sockets stand for.
-use Rattle.std.specs.Prelude.{◌≡◌, ℕ, Bool, List, nat_eq, find, Option, Some, is_some, unwrap_or}
+use Rattle.std.specs.Prelude.{◌≡◌, ℕ, List, nat_eq, find, Option, Some, is_some, unwrap_or}
 use Rattle.ark_base.specs.declared.kind.Outcome.{Outcome}
 use Rattle.ark_caps.specs.declared.capability.CapKind.TheVariants as cap_kind
 use Rattle.ark_caps.specs.declared.capability.Capability.{Capability}

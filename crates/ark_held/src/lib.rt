@@ -3,6 +3,8 @@
 
 mod app;
 mod areas;
+mod laws;
 
 pub use app::App;
 pub use areas::{AREAS, Area, Areas};
+pub use laws::holding_laws;

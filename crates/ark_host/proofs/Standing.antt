@@ -103,8 +103,8 @@ stands_beside host t0 t1 es s adds size slots free st = record {
   now = st.now;
   machines = λ a. at_app_kept host.grants host.grants t0 t1 s s a (app_of host.apps.items a) (omega arith) refl refl (λ l. refl)
       (λ l t there.
-          let mine = (slot_names s.plane.slots a l t there).0 in
-          same_beside t0.history t1.history es t.blocks adds (λ h told n has. let was = adds.told h told in slot_based host t0 s st (record { base = h.base; journal = was.0 }) was.1 t n mine has) (slots t mine))
+      let mine = (slot_names s.plane.slots a l t there).0 in
+      same_beside t0.history t1.history es t.blocks adds (λ h told n has. let was = adds.told h told in slot_based host t0 s st (record { base = h.base; journal = was.0 }) was.1 t n mine has) (slots t mine))
       (st.machines a);
   same_now = st.same_now;
 }

@@ -1,8 +1,4 @@
-use Rattle.ark_held.proofs.Granted.{granted}
-use Rattle.ark_held.proofs.Passing.{beside}
-use Rattle.ark_held.proofs.Written.{written, raw_stands}
-use Rattle.ark_held.proofs.Fresh.{holds_none}
-use Rattle.std.proofs.Common.{◌∙◌, ap, sym, List, ℕ, [], ◌∷◌, ◌++◌}
+use Rattle.std.proofs.Common.{◌∙◌, ap, sym, [], ◌∷◌, ◌++◌}
 use Rattle.std.specs.Prelude.{nat_eq}
 use Rattle.std.specs.Map.{lookup}
 use Rattle.indexmap.proofs.CallerLemmas.{insert_entry-new}
