@@ -1,5 +1,5 @@
 -- Scripts played on the machines, with the device events of each line: their replies, and whether the events follow the calls.
-use Rattle.std.proofs.Common.{◌≡◌, ℕ, Bool, true, false, ◌&&◌, ◌==◌, nat_eq, List, [], ◌∷◌, drop, refl, ap, if◌then◌else◌}
+use Rattle.std.proofs.Common.{◌≡◌, ℕ, Bool, true, false, ◌&&◌, ◌==◌, nat_eq, List, [], ◌∷◌, take, drop, refl, ap, if◌then◌else◌}
 use Rattle.std.proofs.lemmas.Bool.{and_parts, eqb-true, false≢true}
 use Rattle.std.proofs.lemmas.Map.Views.{Contains-from_any}
 use Rattle.std.proofs.lemmas.Slice.Eq.{bytes_eq-Decides}
@@ -73,6 +73,7 @@ makes s a line (Row.writes l k content) e = writes_at (slice_get (blocks_at s.pl
 makes s a line Row.syncs e = is_sync e
 makes s a line (Row.reads_in l) e = reads_in (blocks_at s.plane a l) e
 makes s a line (Row.writes_in l) e = writes_in (blocks_at s.plane a l) e
+makes s a line (Row.writes_first l) e = writes_in (take 1 (blocks_at s.plane a l)) e
 makes s a line (Row.reads_some l) e = reads_in (blocks_at s.plane a l) e
 makes s a line (Row.zeroes_some l) e = zeroes_in (drop 1 (blocks_at s.plane a l)) e
 makes s a line (Row.zeroes_new k) e = writes_at (slice_get (granted s.plane line) k) zero_block e
@@ -160,6 +161,7 @@ makes_is s a line (Row.writes l k content) e h = writes_at_is (slice_get (blocks
 makes_is s a line Row.syncs e h = sync_is e h
 makes_is s a line (Row.reads_in l) e h = reads_in_is (blocks_at s.plane a l) e h
 makes_is s a line (Row.writes_in l) e h = writes_in_is (blocks_at s.plane a l) e h
+makes_is s a line (Row.writes_first l) e h = writes_in_is (take 1 (blocks_at s.plane a l)) e h
 makes_is s a line (Row.reads_some l) e h = reads_in_is (blocks_at s.plane a l) e h
 makes_is s a line (Row.zeroes_some l) e h = zeroes_in_is (drop 1 (blocks_at s.plane a l)) e h
 makes_is s a line (Row.zeroes_new k) e h = writes_at_is (slice_get (granted s.plane line) k) zero_block e h

@@ -1,5 +1,5 @@
 -- Each device call of a line is within what the line may touch, word by word.
-use Rattle.std.proofs.Common.{◌≡◌, ℕ, zero, suc, ◌+◌, Bool, true, false, not, List, [], ◌∷◌, ◌++◌, drop, map, refl, subst, arith, if◌then◌else◌, ◌&&◌, cond}
+use Rattle.std.proofs.Common.{◌≡◌, ℕ, zero, suc, ◌+◌, Bool, true, false, not, List, [], ◌∷◌, ◌++◌, take, drop, map, refl, subst, arith, if◌then◌else◌, ◌&&◌, cond}
 use Rattle.std.specs.Prelude.{Option, Some, None, slice_get, Contains, nat_lt, IsTrue}
 use Rattle.std.specs.List.{AllByRecursion, range_with_len}
 use Rattle.ark_base.specs.declared.kind.Outcome.{Outcome}
@@ -43,6 +43,11 @@ behind_first : (xs : List ℕ) (n : ℕ) → Contains (drop 1 xs) n → Contains
 behind_first [] n h = h
 behind_first (x ∷ xs) n h = (suc h.0, omega (arith, h.1), h.2)
 
+at_first : (xs : List ℕ) (n : ℕ) → Contains (take 1 xs) n → Contains xs n
+at_first [] n h = h
+at_first (x ∷ xs) n (zero, lt, is) = (zero, omega arith, is)
+at_first (x ∷ xs) n (suc k, lt, is) = absurd (omega (arith, lt))
+
 -- one list has all of another
 abbrev pub AreIn : List ℕ → List ℕ → Type 0
 AreIn xs ys = (n : ℕ) → Contains xs n → Contains ys n
@@ -70,6 +75,12 @@ writes_in s a line l within (Write n b took ok) h = within n h
 writes_in s a line l within (Read n ok) h = absurd h
 writes_in s a line l within (Sync ok) h = absurd h
 writes_in s a line l within (Out bytes) h = absurd h
+
+writes_first : (s : System) (a : List ℕ) (line : Line) (l : List ℕ) → AreIn (blocks_at s.plane a l) (writable s line) → AllowsCall s a line (Row.writes_first l)
+writes_first s a line l within (Write n b took ok) h = within n (at_first (blocks_at s.plane a l) n h)
+writes_first s a line l within (Read n ok) h = absurd h
+writes_first s a line l within (Sync ok) h = absurd h
+writes_first s a line l within (Out bytes) h = absurd h
 
 zeroes_some : (s : System) (a : List ℕ) (line : Line) (l : List ℕ) → AreIn (blocks_at s.plane a l) (writable s line) → AllowsCall s a line (Row.zeroes_some l)
 zeroes_some s a line l within (Write n b took ok) h = within n (behind_first (blocks_at s.plane a l) n h.0)
@@ -129,7 +140,7 @@ drops s a line false slot may = tt
 pub opens : (s : System) (a : List ℕ) (line : Line) (l : List ℕ) (f : Found) → AreIn (blocks_at s.plane a l) (readable s line) → AreIn (blocks_at s.plane a l) (writable s line) → IsTrue (may_sync line)
     → AllowsAll s a line (opening_calls l f)
 opens s a line l (damaged n) r x may = (reads_some s a line l r, tt)
-opens s a line l (found es) r x may = (reads_some s a line l r, (syncs s a line may, (zeroes_some s a line l x, (writes_in s a line l x, (syncs s a line may, tt)))))
+opens s a line l (found es) r x may = (reads_some s a line l r, (syncs s a line may, (zeroes_some s a line l x, (writes_first s a line l x, (syncs s a line may, tt)))))
 
 -- Moves.
 

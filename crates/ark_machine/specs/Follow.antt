@@ -1,5 +1,5 @@
 -- How device events follow a line's calls.
-use Rattle.std.specs.Prelude.{◌≡◌, ℕ, Bool, true, false, List, [], ◌∷◌, drop, map, Option, Some, None, option_map, slice_get, unwrap_or, Ok, Err, Contains}
+use Rattle.std.specs.Prelude.{◌≡◌, ℕ, Bool, true, false, List, [], ◌∷◌, take, drop, map, Option, Some, None, option_map, slice_get, unwrap_or, Ok, Err, Contains}
 use Rattle.ark_media.specs.Journal.{Event, Read, Write, Sync, Out, zero_block, has_succeeded}
 use Rattle.ark_table.specs.Slots.{Slot, slot_bytes}
 use Rattle.ark_caladan.specs.Chain.{reading, writing, syncing}
@@ -61,6 +61,7 @@ Makes s a line (Row.writes l k content) e = WritesAt (slice_get (blocks_at s.pla
 Makes s a line Row.syncs e = IsSync e
 Makes s a line (Row.reads_in l) e = ReadsIn (blocks_at s.plane a l) e
 Makes s a line (Row.writes_in l) e = WritesIn (blocks_at s.plane a l) e
+Makes s a line (Row.writes_first l) e = WritesIn (take 1 (blocks_at s.plane a l)) e
 Makes s a line (Row.reads_some l) e = ReadsIn (blocks_at s.plane a l) e
 Makes s a line (Row.zeroes_some l) e = ZeroesIn (drop 1 (blocks_at s.plane a l)) e
 Makes s a line (Row.zeroes_new k) e = WritesAt (slice_get (granted s.plane line) k) zero_block e

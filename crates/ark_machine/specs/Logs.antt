@@ -10,7 +10,7 @@ use Rattle.ark_script.specs.declared.said.Said.TheVariants as said
 use Rattle.ark_machine.specs.Bytes.{Frames}
 use Rattle.ark_machine.specs.Objects.{held_in}
 use Rattle.ark_machine.specs.Machine.{Machine, log_at, vsic_at, serial_at, missing, with_log, with_vsic, room_for}
-use Rattle.ark_machine.specs.Row.{Row, Given, Call, syncs, reads_some, zeroes_some, writes_in, says, answer, has_fault, synced_by}
+use Rattle.ark_machine.specs.Row.{Row, Given, Call, syncs, reads_some, zeroes_some, writes_first, says, answer, has_fault, synced_by}
 use Rattle.ark_machine.specs.Control.{has_log}
 use Rattle.ark_machine.specs.Cards.{bound_with, bound_without}
 
@@ -57,10 +57,10 @@ opening v (Some start) g = record g {
 }
 opening v None g = g
 
--- the reads; then, where the list is not damaged, a sync, zeros to ring blocks, the header, a sync
+-- the reads; then, where the list is not damaged, a sync, zeros to ring blocks, the header to the first block, a sync
 abbrev pub opening_calls : List ℕ → Found → List Call
 opening_calls s (damaged n) = reads_some s ∷ []
-opening_calls s (found l) = reads_some s ∷ syncs ∷ zeroes_some s ∷ writes_in s ∷ syncs ∷ []
+opening_calls s (found l) = reads_some s ∷ syncs ∷ zeroes_some s ∷ writes_first s ∷ syncs ∷ []
 
 -- a log is open on the card, or a descriptor is in its ring
 abbrev pub is_card_busy : Machine → List ℕ → Bool

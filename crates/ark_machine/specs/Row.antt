@@ -45,6 +45,8 @@ pub data Call : Type 0 where
   -- one read, or one write of any content, anywhere in the area
   reads_in : List ℕ → Call
   writes_in : List ℕ → Call
+  -- one write of any content to the area's first block
+  writes_first : List ℕ → Call
   -- any number of reads in the area, or of zero writes to any of its blocks but the first
   reads_some : List ℕ → Call
   zeroes_some : List ℕ → Call
