@@ -30,7 +30,7 @@ pub record Given : Type 0 where
   pub scattered : Bool
   -- the earliest live receive filter that the new one overlaps, by its owner and label
   pub overlap : Option (List ℕ × List ℕ)
-  -- a change of the table of grants has failed in this run
+  -- the line changes the table of grants, and a change of it has failed in this run
   pub table_failed : Bool
   pub own : Option Own
   pub ended : List Ended
