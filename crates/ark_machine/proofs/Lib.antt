@@ -2,6 +2,7 @@ pub mod Answering
 pub mod Areas
 pub mod Cards
 pub mod Confining
+pub mod Damaged
 pub mod Datagrams
 pub mod Dropping
 pub mod Early

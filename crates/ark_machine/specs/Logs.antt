@@ -66,11 +66,16 @@ opening_calls s (found l) = reads_some s ∷ syncs ∷ zeroes_some s ∷ writes_
 abbrev pub is_card_busy : Machine → List ℕ → Bool
 is_card_busy m v = has_log m v || unwrap_or (option_map (λ x. nat_lt 0 (held_in x.queue)) (vsic_at m v)) false
 
+-- open on the card, and bound there
+abbrev pub opened_on : Machine → List ℕ → List ℕ → Machine
+opened_on m s v = with_vsic (with_log m s (opening v (room_for m 1))) v (bound_with (serial_at m s))
+
+-- not opened where a call failed; as it was where the list is damaged
 abbrev pub opened_machine : Machine → List ℕ → List ℕ → Given → Machine
 opened_machine m s v g =
-    synced_by g.ended
-    (if has_fault g.ended || is_some (damage_of (found_in (log_at m s))) then m
-    else with_vsic (with_log m s (opening v (room_for m 1))) v (bound_with (serial_at m s)))
+    if has_fault g.ended then synced_by g.ended m
+    else if is_some (damage_of (found_in (log_at m s))) then m
+    else synced_by g.ended (opened_on m s v)
 
 abbrev pub found_entries : Machine → List ℕ → Entries
 found_entries m s = entries (found_in (log_at m s))

@@ -2,6 +2,7 @@
 ghost use Rattle.std.specs.Prelude.{◌≡◌, ◌≤◌, ◌++◌, ℕ, Bool, true, false, List, [], ◌∷◌, Some, None, Ok, Contains, bytes_eq, length, map};
 ghost use Rattle.ark_base.specs.Conditions.{Conditions, first};
 ghost use Rattle.ark_base.specs.declared.refusal.Refusal.{Refusal};
+ghost use Rattle.ark_base.specs.declared.refusal.Refusal.TheVariants as r;
 ghost use Rattle.ark_media.specs.Journal.{Event};
 ghost use Rattle.ark_table.specs.Slots.{Slot, slots_of};
 ghost use Rattle.ark_script.specs.Line as w;
@@ -67,9 +68,9 @@ pub fn privacy_laws()
     ensures start { (image : List (List ℕ)) (slots : List Slot) (a : List ℕ) → machine_of (start_system image slots) a ≡ with_areas unmade (map (area_in image) (own_slots a slots)) }
 {}
 
-/// A refused line leaves the system as it was and calls no device, but for the refusals that only device calls tell, and for
-/// `sendto`, which reaps its ring before it finds no place, and does no more. No refused line gives a label, and only one that
-/// gives a label up takes one.
+/// A refused line leaves the system as it was, but for one whose device call failed, and for `sendto`, which reaps its ring
+/// before it finds no place, and does no more. It calls no device, but for the refusals that only device calls tell. No refused
+/// line gives a label, and only one that gives a label up takes one.
 pub fn refusal_laws()
     ensures unchanged { (s : System) (line : Line) (ends : List Ended) (memory : Bool) (x : Refusal) → (line_turn s line ends memory).said ≡ said.Refused x → may_leave line x ≡ false → (line_turn s line ends memory).after ≡ s }
     ensures no_call { (s : System) (line : Line) (ends : List Ended) (memory : Bool) (x : Refusal) → (line_turn s line ends memory).said ≡ said.Refused x → is_told_late x ≡ false → (line_turn s line ends memory).calls ≡ [] }
@@ -77,14 +78,16 @@ pub fn refusal_laws()
     ensures no_label { (s : System) (a : List ℕ) (line : Line) (ends : List Ended) (memory : Bool) (x : Refusal) → owner line ≡ Some a → gives_up line ≡ false → (line_turn s line ends memory).said ≡ said.Refused x → labels (machine_of (line_turn s line ends memory).after a) ≡ labels (machine_of s a) }
 {}
 
-/// With a refusal that only device calls tell, a line that asks for an area, for more blocks or for an open log gains nothing:
-/// its application's machine is as it was, but for what a sync that succeeded made sure of, and the slots are as they were. One
-/// that gives a label up takes it away all the same. One that looks at blocks or entries changes nothing of its machine.
+/// Where a device call failed, a line that asks for an area, for more blocks or for an open log gains nothing: its application's
+/// machine is as it was, but for what a sync that succeeded made sure of, and the slots are as they were. One that gives a label
+/// up takes it away all the same. One that looks at blocks or entries changes nothing of its machine. Where the list that was
+/// found is damaged, the system is as it was.
 pub fn fault_laws()
-    ensures no_gain { (s : System) (a : List ℕ) (line : Line) (ends : List Ended) (memory : Bool) (x : Refusal) → owner line ≡ Some a → is_gain line ≡ true → (line_turn s line ends memory).said ≡ said.Refused x → is_told_late x ≡ true → machine_of (line_turn s line ends memory).after a ≡ synced_by ends (machine_of s a) }
+    ensures no_gain { (s : System) (a : List ℕ) (line : Line) (ends : List Ended) (memory : Bool) → owner line ≡ Some a → is_gain line ≡ true → (line_turn s line ends memory).said ≡ said.Refused r.DeviceFault → machine_of (line_turn s line ends memory).after a ≡ synced_by ends (machine_of s a) }
     ensures no_slot { (s : System) (a : List ℕ) (line : Line) (ends : List Ended) (memory : Bool) (x : Refusal) → owner line ≡ Some a → is_gain line ≡ true → (line_turn s line ends memory).said ≡ said.Refused x → (line_turn s line ends memory).after.plane.slots ≡ s.plane.slots }
     ensures given_up { (s : System) (a l : List ℕ) (ends : List Ended) (memory : Bool) (x : Refusal) → (line_turn s (w.drop a l) ends memory).said ≡ said.Refused x → is_told_late x ≡ true → at (machine_of (line_turn s (w.drop a l) ends memory).after a) l ≡ None }
     ensures looked { (s : System) (a : List ℕ) (line : Line) (ends : List Ended) (memory : Bool) (x : Refusal) → owner line ≡ Some a → is_look line ≡ true → (line_turn s line ends memory).said ≡ said.Refused x → is_told_late x ≡ true → machine_of (line_turn s line ends memory).after a ≡ machine_of s a }
+    ensures damaged { (s : System) (line : Line) (ends : List Ended) (memory : Bool) (n : ℕ) → (line_turn s line ends memory).said ≡ said.Refused (r.Damaged n) → (line_turn s line ends memory).after ≡ s }
 {}
 
 /// A line is refused where a condition of its word holds, with the refusal of least rank, in the one order, whose condition
