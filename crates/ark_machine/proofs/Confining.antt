@@ -1,92 +1,33 @@
 -- What follows a line's calls touches only what the line may touch: the law that carries confinement for every word.
-use Rattle.std.proofs.Common.{◌≡◌, inl, inr, ℕ, suc, Bool, true, false, List, [], ◌∷◌, ◌++◌, length, drop, refl, arith, cond}
-use Rattle.std.specs.Prelude.{Option, Some, None, Ok, Err, Contains}
-use Rattle.std.specs.List.{AllByRecursion}
-use Rattle.ark_base.specs.Conditions.{Conditions, early, late}
+use Rattle.std.proofs.Common.{◌≡◌, inl, inr, ℕ, Bool, true, false, List, [], ◌∷◌, ◌++◌, length, drop, refl, arith, cond}
+use Rattle.std.specs.Prelude.{Option, Some, None, Ok, Err}
 use Rattle.ark_base.specs.declared.refusal.Refusal.TheVariants as r
-use Rattle.ark_media.specs.Journal.{Event, has_succeeded, device_events}
+use Rattle.ark_media.specs.Journal.{Event, device_events}
 use Rattle.ark_script.specs.Line as w
 use Rattle.ark_script.specs.Line.{Line}
 use Rattle.ark_script.specs.Lines.{Meaning}
 use Rattle.ark_script.specs.declared.said.Said.TheVariants as said
 use Rattle.ark_machine.specs.Bytes.{padded}
 use Rattle.ark_machine.specs.Objects.{is_vsa}
-use Rattle.ark_machine.specs.Machine.{Machine, object_at, log_at, vnic_at, is_so}
+use Rattle.ark_machine.specs.Machine.{object_at, log_at, vnic_at, is_so}
 use Rattle.ark_machine.specs.Row
-use Rattle.ark_machine.specs.Row.{Row, Call, Ended, answer}
+use Rattle.ark_machine.specs.Row.{Row, Call, Ended, answer, unless_refused}
 use Rattle.ark_machine.specs.Cards.{unreaped_at}
 use Rattle.ark_machine.specs.Logs.{found_in}
 use Rattle.ark_machine.specs.Polls.{polled, next_call}
 use Rattle.ark_machine.specs.Sockets.{pulled, card_at, datagrams_at}
-use Rattle.ark_machine.specs.Plane.{recorded, granted}
+use Rattle.ark_machine.specs.Plane.{recorded, granted, slot_of}
 use Rattle.ark_machine.specs.Step.{step}
 use Rattle.ark_machine.specs.System.{System, machine_of, owner, line_turn, quiet_turn}
 use Rattle.ark_machine.specs.Built.{turn, is_built, so_far, calls_so_far}
-use Rattle.ark_machine.specs.Follow.{Follow, ended, fails, goes_on, again, passes, Performs, PerformsFor, ends_of, slot_index}
+use Rattle.ark_machine.specs.Follow.{Performs, PerformsFor, ends_of, slots_for}
 use Rattle.ark_machine.specs.Replies.{turn_for, system_after, has_lacked, EachAnswers, Begins, Replies}
 use Rattle.ark_machine.specs.Confined.{AllAllowed, EndsAtFailure, IsConfined, EachConfined, BeginsConfined, Confined}
-use Rattle.ark_machine.proofs.Reaching.{AllowsCall, AllowsAll, AreIn, reads, reads_some, writes, grants, drops, opens, poll_quiet}
+use Rattle.ark_machine.proofs.Following.{allowed_front, ends_front, none_front, slot_in, new_in, only, by_calls, answered, by_row, by_none, by_runs, drop_runs}
+use Rattle.ark_machine.proofs.Reaching.{AllowsCall, reads, reads_some, writes, grants, opens, poll_quiet}
 use Rattle.ark_machine.specs.Paced.{StandsPaced}
 use Rattle.ark_machine.proofs.Sent.{sends_within, rates_kept, paced_keep}
-use Rattle.ark_machine.proofs.Touching.{settles, call_quiet, devices, reaped_quiet, taken_quiet, given_quiet, quiet_all, unless}
-
-pub follow_allowed : {s : System} {a : List ℕ} (line : Line) {cs : List Call} {es : List Event} → AllByRecursion (AllowsCall s a line) cs → Follow s a line cs es → AllAllowed s line es
-follow_allowed line h ended = tt
-follow_allowed line h (fails {e = e} makes bad) = (h.0 e makes, tt)
-follow_allowed line h (goes_on {e = e} makes good once more) = (h.0 e makes, follow_allowed line h.1 more)
-follow_allowed line h (again {e = e} makes good many more) = (h.0 e makes, follow_allowed line h more)
-follow_allowed line h (passes many more) = follow_allowed line h.1 more
-
-ends_before : (e : Event) (es : List Event) → has_succeeded e ≡ true → EndsAtFailure es → EndsAtFailure (e ∷ es)
-ends_before e [] good h = tt
-ends_before e (f ∷ fs) good h = (good, h)
-
-pub follow_ends : {s : System} {a : List ℕ} {line : Line} {cs : List Call} {es : List Event} → Follow s a line cs es → EndsAtFailure es
-follow_ends ended = tt
-follow_ends (fails makes bad) = tt
-follow_ends (goes_on {e = e} {es = es} makes good once more) = ends_before e es good (follow_ends more)
-follow_ends (again {e = e} {es = es} makes good many more) = ends_before e es good (follow_ends more)
-follow_ends (passes many more) = follow_ends more
-
--- what is said of events holds of the first of them
-allowed_front : (s : System) (line : Line) (es more : List Event) → AllAllowed s line (es ++ more) → AllAllowed s line es
-allowed_front s line [] more h = tt
-allowed_front s line (e ∷ es) more h = (h.0, allowed_front s line es more h.1)
-
-ends_front : (es more : List Event) → EndsAtFailure (es ++ more) → EndsAtFailure es
-ends_front [] more h = tt
-ends_front (e ∷ []) more h = tt
-ends_front (e ∷ f ∷ es) more h = (h.0, ends_front (f ∷ es) more h.1)
-
-none_front : (es more : List Event) → es ++ more ≡ [] → es ≡ []
-none_front [] more h = refl
-none_front (e ∷ es) more h = cc
-
--- the calls of each word's line are allowed
-
-first_in : (x : ℕ) (xs : List ℕ) → Contains (x ∷ xs) x
-first_in x xs = (0, omega arith, refl)
-
-behind : (x : ℕ) (xs : List ℕ) → AreIn xs (x ∷ xs)
-behind x xs n h = (suc h.0, omega (arith, h.1), h.2)
-
-only : (s : System) (a : List ℕ) (line : Line) (c : Call) → AllowsCall s a line c → AllowsAll s a line (c ∷ [])
-only s a line c h = (h, tt)
-
-by_calls : (s : System) (a : List ℕ) (line : Line) {cs : List Call} {es : List Event} → AllowsAll s a line cs → Follow s a line cs es → AllAllowed s line es × EndsAtFailure es
-by_calls s a line h follow = (follow_allowed line h follow, follow_ends follow)
-
--- a row that is refused has its own calls, or none
-answered : (P : Call → Type 0) (m : Machine) (c : Conditions) (row : Row) → AllByRecursion P row.calls → AllByRecursion P (answer m c row).calls
-unfolding answer
-answered P m c row all = unless P (early c) (late c) m row all
-
-by_row : (s : System) (a : List ℕ) (line : Line) (m : Machine) (c : Conditions) (row : Row) (es : List Event) → Follow s a line (answer m c row).calls es
-    → AllowsAll s a line row.calls → AllAllowed s line es × EndsAtFailure es
-by_row s a line m c row es h all = by_calls s a line (answered (AllowsCall s a line) m c row all) h
-
-by_none : (s : System) (line : Line) (es : List Event) → es ≡ [] → AllAllowed s line es × EndsAtFailure es
-by_none s line es h = rw h (tt, tt)
+use Rattle.ark_machine.proofs.Touching.{settles, call_quiet, devices, reaped_quiet, taken_quiet, given_quiet, quiet_all}
 
 -- what comes of a line's calls is within what the line may touch, and ends at a failure
 pub line_confined : (s : System) (line : Line) (ends : List Ended) (memory : Bool) (es : List Event) → PerformsFor s line (line_turn s line ends memory).calls es (owner line) → AllAllowed s line es × EndsAtFailure es
@@ -94,8 +35,8 @@ unfolding step
 line_confined s (w.app a x1) ends memory es h = by_row s a (w.app a x1) _ _ _ es h tt
 line_confined s (w.vsic a x1 x2) ends memory es h = by_row s a (w.vsic a x1 x2) _ _ _ es h tt
 line_confined s (w.vnic a x1 x2 x3) ends memory es h = by_row s a (w.vnic a x1 x2 x3) _ _ _ es h tt
-line_confined s (w.vsa a l n k) ends memory es h = by_row s a (w.vsa a l n k) _ _ _ es h (grants s a (w.vsa a l n k) n (behind (slot_index s.plane a (w.vsa a l n k)) (granted s.plane (w.vsa a l n k))) (first_in (slot_index s.plane a (w.vsa a l n k)) (granted s.plane (w.vsa a l n k))) refl)
-line_confined s (w.grow a l n) ends memory es h = by_row s a (w.grow a l n) _ _ _ es h (grants s a (w.grow a l n) n (behind (slot_index s.plane a (w.grow a l n)) (granted s.plane (w.grow a l n))) (first_in (slot_index s.plane a (w.grow a l n)) (granted s.plane (w.grow a l n))) refl)
+line_confined s (w.vsa a l n k) ends memory es h = by_row s a (w.vsa a l n k) _ _ _ es h (grants s a (w.vsa a l n k) n (new_in (slots_for s.plane a (w.vsa a l n k)) (granted s.plane (w.vsa a l n k))) (slot_in (slots_for s.plane a (w.vsa a l n k)) (granted s.plane (w.vsa a l n k))) refl)
+line_confined s (w.grow a l n) ends memory es h = by_row s a (w.grow a l n) _ _ _ es h (grants s a (w.grow a l n) n (new_in (slots_for s.plane a (w.grow a l n)) (granted s.plane (w.grow a l n))) (slot_in (slots_for s.plane a (w.grow a l n)) (granted s.plane (w.grow a l n))) refl)
 line_confined s (w.bind a x1 x2) ends memory es h = by_row s a (w.bind a x1 x2) _ _ _ es h tt
 line_confined s (w.unbind a x1 x2) ends memory es h = by_row s a (w.unbind a x1 x2) _ _ _ es h tt
 line_confined s (w.filter a x1 x2) ends memory es h = by_row s a (w.filter a x1 x2) _ _ _ es h tt
@@ -104,7 +45,7 @@ line_confined s (w.rate a x1 x2 x3) ends memory es h = by_row s a (w.rate a x1 x
 line_confined s (w.pace a x1 x2 x3) ends memory es h = by_row s a (w.pace a x1 x2 x3) _ _ _ es h tt
 line_confined s (w.door a x1) ends memory es h = by_row s a (w.door a x1) _ _ _ es h tt
 line_confined s (w.watch a x1 x2 x3) ends memory es h = by_row s a (w.watch a x1 x2 x3) _ _ _ es h tt
-line_confined s (w.drop a x) ends memory es h = by_row s a (w.drop a x) _ _ _ es h (drops s a (w.drop a x) (is_so is_vsa (object_at (machine_of s a) x)) (first_in (slot_index s.plane a (w.drop a x)) []) refl)
+line_confined s (w.drop a x) ends memory es h = by_runs s a (w.drop a x) _ _ _ es h (drop_runs s a x (is_so is_vsa (object_at (machine_of s a) x)) (slot_of s.plane a x) refl)
 line_confined s (w.buf a x1 x2) ends memory es h = by_row s a (w.buf a x1 x2) _ _ _ es h tt
 line_confined s (w.fill a x1 x2 x3) ends memory es h = by_row s a (w.fill a x1 x2 x3) _ _ _ es h tt
 line_confined s (w.show a x1 x2 x3) ends memory es h = by_row s a (w.show a x1 x2 x3) _ _ _ es h tt

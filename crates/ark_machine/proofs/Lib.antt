@@ -8,6 +8,7 @@ pub mod Dropping
 pub mod Early
 pub mod FailedGrant
 pub mod Faults
+pub mod Following
 pub mod Frames
 pub mod Granted
 pub mod Grants

@@ -140,15 +140,15 @@ transfer_calls s a v t k within =
       | false ↦ (reads s a (w.dev a v) (label_numbered m t.vsa) (t.off + k) within, tt)
     ]
 
-phases_on : (s : System) (a v : List ℕ) (x : Vsic) (p : Phase) (js : List Job) (e : Ended) (o : Option (List ℕ)) → log_on (machine_of s a) v ≡ o
+phases_on : (s : System) (a v : List ℕ) (x : Vsic) (p : Phase) (js : List Job) (e : Ended) (o : Option (List ℕ)) → vsic_at (machine_of s a) v ≡ Some x → log_on (machine_of s a) v ≡ o
     → AllowsAll s a (w.dev a v) (phase_moves_on o (machine_of s a) v x p js e).calls
-phases_on s a v x p js e None on = tt
-phases_on s a v x p js e (Some l) on = phase_calls s a (w.dev a v) l p.verb (machine_of s a) v x p js e (reaches_log s a v l on) (reaches_log s a v l on) refl
+phases_on s a v x p js e None at on = tt
+phases_on s a v x p js e (Some l) at on = phase_calls s a (w.dev a v) l p.verb (machine_of s a) v x p js e (reaches_log s a v l on) (reaches_log s a v l on) (rw at refl)
 
 moves_in : (s : System) (a v : List ℕ) (x : Vsic) (js : List Job) (e : Ended) → vsic_at (machine_of s a) v ≡ Some x → AllowsAll s a (w.dev a v) (moved (machine_of s a) v x js e).calls
 moves_in s a v x [] e at = tt
-moves_in s a v x (flush ∷ js) e at = (syncs s a (w.dev a v) refl, tt)
-moves_in s a v x (phase p ∷ js) e at = phases_on s a v x p js e (log_on (machine_of s a) v) refl
+moves_in s a v x (flush ∷ js) e at = (syncs s a (w.dev a v) (rw at refl), tt)
+moves_in s a v x (phase p ∷ js) e at = phases_on s a v x p js e (log_on (machine_of s a) v) at refl
 moves_in s a v x (transfer t ∷ js) e at =
     let m : Machine = machine_of s a in
     let after : Machine = transferred m t x.queue.moved e (raw_numbered m t.vsa) in
