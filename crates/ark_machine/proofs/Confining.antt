@@ -20,12 +20,15 @@ use Rattle.ark_machine.specs.Plane.{recorded, granted, slot_of}
 use Rattle.ark_machine.specs.Step.{step}
 use Rattle.ark_machine.specs.System.{System, machine_of, owner, line_turn, quiet_turn}
 use Rattle.ark_machine.specs.Built.{turn, is_built, so_far, calls_so_far}
-use Rattle.ark_machine.specs.Follow.{Performs, PerformsFor, ends_of, slots_for}
+use Rattle.ark_machine.specs.Follow.{Follow, ended, Performs, PerformsFor, ends_of, slots_for}
 use Rattle.ark_machine.specs.Replies.{turn_for, system_after, has_lacked, EachAnswers, Begins, Replies}
 use Rattle.ark_machine.specs.Confined.{AllAllowed, EndsAtFailure, IsConfined, EachConfined, BeginsConfined, Confined}
 use Rattle.ark_machine.proofs.Following.{allowed_front, ends_front, none_front, slot_in, new_in, only, by_calls, answered, by_row, by_none, by_runs, drop_runs}
 use Rattle.ark_machine.proofs.Reaching.{AllowsCall, reads, reads_some, writes, grants, opens, poll_quiet}
 use Rattle.ark_machine.specs.Paced.{StandsPaced}
+use Rattle.ark_machine.specs.Sending.{pace_by, PassesWithin}
+use Rattle.ark_machine.proofs.Moving.{none_within, line_passes}
+use Rattle.ark_machine.proofs.Passing.{events_front}
 use Rattle.ark_machine.proofs.Sent.{sends_within, rates_kept, paced_keep}
 use Rattle.ark_machine.proofs.Touching.{settles, call_quiet, devices, reaped_quiet, taken_quiet, given_quiet, quiet_all}
 
@@ -86,20 +89,28 @@ far_confined : (s : System) (line : Line) (ends : List Ended) (memory : Bool) (e
 far_confined s (w.vsa a l n k) ends memory es h = by_calls s a (w.vsa a l n k) tt h
 far_confined s line ends memory es h = line_confined s line ends memory es h
 
-pub performs_confined : (s : System) (m : Meaning) (ends : List Ended) (memory : Bool) (es : List Event) → Performs s m (turn s m ends memory).calls es → IsConfined s m es
-performs_confined s (Err refusal) ends memory es h = h
-performs_confined s (Ok line) ends memory es h = by_built (is_built line) refl h
+far_passes : (s : System) (line : Line) (ends : List Ended) (memory : Bool) (es : List Event) → StandsPaced s → PerformsFor s line (calls_so_far line (line_turn s line ends memory).calls) es (owner line) → PassesWithin s line es
+far_passes s (w.vsa a l n k) ends memory es paced h = tt
+far_passes s line ends memory es paced h = line_passes s line ends memory es paced h
+
+-- where no call is made
+none_done : (s : System) (line : Line) (es : List Event) (o : Option (List ℕ)) → PerformsFor s line [] es o → es ≡ []
+none_done s line es None f = f
+none_done s line es (Some a) f = nothing f
   where
-    by_built : (b : Bool) → is_built line ≡ b → PerformsFor s line (cond b (so_far line (line_turn s line ends memory)) (quiet_turn s (said.Refused r.UnknownWord))).calls es (owner line) → AllAllowed s line es × EndsAtFailure es
-    by_built true is g = far_confined s line ends memory es g
-    by_built false is g = by_owner (owner line) g
-      where
-        by_owner : (o : Option (List ℕ)) → PerformsFor s line [] es o → AllAllowed s line es × EndsAtFailure es
-        by_owner None f = by_none s line es f
-        by_owner (Some a) f = by_calls s a line tt f
+    nothing : {fs : List Event} → Follow s a line [] fs → fs ≡ []
+    nothing ended = refl
+
+pub performs_confined : (s : System) (m : Meaning) (ends : List Ended) (memory : Bool) (es : List Event) → StandsPaced s → Performs s m (turn s m ends memory).calls es → IsConfined s m es
+performs_confined s (Err refusal) ends memory es paced h = h
+performs_confined s (Ok line) ends memory es paced h = by_built (is_built line) h
+  where
+    by_built : (b : Bool) → PerformsFor s line (cond b (so_far line (line_turn s line ends memory)) (quiet_turn s (said.Refused r.UnknownWord))).calls es (owner line) → IsConfined s (Ok line) es
+    by_built true g = let touches = far_confined s line ends memory es g in (touches.0, touches.1, far_passes s line ends memory es paced g)
+    by_built false g = rw (none_done s line es (owner line) g) (tt, tt, none_within s line paced)
 
 confined_front : (s : System) (m : Meaning) (es more : List Event) → IsConfined s m (es ++ more) → IsConfined s m es
-confined_front s (Ok line) es more h = (allowed_front s line es more h.0, ends_front es more h.1)
+confined_front s (Ok line) es more h = (allowed_front s line es more h.0, ends_front es more h.1, events_front s.now (pace_by s line) es more h.2)
 confined_front s (Err refusal) es more h = none_front es more h
 
 each_confined : (s : System) (ms : List Meaning) (ps : List (List Event)) → StandsPaced s → EachAnswers s ms ps → EachConfined s ms ps
@@ -107,7 +118,7 @@ each_confined s [] ps k h = tt
 each_confined s (m ∷ ms) [] k h = tt
 each_confined s (m ∷ ms) (p ∷ ps) k h = (
   record {
-    device = performs_confined s m (ends_of (device_events p)) (has_lacked p) (device_events p) h.0.calls;
+    device = performs_confined s m (ends_of (device_events p)) (has_lacked p) (device_events p) k h.0.calls;
     sends = sends_within s m p h.0;
     rates = paced_keep (turn_for s m p).after (rates_kept s m p k);
   },
@@ -120,11 +131,16 @@ each_count s [] (p ∷ ps) h = absurd h
 each_count s (m ∷ ms) [] h = absurd h
 each_count s (m ∷ ms) (p ∷ ps) h = let rest : length ms ≡ length ps = each_count (turn_for s m p).after ms ps h.1 in omega (arith, rest)
 
-begins_confined : (s : System) (lines : List (List ℕ)) (es : List Event) → Begins s lines es → BeginsConfined s lines es
-begins_confined s [] es h = h
-begins_confined s (line ∷ lines) es (inl none) = inl none
-begins_confined s (line ∷ lines) es (inr b) =
-    inr (b.0, b.1, confined_front s b.0 es b.2.more (performs_confined s b.0 (ends_of (es ++ b.2.more)) false (es ++ b.2.more) b.2.calls))
+begins_confined : (s : System) (lines : List (List ℕ)) (es : List Event) → StandsPaced s → Begins s lines es → BeginsConfined s lines es
+begins_confined s [] es k h = h
+begins_confined s (line ∷ lines) es k (inl none) = inl none
+begins_confined s (line ∷ lines) es k (inr b) =
+    inr (b.0, b.1, confined_front s b.0 es b.2.more (performs_confined s b.0 (ends_of (es ++ b.2.more)) false (es ++ b.2.more) k b.2.calls))
+
+run_paced : (s : System) (ms : List Meaning) (ps : List (List Event)) → StandsPaced s → StandsPaced (system_after s ms ps)
+run_paced s [] ps k = k
+run_paced s (m ∷ ms) [] k = k
+run_paced s (m ∷ ms) (p ∷ ps) k = run_paced (turn_for s m p).after ms ps (rates_kept s m p k)
 
 -- whoever answers as the machines do is confined
 pub confined_of : (s : System) (lines : List (List ℕ)) (whole : List (List Event)) (unfinished : List Event) → StandsPaced s → Replies s lines whole unfinished → Confined s lines whole unfinished
@@ -133,5 +149,5 @@ confined_of s lines whole unfinished k r = record {
   say = r.say;
   count = each_count s r.meanings whole r.each;
   each = each_confined s r.meanings whole k r.each;
-  begins = begins_confined (system_after s r.meanings whole) (drop (length whole) lines) (device_events unfinished) r.begins;
+  begins = begins_confined (system_after s r.meanings whole) (drop (length whole) lines) (device_events unfinished) (run_paced s r.meanings whole k) r.begins;
 }

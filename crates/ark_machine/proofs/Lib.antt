@@ -10,6 +10,7 @@ pub mod FailedGrant
 pub mod Faults
 pub mod Following
 pub mod Frames
+pub mod Framing
 pub mod Granted
 pub mod Grants
 pub mod Images
@@ -19,10 +20,12 @@ pub mod Leading
 pub mod Limits
 pub mod Listed
 pub mod Logs
+pub mod Moving
 pub mod Network
 pub mod Overlaps
 pub mod Owned
 pub mod Paced
+pub mod Passing
 pub mod Playing
 pub mod Privacy
 pub mod Ranks
@@ -41,6 +44,7 @@ pub mod Scripts
 pub mod SendRows
 pub mod Sending
 pub mod Sent
+pub mod Settling
 pub mod Sockets
 pub mod Steady
 pub mod Stops

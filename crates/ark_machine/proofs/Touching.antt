@@ -57,7 +57,7 @@ settle_moves : (s : System) (a l : List ℕ) (m : Machine) (e : Ended) → Allow
 settle_moves s a l m e = log_move_all s a l m (card_of m l) (vsic_at m (card_of m l)) e
 
 -- a row with which settling stops calls no device
-abbrev StopsQuiet : Next → Type 0
+abbrev pub StopsQuiet : Next → Type 0
 StopsQuiet (stops r) = IsQuiet r
 StopsQuiet (calls_on m) = Unit {0}
 
@@ -178,7 +178,7 @@ frame_quiet P m v x own p len ps frame =
       ]
     ]
 
-tx_quiet : (P : Call → Type 0) (m : Machine) (v : List ℕ) (x : Vnic) (own : Option Own) (ps : List (Place × ℕ)) → AllByRecursion P (tx_moves m v x own ps).calls
+pub tx_quiet : (P : Call → Type 0) (m : Machine) (v : List ℕ) (x : Vnic) (own : Option Own) (ps : List (Place × ℕ)) → AllByRecursion P (tx_moves m v x own ps).calls
 tx_quiet P m v x own [] = tt
 tx_quiet P m v x own (p ∷ ps) = frame_quiet P m v x own p.0 p.1 ps (take p.1 (bytes_in m p.0))
 

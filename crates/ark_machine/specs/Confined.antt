@@ -10,7 +10,7 @@ use Rattle.ark_machine.specs.Control.{is_open_on}
 use Rattle.ark_machine.specs.Plane.{blocks_at, slot_of, granted}
 use Rattle.ark_machine.specs.System.{System, machine_of}
 use Rattle.ark_machine.specs.Follow.{slots_for}
-use Rattle.ark_machine.specs.Sending.{SendsWithin, AllKeep}
+use Rattle.ark_machine.specs.Sending.{SendsWithin, AllKeep, PassesWithin}
 use Rattle.ark_machine.specs.Replies.{turn_for, system_after}
 
 -- what a card reaches: the areas that are bound to it, by the numbers of their objects, and the log that is open on it
@@ -77,12 +77,12 @@ EndsAtFailure [] = Unit {0}
 EndsAtFailure (e ∷ []) = Unit {0}
 EndsAtFailure (e ∷ f ∷ es) = IsTrue (has_succeeded e) × EndsAtFailure (f ∷ es)
 
--- the device events of one line
+-- the device events of one line: what they touch, that they end at a failure, and that their blocks are within the rate
 abbrev pub IsConfined : System → Meaning → List Event → Type 0
-IsConfined s (Ok line) es = AllAllowed s line es × EndsAtFailure es
+IsConfined s (Ok line) es = AllAllowed s line es × EndsAtFailure es × PassesWithin s line es
 IsConfined s (Err refusal) es = es ≡ []
 
--- each whole part: what was done to the device, the frame that went out, and the rates afterwards
+-- each whole part: what was done to the device, the frame that went out, and the rates of all queues afterwards
 pub record IsPartConfined (s : System) (m : Meaning) (part : List Event) : Type 0 where
   pub device : IsConfined s m (device_events part)
   pub sends : SendsWithin s m (output_of part)

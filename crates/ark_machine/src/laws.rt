@@ -18,7 +18,7 @@ ghost use Rattle.ark_machine.specs.Plane.{Plane, blocks_at, granted};
 ghost use Rattle.ark_machine.specs.Follow.{PerformsFor, slots_for};
 ghost use Rattle.ark_machine.specs.Grants.{GrantsApart};
 ghost use Rattle.ark_machine.specs.Replies.{Answers, EachAnswers, turn_for, system_after, Replies};
-ghost use Rattle.ark_machine.specs.Sending.{IsLetOut, AllKeep};
+ghost use Rattle.ark_machine.specs.Sending.{IsLetOut, AllKeep, PassesWithin};
 ghost use Rattle.ark_machine.specs.Paced.{StandsPaced};
 ghost use Rattle.ark_machine.specs.Confined.{AllAllowed, EndsAtFailure, Confined, readable, writable};
 ghost use Rattle.ark_machine.specs.Private.{Play, after_plays, inputs_of, replies_to, private_replies, private_machine};
@@ -28,10 +28,12 @@ ghost use Rattle.ark_machine.specs.Refused.{is_told_late, is_of_sending, may_lea
 
 /// Every line is confined. What follows its device calls touches only the blocks that the grants of its application allow it,
 /// and ends at the first call that fails. A frame goes out only by a move of a card, and only where a transmit filter that is
-/// assigned to the card takes it. Each queue keeps its rate after a line if it did before, with no pass in the time to come; at
-/// the start of a run, on a fresh device or a stored one, there is none. So whoever answers as the machines do is confined.
+/// assigned to the card takes it. Each queue keeps its rate after a line if it did before, with no pass in the time to come, and
+/// the blocks of the line's device calls, as far as they are made, are within the rate of the storage card that it moves; at the
+/// start of a run, on a fresh device or a stored one, there is no pass. So whoever answers as the machines do is confined.
 pub fn confinement_laws()
     ensures touches { (s : System) (line : Line) (ends : List Ended) (memory : Bool) (es : List Event) → PerformsFor s line (line_turn s line ends memory).calls es (owner line) → AllAllowed s line es }
+    ensures passes { (s : System) (line : Line) (ends : List Ended) (memory : Bool) (es : List Event) → StandsPaced s → PerformsFor s line (line_turn s line ends memory).calls es (owner line) → PassesWithin s line es }
     ensures stops { (s : System) (line : Line) (ends : List Ended) (memory : Bool) (es : List Event) → PerformsFor s line (line_turn s line ends memory).calls es (owner line) → EndsAtFailure es }
     ensures sends { (s : System) (line : Line) (ends : List Ended) (memory : Bool) → (line_turn s line ends memory).said ≡ said.Sent → IsLetOut s (Ok line) (line_turn s line ends memory).bytes }
     ensures paced { (s : System) (line : Line) (ends : List Ended) (memory : Bool) → StandsPaced s → StandsPaced (line_turn s line ends memory).after }
