@@ -38,6 +38,7 @@ pub mod RefusedWords
 pub mod Refusing
 pub mod Rows
 pub mod Rules
+pub mod RunStops
 pub mod Runs
 pub mod Script
 pub mod Scripts
