@@ -8,10 +8,10 @@ use Rattle.ark_script.specs.Line.{Line}
 use Rattle.ark_script.specs.Lines.{Meaning}
 use Rattle.ark_script.specs.declared.said.Said.TheVariants as said
 use Rattle.ark_machine.specs.Bytes.{padded}
-use Rattle.ark_machine.specs.Objects.{is_vsa}
-use Rattle.ark_machine.specs.Machine.{object_at, log_at, vnic_at, is_so}
+use Rattle.ark_machine.specs.Objects.{Raw, is_vsa}
+use Rattle.ark_machine.specs.Machine.{object_at, raw_at, log_at, vnic_at, is_so}
 use Rattle.ark_machine.specs.Row
-use Rattle.ark_machine.specs.Row.{Row, Call, Ended, answer, unless_refused}
+use Rattle.ark_machine.specs.Row.{Row, Call, Ended, Given, answer, unless_refused}
 use Rattle.ark_machine.specs.Cards.{unreaped_at}
 use Rattle.ark_machine.specs.Logs.{found_in}
 use Rattle.ark_machine.specs.Polls.{polled, next_call}
@@ -23,7 +23,7 @@ use Rattle.ark_machine.specs.Built.{turn, is_built, so_far, calls_so_far}
 use Rattle.ark_machine.specs.Follow.{Follow, ended, Performs, PerformsFor, ends_of, slots_for}
 use Rattle.ark_machine.specs.Replies.{turn_for, system_after, has_lacked, EachAnswers, Begins, Replies}
 use Rattle.ark_machine.specs.Confined.{AllAllowed, EndsAtFailure, IsConfined, EachConfined, BeginsConfined, Confined}
-use Rattle.ark_machine.proofs.Following.{allowed_front, ends_front, none_front, slot_in, new_in, only, by_calls, answered, by_row, by_none, by_runs, drop_runs}
+use Rattle.ark_machine.proofs.Following.{allowed_front, ends_front, none_front, slot_in, new_in, only, by_calls, answered, by_row, by_wrong, by_none, by_runs, drop_runs}
 use Rattle.ark_machine.proofs.Reaching.{AllowsCall, reads, reads_some, writes, grants, opens, poll_quiet}
 use Rattle.ark_machine.specs.Paced.{StandsPaced}
 use Rattle.ark_machine.specs.Sending.{pace_by, PassesWithin}
@@ -32,6 +32,14 @@ use Rattle.ark_machine.proofs.Passing.{events_front}
 use Rattle.ark_machine.proofs.Sent.{sends_within, rates_kept, paced_keep}
 use Rattle.ark_machine.proofs.Touching.{settles, call_quiet, devices, reaped_quiet, taken_quiet, given_quiet, quiet_all}
 
+grow_confined : (s : System) (a l : List ℕ) (n : ℕ) (g : Given) (es : List Event) → Follow s a (w.grow a l n) (step (machine_of s a) (w.grow a l n) g).calls es
+    → (o : Option Raw) → raw_at (machine_of s a) l ≡ o → AllAllowed s (w.grow a l n) es × EndsAtFailure es
+unfolding step
+grow_confined s a l n g es h None is = by_wrong s a (w.grow a l n) _ _ _ es h (rw is refl)
+grow_confined s a l n g es h (Some x) is =
+    by_row s a (w.grow a l n) _ _ _ es h
+    (grants s a (w.grow a l n) n (new_in (slots_for s.plane a (w.grow a l n)) (granted s.plane (w.grow a l n))) (slot_in (slots_for s.plane a (w.grow a l n)) (granted s.plane (w.grow a l n))) (rw is refl))
+
 -- what comes of a line's calls is within what the line may touch, and ends at a failure
 pub line_confined : (s : System) (line : Line) (ends : List Ended) (memory : Bool) (es : List Event) → PerformsFor s line (line_turn s line ends memory).calls es (owner line) → AllAllowed s line es × EndsAtFailure es
 unfolding step
@@ -39,7 +47,7 @@ line_confined s (w.app a x1) ends memory es h = by_row s a (w.app a x1) _ _ _ es
 line_confined s (w.vsic a x1 x2) ends memory es h = by_row s a (w.vsic a x1 x2) _ _ _ es h tt
 line_confined s (w.vnic a x1 x2 x3) ends memory es h = by_row s a (w.vnic a x1 x2 x3) _ _ _ es h tt
 line_confined s (w.vsa a l n k) ends memory es h = by_row s a (w.vsa a l n k) _ _ _ es h (grants s a (w.vsa a l n k) n (new_in (slots_for s.plane a (w.vsa a l n k)) (granted s.plane (w.vsa a l n k))) (slot_in (slots_for s.plane a (w.vsa a l n k)) (granted s.plane (w.vsa a l n k))) refl)
-line_confined s (w.grow a l n) ends memory es h = by_row s a (w.grow a l n) _ _ _ es h (grants s a (w.grow a l n) n (new_in (slots_for s.plane a (w.grow a l n)) (granted s.plane (w.grow a l n))) (slot_in (slots_for s.plane a (w.grow a l n)) (granted s.plane (w.grow a l n))) refl)
+line_confined s (w.grow a l n) ends memory es h = grow_confined s a l n (recorded s.plane (w.grow a l n) ends memory) es h (raw_at (machine_of s a) l) refl
 line_confined s (w.bind a x1 x2) ends memory es h = by_row s a (w.bind a x1 x2) _ _ _ es h tt
 line_confined s (w.unbind a x1 x2) ends memory es h = by_row s a (w.unbind a x1 x2) _ _ _ es h tt
 line_confined s (w.filter a x1 x2) ends memory es h = by_row s a (w.filter a x1 x2) _ _ _ es h tt

@@ -17,6 +17,7 @@ use Rattle.ark_machine.specs.Plane.{slot_of}
 use Rattle.ark_machine.specs.System.{System}
 use Rattle.ark_machine.specs.Follow.{Follow, ended, fails, goes_on, again, passes, Makes, is_repeated, own_index}
 use Rattle.ark_machine.specs.Confined.{AllAllowed, EndsAtFailure}
+use Rattle.ark_machine.proofs.Granted.{kind_and_limit}
 use Rattle.ark_machine.proofs.Reaching.{AllowsCall, AllowsAll, AreIn, drops}
 use Rattle.ark_machine.proofs.Touching.{unless}
 
@@ -92,6 +93,16 @@ by_runs s a line m c row es h runs = by (early c) (late c) h
     by (Some x) two f = by_calls s a line tt f
     by None (Some x) f = runs es f
     by None None f = runs es f
+
+-- a line of the wrong kind calls no device
+pub by_wrong : (s : System) (a : List ℕ) (line : Line) (m : Machine) (c : Conditions) (row : Row) (es : List Event) → Follow s a line (answer m c row).calls es
+    → c.wrong_kind ≡ true → AllAllowed s line es × EndsAtFailure es
+unfolding answer
+by_wrong s a line m c row es h wrong = by (early c) refl h
+  where
+    by : (one : Option Refusal) → early c ≡ one → Follow s a line (unless_refused one (late c) m row).calls es → AllAllowed s line es × EndsAtFailure es
+    by (Some x) is f = by_calls s a line tt f
+    by None is f = absurd (false≢true (sym (kind_and_limit c is).0 ∙ wrong))
 
 -- no event makes the first of the calls
 abbrev NeverStarts : System → List ℕ → Line → List Call → Type 0

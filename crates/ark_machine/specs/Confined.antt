@@ -5,7 +5,7 @@ use Rattle.ark_media.specs.Journal.{Event, Read, Write, Sync, Out, has_succeeded
 use Rattle.ark_script.specs.Line as w
 use Rattle.ark_script.specs.Line.{Line}
 use Rattle.ark_script.specs.Lines.{Meaning, Says, FirstSay}
-use Rattle.ark_machine.specs.Machine.{Machine, Held, vsic_at, label_numbered}
+use Rattle.ark_machine.specs.Machine.{Machine, Held, raw_at, vsic_at, label_numbered}
 use Rattle.ark_machine.specs.Control.{is_open_on}
 use Rattle.ark_machine.specs.Plane.{blocks_at, slot_of, granted}
 use Rattle.ark_machine.specs.System.{System, machine_of}
@@ -50,14 +50,14 @@ writable s (w.grow a l n) = slots_for s.plane a (w.grow a l n) ++ granted s.plan
 writable s (w.drop a x) = slots_for s.plane a (w.drop a x)
 writable s _ = []
 
--- whether it may sync: a card that moves is a storage card, and what is dropped has a slot
+-- whether it may sync: a card that moves is a storage card, what grows is a raw area, and what is dropped has a slot
 abbrev pub may_sync : System → Line → Bool
 may_sync s (w.log a l v) = true
 may_sync s (w.queue a l v) = true
 may_sync s (w.settle a l) = true
 may_sync s (w.dev a v) = is_some (vsic_at (machine_of s a) v)
 may_sync s (w.vsa a l n k) = true
-may_sync s (w.grow a l n) = true
+may_sync s (w.grow a l n) = is_some (raw_at (machine_of s a) l)
 may_sync s (w.drop a x) = is_some (slot_of s.plane a x)
 may_sync s _ = false
 
