@@ -1,5 +1,5 @@
 -- What is so of a row that answers by its conditions.
-use Rattle.std.proofs.Common.{◌≡◌, ◌⊎◌, inl, inr, ℕ, Bool, true, false, not, List, refl, sym, ◌∙◌, ap, subst}
+use Rattle.std.proofs.Common.{◌≡◌, ◌⊎◌, inl, inr, ℕ, Bool, true, false, not, ◌&&◌, ◌||◌, List, refl, sym, ◌∙◌, ap, subst}
 use Rattle.std.proofs.lemmas.Bool.{false≢true}
 use Rattle.std.specs.Prelude.{Option, Some, None, IsTrue}
 use Rattle.ark_base.specs.Conditions.{Conditions, early, late, when, when_some}
@@ -13,7 +13,7 @@ use Rattle.ark_script.specs.declared.said.Said.TheVariants as said
 use Rattle.ark_machine.specs.Machine.{Machine}
 use Rattle.ark_machine.specs.Row.{Row, says, answer, unless_refused}
 use Rattle.ark_machine.specs.Network.{is_let_out}
-use Rattle.ark_machine.specs.Refused.{is_told_late, may_leave, may_fault}
+use Rattle.ark_machine.specs.Refused.{is_told_late, is_of_sending, reaps_first, may_fault}
 use Rattle.ark_machine.proofs.Early.{same_refusal, early_not_told}
 use Rattle.ark_machine.proofs.Steady.{is_plain, Leads}
 
@@ -22,9 +22,13 @@ abbrev pub MaySend : Machine → Option Own → Line → List ℕ → Type 0
 MaySend m own (w.dev a v) frame = IsTrue (is_let_out m v own frame)
 MaySend m own _ frame = ⊥
 
+-- whether a line that is refused so may have done something first
+abbrev pub may_begin : Line → Refusal → Bool
+may_begin line x = is_told_late x || (reaps_first line && is_of_sending x)
+
 pub record IsRow (line : Line) (m : Machine) (own : Option Own) (row : Row) : Type 0 where
   pub sent : row.said ≡ said.Sent → MaySend m own line row.bytes
-  pub refused : (x : Refusal) → row.said ≡ said.Refused x → may_leave line x ≡ false → row ≡ says m (said.Refused x)
+  pub refused : (x : Refusal) → row.said ≡ said.Refused x → may_begin line x ≡ false → row ≡ says m (said.Refused x)
   pub paced : Leads m row.machine
   -- only the words that are refused for a call that failed
   pub told : (x : Refusal) → row.said ≡ said.Refused x → is_told_late x ≡ true → may_fault line ≡ true
@@ -67,8 +71,8 @@ told_late c x h = by c.device_fault c.damaged h
         the_some y z e = cc
     by false None e = cc
 
-told_leaves : (line : Line) (x : Refusal) → is_told_late x ≡ true → may_leave line x ≡ false → ⊥
-told_leaves line x h e = false≢true (sym e ∙ rw h refl)
+told_begins : (line : Line) (x : Refusal) → is_told_late x ≡ true → may_begin line x ≡ false → ⊥
+told_begins line x h e = false≢true (sym e ∙ rw h refl)
 
 -- a row that answers by its conditions
 pub of_answer : (line : Line) (m : Machine) (own : Option Own) (c : Conditions) (row : Row) → (late c ≡ None) ⊎ (may_fault line ≡ true) → is_plain row.said ≡ true → Leads m row.machine
@@ -90,7 +94,7 @@ of_answer line m own c row faults plain lead un = by (early c) (late c) refl ref
     }
     by None (Some x) is also = record {
       sent = λ h. absurd cc;
-      refused = λ y h no. absurd (told_leaves line y (subst (λ z. is_told_late z ≡ true) (same_refusal x y h) (told_late c x also)) no);
+      refused = λ y h no. absurd (told_begins line y (subst (λ z. is_told_late z ≡ true) (same_refusal x y h) (told_late c x also)) no);
       told = λ y h late_one. may faults also;
       paced = lead;
       unmade = λ no. un no is;

@@ -1,92 +1,44 @@
 -- What follows a line's calls touches only what the line may touch: the law that carries confinement for every word.
-use Rattle.std.proofs.Common.{◌≡◌, inl, inr, ℕ, suc, Bool, true, false, List, [], ◌∷◌, ◌++◌, length, drop, refl, arith, cond}
-use Rattle.std.specs.Prelude.{Option, Some, None, Ok, Err, Contains}
-use Rattle.std.specs.List.{AllByRecursion}
-use Rattle.ark_base.specs.Conditions.{Conditions, early, late}
+use Rattle.std.proofs.Common.{◌≡◌, inl, inr, ℕ, Bool, true, false, List, [], ◌∷◌, ◌++◌, length, drop, refl, arith, cond}
+use Rattle.std.specs.Prelude.{Option, Some, None, Ok, Err}
 use Rattle.ark_base.specs.declared.refusal.Refusal.TheVariants as r
-use Rattle.ark_media.specs.Journal.{Event, has_succeeded, device_events}
+use Rattle.ark_media.specs.Journal.{Event, device_events}
 use Rattle.ark_script.specs.Line as w
 use Rattle.ark_script.specs.Line.{Line}
 use Rattle.ark_script.specs.Lines.{Meaning}
 use Rattle.ark_script.specs.declared.said.Said.TheVariants as said
 use Rattle.ark_machine.specs.Bytes.{padded}
-use Rattle.ark_machine.specs.Objects.{is_vsa}
-use Rattle.ark_machine.specs.Machine.{Machine, object_at, log_at, vnic_at, is_so}
+use Rattle.ark_machine.specs.Objects.{Raw, is_vsa}
+use Rattle.ark_machine.specs.Machine.{object_at, raw_at, log_at, vnic_at, is_so}
 use Rattle.ark_machine.specs.Row
-use Rattle.ark_machine.specs.Row.{Row, Call, Ended, answer}
+use Rattle.ark_machine.specs.Row.{Row, Call, Ended, Given, answer, unless_refused}
 use Rattle.ark_machine.specs.Cards.{unreaped_at}
 use Rattle.ark_machine.specs.Logs.{found_in}
 use Rattle.ark_machine.specs.Polls.{polled, next_call}
 use Rattle.ark_machine.specs.Sockets.{pulled, card_at, datagrams_at}
-use Rattle.ark_machine.specs.Plane.{recorded, granted}
+use Rattle.ark_machine.specs.Plane.{recorded, granted, slot_of}
 use Rattle.ark_machine.specs.Step.{step}
 use Rattle.ark_machine.specs.System.{System, machine_of, owner, line_turn, quiet_turn}
 use Rattle.ark_machine.specs.Built.{turn, is_built, so_far, calls_so_far}
-use Rattle.ark_machine.specs.Follow.{Follow, ended, fails, goes_on, again, passes, Performs, PerformsFor, ends_of, slot_index}
+use Rattle.ark_machine.specs.Follow.{Follow, ended, Performs, PerformsFor, ends_of, slots_for}
 use Rattle.ark_machine.specs.Replies.{turn_for, system_after, has_lacked, EachAnswers, Begins, Replies}
 use Rattle.ark_machine.specs.Confined.{AllAllowed, EndsAtFailure, IsConfined, EachConfined, BeginsConfined, Confined}
-use Rattle.ark_machine.proofs.Reaching.{AllowsCall, AllowsAll, AreIn, reads, reads_some, writes, grants, drops, opens, poll_quiet}
+use Rattle.ark_machine.proofs.Following.{allowed_front, ends_front, none_front, slot_in, new_in, only, by_calls, answered, by_row, by_wrong, by_none, by_runs, drop_runs}
+use Rattle.ark_machine.proofs.Reaching.{AllowsCall, reads, reads_some, writes, grants, opens, poll_quiet}
 use Rattle.ark_machine.specs.Paced.{StandsPaced}
+use Rattle.ark_machine.specs.Sending.{pace_by, PassesWithin}
+use Rattle.ark_machine.proofs.Moving.{none_within, line_passes}
+use Rattle.ark_machine.proofs.Passing.{events_front}
 use Rattle.ark_machine.proofs.Sent.{sends_within, rates_kept, paced_keep}
-use Rattle.ark_machine.proofs.Touching.{settles, call_quiet, devices, reaped_quiet, taken_quiet, given_quiet, quiet_all, unless}
+use Rattle.ark_machine.proofs.Touching.{settles, call_quiet, devices, reaped_quiet, taken_quiet, given_quiet, quiet_all}
 
-pub follow_allowed : {s : System} {a : List ℕ} (line : Line) {cs : List Call} {es : List Event} → AllByRecursion (AllowsCall s a line) cs → Follow s a line cs es → AllAllowed s line es
-follow_allowed line h ended = tt
-follow_allowed line h (fails {e = e} makes bad) = (h.0 e makes, tt)
-follow_allowed line h (goes_on {e = e} makes good once more) = (h.0 e makes, follow_allowed line h.1 more)
-follow_allowed line h (again {e = e} makes good many more) = (h.0 e makes, follow_allowed line h more)
-follow_allowed line h (passes many more) = follow_allowed line h.1 more
-
-ends_before : (e : Event) (es : List Event) → has_succeeded e ≡ true → EndsAtFailure es → EndsAtFailure (e ∷ es)
-ends_before e [] good h = tt
-ends_before e (f ∷ fs) good h = (good, h)
-
-pub follow_ends : {s : System} {a : List ℕ} {line : Line} {cs : List Call} {es : List Event} → Follow s a line cs es → EndsAtFailure es
-follow_ends ended = tt
-follow_ends (fails makes bad) = tt
-follow_ends (goes_on {e = e} {es = es} makes good once more) = ends_before e es good (follow_ends more)
-follow_ends (again {e = e} {es = es} makes good many more) = ends_before e es good (follow_ends more)
-follow_ends (passes many more) = follow_ends more
-
--- what is said of events holds of the first of them
-allowed_front : (s : System) (line : Line) (es more : List Event) → AllAllowed s line (es ++ more) → AllAllowed s line es
-allowed_front s line [] more h = tt
-allowed_front s line (e ∷ es) more h = (h.0, allowed_front s line es more h.1)
-
-ends_front : (es more : List Event) → EndsAtFailure (es ++ more) → EndsAtFailure es
-ends_front [] more h = tt
-ends_front (e ∷ []) more h = tt
-ends_front (e ∷ f ∷ es) more h = (h.0, ends_front (f ∷ es) more h.1)
-
-none_front : (es more : List Event) → es ++ more ≡ [] → es ≡ []
-none_front [] more h = refl
-none_front (e ∷ es) more h = cc
-
--- the calls of each word's line are allowed
-
-first_in : (x : ℕ) (xs : List ℕ) → Contains (x ∷ xs) x
-first_in x xs = (0, omega arith, refl)
-
-behind : (x : ℕ) (xs : List ℕ) → AreIn xs (x ∷ xs)
-behind x xs n h = (suc h.0, omega (arith, h.1), h.2)
-
-only : (s : System) (a : List ℕ) (line : Line) (c : Call) → AllowsCall s a line c → AllowsAll s a line (c ∷ [])
-only s a line c h = (h, tt)
-
-by_calls : (s : System) (a : List ℕ) (line : Line) {cs : List Call} {es : List Event} → AllowsAll s a line cs → Follow s a line cs es → AllAllowed s line es × EndsAtFailure es
-by_calls s a line h follow = (follow_allowed line h follow, follow_ends follow)
-
--- a row that is refused has its own calls, or none
-answered : (P : Call → Type 0) (m : Machine) (c : Conditions) (row : Row) → AllByRecursion P row.calls → AllByRecursion P (answer m c row).calls
-unfolding answer
-answered P m c row all = unless P (early c) (late c) m row all
-
-by_row : (s : System) (a : List ℕ) (line : Line) (m : Machine) (c : Conditions) (row : Row) (es : List Event) → Follow s a line (answer m c row).calls es
-    → AllowsAll s a line row.calls → AllAllowed s line es × EndsAtFailure es
-by_row s a line m c row es h all = by_calls s a line (answered (AllowsCall s a line) m c row all) h
-
-by_none : (s : System) (line : Line) (es : List Event) → es ≡ [] → AllAllowed s line es × EndsAtFailure es
-by_none s line es h = rw h (tt, tt)
+grow_confined : (s : System) (a l : List ℕ) (n : ℕ) (g : Given) (es : List Event) → Follow s a (w.grow a l n) (step (machine_of s a) (w.grow a l n) g).calls es
+    → (o : Option Raw) → raw_at (machine_of s a) l ≡ o → AllAllowed s (w.grow a l n) es × EndsAtFailure es
+unfolding step
+grow_confined s a l n g es h None is = by_wrong s a (w.grow a l n) _ _ _ es h (rw is refl)
+grow_confined s a l n g es h (Some x) is =
+    by_row s a (w.grow a l n) _ _ _ es h
+    (grants s a (w.grow a l n) n (new_in (slots_for s.plane a (w.grow a l n)) (granted s.plane (w.grow a l n))) (slot_in (slots_for s.plane a (w.grow a l n)) (granted s.plane (w.grow a l n))) (rw is refl))
 
 -- what comes of a line's calls is within what the line may touch, and ends at a failure
 pub line_confined : (s : System) (line : Line) (ends : List Ended) (memory : Bool) (es : List Event) → PerformsFor s line (line_turn s line ends memory).calls es (owner line) → AllAllowed s line es × EndsAtFailure es
@@ -94,8 +46,8 @@ unfolding step
 line_confined s (w.app a x1) ends memory es h = by_row s a (w.app a x1) _ _ _ es h tt
 line_confined s (w.vsic a x1 x2) ends memory es h = by_row s a (w.vsic a x1 x2) _ _ _ es h tt
 line_confined s (w.vnic a x1 x2 x3) ends memory es h = by_row s a (w.vnic a x1 x2 x3) _ _ _ es h tt
-line_confined s (w.vsa a l n k) ends memory es h = by_row s a (w.vsa a l n k) _ _ _ es h (grants s a (w.vsa a l n k) n (behind (slot_index s.plane a (w.vsa a l n k)) (granted s.plane (w.vsa a l n k))) (first_in (slot_index s.plane a (w.vsa a l n k)) (granted s.plane (w.vsa a l n k))) refl)
-line_confined s (w.grow a l n) ends memory es h = by_row s a (w.grow a l n) _ _ _ es h (grants s a (w.grow a l n) n (behind (slot_index s.plane a (w.grow a l n)) (granted s.plane (w.grow a l n))) (first_in (slot_index s.plane a (w.grow a l n)) (granted s.plane (w.grow a l n))) refl)
+line_confined s (w.vsa a l n k) ends memory es h = by_row s a (w.vsa a l n k) _ _ _ es h (grants s a (w.vsa a l n k) n (new_in (slots_for s.plane a (w.vsa a l n k)) (granted s.plane (w.vsa a l n k))) (slot_in (slots_for s.plane a (w.vsa a l n k)) (granted s.plane (w.vsa a l n k))) refl)
+line_confined s (w.grow a l n) ends memory es h = grow_confined s a l n (recorded s.plane (w.grow a l n) ends memory) es h (raw_at (machine_of s a) l) refl
 line_confined s (w.bind a x1 x2) ends memory es h = by_row s a (w.bind a x1 x2) _ _ _ es h tt
 line_confined s (w.unbind a x1 x2) ends memory es h = by_row s a (w.unbind a x1 x2) _ _ _ es h tt
 line_confined s (w.filter a x1 x2) ends memory es h = by_row s a (w.filter a x1 x2) _ _ _ es h tt
@@ -104,7 +56,7 @@ line_confined s (w.rate a x1 x2 x3) ends memory es h = by_row s a (w.rate a x1 x
 line_confined s (w.pace a x1 x2 x3) ends memory es h = by_row s a (w.pace a x1 x2 x3) _ _ _ es h tt
 line_confined s (w.door a x1) ends memory es h = by_row s a (w.door a x1) _ _ _ es h tt
 line_confined s (w.watch a x1 x2 x3) ends memory es h = by_row s a (w.watch a x1 x2 x3) _ _ _ es h tt
-line_confined s (w.drop a x) ends memory es h = by_row s a (w.drop a x) _ _ _ es h (drops s a (w.drop a x) (is_so is_vsa (object_at (machine_of s a) x)) (first_in (slot_index s.plane a (w.drop a x)) []) refl)
+line_confined s (w.drop a x) ends memory es h = by_runs s a (w.drop a x) _ _ _ es h (drop_runs s a x (is_so is_vsa (object_at (machine_of s a) x)) (slot_of s.plane a x) refl)
 line_confined s (w.buf a x1 x2) ends memory es h = by_row s a (w.buf a x1 x2) _ _ _ es h tt
 line_confined s (w.fill a x1 x2 x3) ends memory es h = by_row s a (w.fill a x1 x2 x3) _ _ _ es h tt
 line_confined s (w.show a x1 x2 x3) ends memory es h = by_row s a (w.show a x1 x2 x3) _ _ _ es h tt
@@ -145,20 +97,28 @@ far_confined : (s : System) (line : Line) (ends : List Ended) (memory : Bool) (e
 far_confined s (w.vsa a l n k) ends memory es h = by_calls s a (w.vsa a l n k) tt h
 far_confined s line ends memory es h = line_confined s line ends memory es h
 
-pub performs_confined : (s : System) (m : Meaning) (ends : List Ended) (memory : Bool) (es : List Event) → Performs s m (turn s m ends memory).calls es → IsConfined s m es
-performs_confined s (Err refusal) ends memory es h = h
-performs_confined s (Ok line) ends memory es h = by_built (is_built line) refl h
+far_passes : (s : System) (line : Line) (ends : List Ended) (memory : Bool) (es : List Event) → StandsPaced s → PerformsFor s line (calls_so_far line (line_turn s line ends memory).calls) es (owner line) → PassesWithin s line es
+far_passes s (w.vsa a l n k) ends memory es paced h = tt
+far_passes s line ends memory es paced h = line_passes s line ends memory es paced h
+
+-- where no call is made
+none_done : (s : System) (line : Line) (es : List Event) (o : Option (List ℕ)) → PerformsFor s line [] es o → es ≡ []
+none_done s line es None f = f
+none_done s line es (Some a) f = nothing f
   where
-    by_built : (b : Bool) → is_built line ≡ b → PerformsFor s line (cond b (so_far line (line_turn s line ends memory)) (quiet_turn s (said.Refused r.UnknownWord))).calls es (owner line) → AllAllowed s line es × EndsAtFailure es
-    by_built true is g = far_confined s line ends memory es g
-    by_built false is g = by_owner (owner line) g
-      where
-        by_owner : (o : Option (List ℕ)) → PerformsFor s line [] es o → AllAllowed s line es × EndsAtFailure es
-        by_owner None f = by_none s line es f
-        by_owner (Some a) f = by_calls s a line tt f
+    nothing : {fs : List Event} → Follow s a line [] fs → fs ≡ []
+    nothing ended = refl
+
+pub performs_confined : (s : System) (m : Meaning) (ends : List Ended) (memory : Bool) (es : List Event) → StandsPaced s → Performs s m (turn s m ends memory).calls es → IsConfined s m es
+performs_confined s (Err refusal) ends memory es paced h = h
+performs_confined s (Ok line) ends memory es paced h = by_built (is_built line) h
+  where
+    by_built : (b : Bool) → PerformsFor s line (cond b (so_far line (line_turn s line ends memory)) (quiet_turn s (said.Refused r.UnknownWord))).calls es (owner line) → IsConfined s (Ok line) es
+    by_built true g = let touches = far_confined s line ends memory es g in (touches.0, touches.1, far_passes s line ends memory es paced g)
+    by_built false g = rw (none_done s line es (owner line) g) (tt, tt, none_within s line paced)
 
 confined_front : (s : System) (m : Meaning) (es more : List Event) → IsConfined s m (es ++ more) → IsConfined s m es
-confined_front s (Ok line) es more h = (allowed_front s line es more h.0, ends_front es more h.1)
+confined_front s (Ok line) es more h = (allowed_front s line es more h.0, ends_front es more h.1, events_front s.now (pace_by s line) es more h.2)
 confined_front s (Err refusal) es more h = none_front es more h
 
 each_confined : (s : System) (ms : List Meaning) (ps : List (List Event)) → StandsPaced s → EachAnswers s ms ps → EachConfined s ms ps
@@ -166,7 +126,7 @@ each_confined s [] ps k h = tt
 each_confined s (m ∷ ms) [] k h = tt
 each_confined s (m ∷ ms) (p ∷ ps) k h = (
   record {
-    device = performs_confined s m (ends_of (device_events p)) (has_lacked p) (device_events p) h.0.calls;
+    device = performs_confined s m (ends_of (device_events p)) (has_lacked p) (device_events p) k h.0.calls;
     sends = sends_within s m p h.0;
     rates = paced_keep (turn_for s m p).after (rates_kept s m p k);
   },
@@ -179,11 +139,16 @@ each_count s [] (p ∷ ps) h = absurd h
 each_count s (m ∷ ms) [] h = absurd h
 each_count s (m ∷ ms) (p ∷ ps) h = let rest : length ms ≡ length ps = each_count (turn_for s m p).after ms ps h.1 in omega (arith, rest)
 
-begins_confined : (s : System) (lines : List (List ℕ)) (es : List Event) → Begins s lines es → BeginsConfined s lines es
-begins_confined s [] es h = h
-begins_confined s (line ∷ lines) es (inl none) = inl none
-begins_confined s (line ∷ lines) es (inr b) =
-    inr (b.0, b.1, confined_front s b.0 es b.2.more (performs_confined s b.0 (ends_of (es ++ b.2.more)) false (es ++ b.2.more) b.2.calls))
+begins_confined : (s : System) (lines : List (List ℕ)) (es : List Event) → StandsPaced s → Begins s lines es → BeginsConfined s lines es
+begins_confined s [] es k h = h
+begins_confined s (line ∷ lines) es k (inl none) = inl none
+begins_confined s (line ∷ lines) es k (inr b) =
+    inr (b.0, b.1, confined_front s b.0 es b.2.more (performs_confined s b.0 (ends_of (es ++ b.2.more)) false (es ++ b.2.more) k b.2.calls))
+
+run_paced : (s : System) (ms : List Meaning) (ps : List (List Event)) → StandsPaced s → StandsPaced (system_after s ms ps)
+run_paced s [] ps k = k
+run_paced s (m ∷ ms) [] k = k
+run_paced s (m ∷ ms) (p ∷ ps) k = run_paced (turn_for s m p).after ms ps (rates_kept s m p k)
 
 -- whoever answers as the machines do is confined
 pub confined_of : (s : System) (lines : List (List ℕ)) (whole : List (List Event)) (unfinished : List Event) → StandsPaced s → Replies s lines whole unfinished → Confined s lines whole unfinished
@@ -192,5 +157,5 @@ confined_of s lines whole unfinished k r = record {
   say = r.say;
   count = each_count s r.meanings whole r.each;
   each = each_confined s r.meanings whole k r.each;
-  begins = begins_confined (system_after s r.meanings whole) (drop (length whole) lines) (device_events unfinished) r.begins;
+  begins = begins_confined (system_after s r.meanings whole) (drop (length whole) lines) (device_events unfinished) (run_paced s r.meanings whole k) r.begins;
 }

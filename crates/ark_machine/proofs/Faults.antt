@@ -1,7 +1,7 @@
 -- What a line leaves that is refused once its device calls have told.
-use Rattle.std.proofs.Common.{◌≡◌, ℕ, Bool, true, false, not, List, [], ◌∷◌, ◌||◌, ◌&&◌, map, refl, sym, ◌∙◌, ap, subst, cond}
+use Rattle.std.proofs.Common.{◌≡◌, ℕ, Bool, true, false, not, List, [], ◌∷◌, ◌&&◌, map, refl, sym, ◌∙◌, ap, subst, cond}
 use Rattle.std.proofs.lemmas.Bool.{false≢true}
-use Rattle.std.specs.Prelude.{Option, Some, None, option_map, find, filter as select, bytes_eq, is_some}
+use Rattle.std.specs.Prelude.{Option, Some, None, option_map, find, filter as select, bytes_eq}
 use Rattle.std.specs.List.{list_any}
 use Rattle.ark_base.specs.Conditions.{Conditions, early, late, when, when_some}
 use Rattle.ark_base.specs.declared.kind.Kind.{Kind}
@@ -41,11 +41,11 @@ faulty : (b : Bool) (x : Refusal) → when b r.DeviceFault None ≡ Some x → b
 faulty true x h = refl
 faulty false x h = absurd cc
 
--- a call failed, or the list that was found is damaged
-faulty_or_damaged : (b : Bool) (d : Option ℕ) (x : Refusal) → when b r.DeviceFault (when_some d (λ n. r.Damaged n) None) ≡ Some x → (b || is_some d) ≡ true
-faulty_or_damaged true d x h = refl
-faulty_or_damaged false (Some n) x h = refl
-faulty_or_damaged false None x h = absurd cc
+-- the list that was found may be damaged
+faulty_found : (b : Bool) (d : Option ℕ) → when b r.DeviceFault (when_some d (λ n. r.Damaged n) None) ≡ Some r.DeviceFault → b ≡ true
+faulty_found true d h = refl
+faulty_found false (Some n) h = absurd cc
+faulty_found false None h = absurd cc
 
 -- The rows.
 
@@ -60,20 +60,20 @@ pub grow_left : (m : Machine) (a s : List ℕ) (n : ℕ) (g : Given) (x : Refusa
 unfolding step
 grow_left m a s n g x h = let e = late_machine m _ _ x refl h.0 h.1 in e.0 ∙ rw (faulty (has_fault g.ended) x e.1) refl
 
-pub log_left : (m : Machine) (a s v : List ℕ) (g : Given) (x : Refusal) → Late (step m (w.log a s v) g) x → (step m (w.log a s v) g).machine ≡ synced_by g.ended m
+pub log_left : (m : Machine) (a s v : List ℕ) (g : Given) → (step m (w.log a s v) g).said ≡ said.Refused r.DeviceFault → (step m (w.log a s v) g).machine ≡ synced_by g.ended m
 unfolding step
-log_left m a s v g x h = let e = late_machine m _ _ x refl h.0 h.1 in e.0 ∙ rw (faulty_or_damaged (has_fault g.ended) (damage_of (found_in (log_at m s))) x e.1) refl
+log_left m a s v g h = let e = late_machine m _ _ r.DeviceFault refl h refl in e.0 ∙ rw (faulty_found (has_fault g.ended) (damage_of (found_in (log_at m s))) e.1) refl
 
-pub queue_left : (m : Machine) (a s v : List ℕ) (g : Given) (x : Refusal) → Late (step m (w.queue a s v) g) x → (step m (w.queue a s v) g).machine ≡ synced_by g.ended m
+pub queue_left : (m : Machine) (a s v : List ℕ) (g : Given) → (step m (w.queue a s v) g).said ≡ said.Refused r.DeviceFault → (step m (w.queue a s v) g).machine ≡ synced_by g.ended m
 unfolding step
-queue_left m a s v g x h = let e = late_machine m _ _ x refl h.0 h.1 in e.0 ∙ rw (faulty_or_damaged (has_fault g.ended) (damage_of (found_in (log_at m s))) x e.1) refl
+queue_left m a s v g h = let e = late_machine m _ _ r.DeviceFault refl h refl in e.0 ∙ rw (faulty_found (has_fault g.ended) (damage_of (found_in (log_at m s))) e.1) refl
 
-gain_left : (m : Machine) (line : Line) (g : Given) (x : Refusal) → is_gain line ≡ true → Late (step m line g) x → (step m line g).machine ≡ synced_by g.ended m
-gain_left m (w.vsa a s n k) g x is h = vsa_left m a s n k g x h
-gain_left m (w.grow a s n) g x is h = grow_left m a s n g x h
-gain_left m (w.log a s v) g x is h = log_left m a s v g x h
-gain_left m (w.queue a s v) g x is h = queue_left m a s v g x h
-gain_left m _ g x is h = absurd (false≢true is)
+gain_left : (m : Machine) (line : Line) (g : Given) → is_gain line ≡ true → (step m line g).said ≡ said.Refused r.DeviceFault → (step m line g).machine ≡ synced_by g.ended m
+gain_left m (w.vsa a s n k) g is h = vsa_left m a s n k g r.DeviceFault (h, refl)
+gain_left m (w.grow a s n) g is h = grow_left m a s n g r.DeviceFault (h, refl)
+gain_left m (w.log a s v) g is h = log_left m a s v g h
+gain_left m (w.queue a s v) g is h = queue_left m a s v g h
+gain_left m _ g is h = absurd (false≢true is)
 
 look_left : (m : Machine) (line : Line) (g : Given) (x : Refusal) → is_look line ≡ true → Late (step m line g) x → (step m line g).machine ≡ m
 unfolding step
@@ -146,10 +146,10 @@ pub turn_said : (s : System) (a : List ℕ) (line : Line) (ends : List Ended) (m
 turn_said s a line ends memory x is h = subst (λ o. (owned_turn s line ends memory o).said ≡ said.Refused x) is h
 
 -- nothing is gained
-pub gain_refused : (s : System) (a : List ℕ) (line : Line) (ends : List Ended) (memory : Bool) (x : Refusal) → owner line ≡ Some a → is_gain line ≡ true
-    → (line_turn s line ends memory).said ≡ said.Refused x → is_told_late x ≡ true → machine_of (line_turn s line ends memory).after a ≡ synced_by ends (machine_of s a)
-gain_refused s a line ends memory x is gain h told =
-    turn_machine s a line ends memory (synced_by ends (machine_of s a)) is (gain_left (machine_of s a) line (recorded s.plane line ends memory) x gain (turn_said s a line ends memory x is h, told))
+pub gain_refused : (s : System) (a : List ℕ) (line : Line) (ends : List Ended) (memory : Bool) → owner line ≡ Some a → is_gain line ≡ true
+    → (line_turn s line ends memory).said ≡ said.Refused r.DeviceFault → machine_of (line_turn s line ends memory).after a ≡ synced_by ends (machine_of s a)
+gain_refused s a line ends memory is gain h =
+    turn_machine s a line ends memory (synced_by ends (machine_of s a)) is (gain_left (machine_of s a) line (recorded s.plane line ends memory) gain (turn_said s a line ends memory r.DeviceFault is h))
 
 -- a label that is given up is gone
 pub drop_refused : (s : System) (a l : List ℕ) (ends : List Ended) (memory : Bool) (x : Refusal) → (line_turn s (w.drop a l) ends memory).said ≡ said.Refused x → is_told_late x ≡ true

@@ -88,8 +88,8 @@ when_some_none : {A : Type 0} (o : Option A) (f : A → Refusal) (later : Option
 when_some_none (Some x) f later h = absurd cc
 when_some_none None f later h = h
 
-below_limit : (c : Conditions) → early c ≡ None → c.limit ≡ false
-below_limit c h =
+pub kind_and_limit : (c : Conditions) → early c ≡ None → (c.wrong_kind ≡ false) × (c.limit ≡ false)
+kind_and_limit c h =
     let a = when_none c.too_long r.TooLong _ h in
     let b = when_none c.unknown_word r.UnknownWord _ a.1 in
     let d = when_none c.syntax_fault r.Syntax _ b.1 in
@@ -97,7 +97,7 @@ below_limit c h =
     let f = when_none c.name_taken r.NameTaken _ e.1 in
     let g = when_some_none c.no_grant (λ l. r.NoGrant l) _ f.1 in
     let i = when_none c.wrong_kind r.WrongKind _ g in
-    (when_none c.limit r.Limit _ i.1).0
+    (i.0, (when_none c.limit r.Limit _ i.1).0)
 
 ok_early : (m : Machine) (c : Conditions) (row : Row) → (answer m c row).said ≡ said.Ok → early c ≡ None
 unfolding answer
@@ -108,7 +108,7 @@ ok_early m c row h = by (early c) (late c) h
     by (Some x) two e = absurd cc
 
 ok_limit : (m : Machine) (c : Conditions) (row : Row) → (answer m c row).said ≡ said.Ok → c.limit ≡ false
-ok_limit m c row h = below_limit c (ok_early m c row h)
+ok_limit m c row h = (kind_and_limit c (ok_early m c row h)).1
 
 below : (n k : ℕ) → nat_le n k ≡ false → k < n
 below n k h = grind (arith, nat_tests)

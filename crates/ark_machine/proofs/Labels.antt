@@ -12,14 +12,16 @@ use Rattle.ark_machine.specs.Bytes.{padded}
 use Rattle.ark_machine.specs.Objects
 use Rattle.ark_machine.specs.Objects.{Object, Raw, Vnic}
 use Rattle.ark_machine.specs.Machine.{Machine, Held, holding, raw_at, vnic_at, socket_at, missing, room_for, with_object, with_vnic}
-use Rattle.ark_machine.specs.Row.{Row, Given, Ended, says, answer, unless_refused}
+use Rattle.ark_machine.specs.Row.{Row, Given, Ended, says, answer, unless_refused, synced_by}
 use Rattle.ark_machine.specs.Areas.{with_raw, raw_written, block_written}
 use Rattle.ark_machine.specs.Network.{is_tx_full}
 use Rattle.ark_machine.specs.Sockets.{tx_reaped, sent_reaped, card_at, posted_at, framed, frame_frames}
 use Rattle.ark_machine.specs.Plane.{recorded}
 use Rattle.ark_machine.specs.Step.{step}
 use Rattle.ark_machine.specs.System.{System, machine_of, owner, line_turn}
-use Rattle.ark_machine.specs.Refused.{is_told_late, is_of_sending, reaps_first, may_leave, may_fault, gives_up, labels}
+use Rattle.ark_machine.specs.Refused.{is_told_late, is_of_sending, reaps_first, may_fault, gives_up, labels}
+use Rattle.ark_machine.proofs.Answering.{may_begin}
+use Rattle.ark_machine.proofs.Damaged.{damaged_left}
 use Rattle.ark_machine.proofs.Early.{same_refusal}
 use Rattle.ark_machine.proofs.Rows.{row_is}
 use Rattle.ark_machine.proofs.Refusing.{refused_spared}
@@ -108,12 +110,18 @@ written_labels : (m : Machine) (l : List ℕ) (off : ℕ) (block : List ℕ) (es
 written_labels m l off block [] = refl
 written_labels m l off block (e ∷ es) = raw_labels m l (raw_written off block e.took)
 
+opened_labels : (m : Machine) (line : Line) (g : Given) (x : Refusal) → ((step m line g).said ≡ said.Refused r.DeviceFault → (step m line g).machine ≡ synced_by g.ended m)
+    → Late (step m line g) x → labels (step m line g).machine ≡ labels m
+opened_labels m line g r.DeviceFault left h = ap labels (left h.0) ∙ synced_labels m g.ended
+opened_labels m line g (r.Damaged n) left h = ap labels (damaged_left m line g n h.0)
+opened_labels m line g _ left h = absurd (false≢true h.1)
+
 late_labels : (m : Machine) (line : Line) (g : Given) (x : Refusal) → may_fault line ≡ true → gives_up line ≡ false → Late (step m line g) x → labels (step m line g).machine ≡ labels m
 unfolding step
 late_labels m (w.vsa a s n k) g x may up h = ap labels (vsa_left m a s n k g x h) ∙ synced_labels m g.ended
 late_labels m (w.grow a s n) g x may up h = ap labels (grow_left m a s n g x h) ∙ synced_labels m g.ended
-late_labels m (w.log a s v) g x may up h = ap labels (log_left m a s v g x h) ∙ synced_labels m g.ended
-late_labels m (w.queue a s v) g x may up h = ap labels (queue_left m a s v g x h) ∙ synced_labels m g.ended
+late_labels m (w.log a s v) g x may up h = opened_labels m (w.log a s v) g x (log_left m a s v g) h
+late_labels m (w.queue a s v) g x may up h = opened_labels m (w.queue a s v) g x (queue_left m a s v g) h
 late_labels m (w.peek a s off) g x may up h = ap labels (late_machine m _ _ x refl h.0 h.1).0
 late_labels m (w.walk a s n) g x may up h = ap labels (late_machine m _ _ x refl h.0 h.1).0
 late_labels m (w.poke a s off bytes) g x may up h = ap labels (late_machine m _ _ x refl h.0 h.1).0 ∙ written_labels m s off (padded bytes) g.ended
@@ -127,7 +135,7 @@ sent_labels m _ g x first h of = absurd (false≢true first)
 row_labels : (m : Machine) (line : Line) (g : Given) (x : Refusal) → gives_up line ≡ false → (step m line g).said ≡ said.Refused x → labels (step m line g).machine ≡ labels m
 row_labels m line g x up h = by (is_told_late x) (reaps_first line) (is_of_sending x) refl refl refl
   where
-    spared : may_leave line x ≡ false → labels (step m line g).machine ≡ labels m
+    spared : may_begin line x ≡ false → labels (step m line g).machine ≡ labels m
     spared spare = ap (λ row. labels row.machine) ((row_is m line g).refused x h spare)
 
     by : (told first of : Bool) → is_told_late x ≡ told → reaps_first line ≡ first → is_of_sending x ≡ of → labels (step m line g).machine ≡ labels m

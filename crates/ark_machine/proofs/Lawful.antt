@@ -34,7 +34,7 @@ use Rattle.ark_machine.proofs.Owned.{no_other_read}
 use Rattle.ark_machine.proofs.Sent.{line_sends, line_paced, paced_keep}
 use Rattle.ark_machine.proofs.Privacy.{others_left, replies_alike}
 use Rattle.ark_machine.proofs.Told.{outputs_private}
-use Rattle.ark_machine.proofs.Refusing.{refused_spared}
+use Rattle.ark_machine.proofs.Damaged.{refused_unchanged}
 use Rattle.ark_machine.proofs.Faults.{gain_refused}
 use Rattle.ark_machine.proofs.Runs.{each_more}
 
@@ -207,12 +207,12 @@ other_left = others_left sending (w.app b None) [] false a b refl refl
 -- a buffer that a descriptor has is lent
 pub lent_spared : (line_turn sending (w.fill a n 0 frame) [] false).after ≡ sending
 unfolding step answer
-lent_spared = (refused_spared sending (w.fill a n 0 frame) [] false r.Lent refl refl).0
+lent_spared = refused_unchanged sending (w.fill a n 0 frame) [] false r.Lent refl refl
 
 -- an area whose last sync fails is not granted
 pub grant_lost : machine_of (line_turn sending (w.vsa a s 2 kind.Raw) (ends_of failed_grant) false).after a ≡ synced_by (ends_of failed_grant) (machine_of sending a)
 unfolding step answer
-grant_lost = gain_refused sending a (w.vsa a s 2 kind.Raw) (ends_of failed_grant) false r.DeviceFault refl refl refl refl
+grant_lost = gain_refused sending a (w.vsa a s 2 kind.Raw) (ends_of failed_grant) false refl refl refl
 
 -- Runs.
 

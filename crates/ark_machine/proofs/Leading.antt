@@ -1,5 +1,5 @@
 -- The machines of rows, whose queues stay paced.
-use Rattle.std.proofs.Common.{◌≡◌, ℕ, Bool, true, false, List, [], ◌∷◌, ◌++◌, ◌&&◌, ◌||◌, length, take, refl, arith, cond}
+use Rattle.std.proofs.Common.{◌≡◌, ℕ, Bool, true, false, List, [], ◌∷◌, ◌++◌, ◌&&◌, length, take, refl, arith, cond}
 use Rattle.std.specs.Prelude.{Option, Some, None, Result, Ok, Err, option_map, bytes_eq, nat_lt, is_some}
 use Rattle.ark_base.specs.declared.kind.Kind.{Kind}
 use Rattle.ark_base.specs.declared.kind.Kind.TheVariants as kind
@@ -16,8 +16,8 @@ use Rattle.ark_script.specs.declared.step.Side.{Side}
 use Rattle.ark_script.specs.declared.step.Side.TheVariants as side
 use Rattle.ark_machine.specs.Objects
 use Rattle.ark_machine.specs.Objects.{Object, Paced, Vsic, Vnic, Job, Place, Datagram, transfer, flush, phase}
-use Rattle.ark_machine.specs.Machine.{Machine, rate_at, serial_at, log_at, room_for, each_object, with_vsic, with_log}
-use Rattle.ark_machine.specs.Row.{Given, Ended, has_fault, synced}
+use Rattle.ark_machine.specs.Machine.{Machine, rate_at, serial_at, log_at, room_for, each_object, with_log}
+use Rattle.ark_machine.specs.Row.{Given, Ended, has_fault, synced, synced_by}
 use Rattle.ark_machine.specs.Control.{lets_go}
 use Rattle.ark_machine.specs.Areas.{new_area, block_written}
 use Rattle.ark_machine.specs.Buffers.{with_new_buffer}
@@ -25,7 +25,7 @@ use Rattle.ark_machine.specs.Rates.{pace_of, new_pace, with_pace, with_door}
 use Rattle.ark_machine.specs.Cards.{bound_with, reap_oldest, reaped}
 use Rattle.ark_machine.specs.Network.{assigned_to, take_received, take_sent, take_oldest, received_at, sent_at, bytes_in}
 use Rattle.ark_machine.specs.Sockets.{with_buffers, socketed_at, with_socket_card, card_places, tx_reaped, sent_reaped, card_at, posted_at, delivered, has_port, max_datagrams, with_datagram, with_received, all_received, rx_reaped, unreaped_rx, pulled, give_oldest}
-use Rattle.ark_machine.specs.Logs.{opening, opened_machine, damage_of, found_in, with_opened}
+use Rattle.ark_machine.specs.Logs.{opening, opened_on, opened_machine, damage_of, found_in, with_opened}
 use Rattle.ark_machine.specs.Paced.{IsPacedAt, ArePacedAt}
 use Rattle.ark_machine.proofs.Paced.{new_paced, object_paced, each_paced, synced_paced, vsic_paced, vnic_paced, log_paced, socket_paced, raw_paced}
 use Rattle.ark_machine.proofs.Steady.{is_plain, Leads, RowSteady}
@@ -155,9 +155,9 @@ give_steady m k (d ∷ ds) = record { plain = refl; paced = λ t h. socket_paced
 
 pub opened_leads : (m : Machine) (s v : List ℕ) (g : Given) → Leads m (opened_machine m s v g)
 opened_leads m s v g =
-    let ready : Machine = with_vsic (with_log m s (opening v (room_for m 1))) v (bound_with (serial_at m s)) in
-    let b : Bool = has_fault g.ended || is_some (damage_of (found_in (log_at m s))) in
-    synced_leads m (cond b m ready) _ (unless_leads m m ready b (λ t h. h) (λ t h. vsic_paced t (with_log m s (opening v (room_for m 1))) v (bound_with (serial_at m s)) (λ y q. q) (log_paced t m s _ h)))
+    let ready : Leads m (opened_on m s v) = λ t h. vsic_paced t (with_log m s (opening v (room_for m 1))) v (bound_with (serial_at m s)) (λ y q. q) (log_paced t m s _ h) in
+    unless_leads m (synced_by g.ended m) _ (has_fault g.ended) (synced_leads m m _ (λ t h. h))
+    (unless_leads m m (synced_by g.ended (opened_on m s v)) (is_some (damage_of (found_in (log_at m s)))) (λ t h. h) (synced_leads m (opened_on m s v) _ ready))
 
 pub with_opened_leads : (m : Machine) (s : List ℕ) (f : Opened → Opened) → Leads m (with_opened m s f)
 with_opened_leads m s f t h = log_paced t m s _ h

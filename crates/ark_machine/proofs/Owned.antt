@@ -1,5 +1,5 @@
 -- What a line may read or write is in the areas of its own application, or new, or its slot.
-use Rattle.std.proofs.Common.{◌≡◌, ◌⊎◌, inl, inr, ℕ, zero, suc, Bool, true, false, List, [], ◌∷◌, sym, ◌∙◌, ap, subst, arith, cond}
+use Rattle.std.proofs.Common.{◌≡◌, ◌⊎◌, inl, inr, ℕ, Bool, true, false, List, [], ◌∷◌, ◌++◌, subst, arith, cond}
 use Rattle.std.proofs.lemmas.List.Elements.{Contains-append_cases}
 use Rattle.std.specs.Prelude.{Option, Some, bytes_eq, Contains}
 use Rattle.std.specs.List.{flat_map}
@@ -9,7 +9,7 @@ use Rattle.ark_machine.specs.Machine.{Held, label_numbered}
 use Rattle.ark_machine.specs.Control.{is_open_on}
 use Rattle.ark_machine.specs.Plane.{blocks_at, granted}
 use Rattle.ark_machine.specs.System.{System, machine_of, owner}
-use Rattle.ark_machine.specs.Follow.{slot_index}
+use Rattle.ark_machine.specs.Follow.{slots_for}
 use Rattle.ark_machine.specs.Confined.{bound_to, blocks_numbered, open_blocks, reach, readable, writable}
 use Rattle.ark_machine.specs.Grants.{GrantsApart}
 use Rattle.ark_machine.proofs.Granted.{areas_apart, new_apart}
@@ -66,11 +66,17 @@ reads_own s _ a n is h = absurd (none_in n h)
 
 -- an own block, a new one, or the slot
 abbrev IsWritten : System → Line → List ℕ → ℕ → Type 0
-IsWritten s line a n = IsOwn s a n ⊎ (Contains (granted s.plane line) n ⊎ (n ≡ slot_index s.plane a line))
+IsWritten s line a n = IsOwn s a n ⊎ (Contains (granted s.plane line) n ⊎ Contains (slots_for s.plane a line) n)
 
-slot_or : (s : System) (a b : List ℕ) (line : Line) (n : ℕ) (xs : List ℕ) → ◌≡◌ {A = Option (List ℕ)} (Some b) (Some a) → (Contains xs n → IsWritten s line a n) → Contains (slot_index s.plane b line ∷ xs) n → IsWritten s line a n
-slot_or s a b line n xs is next (zero, lt, e) = inr (inr (sym e ∙ ap (λ c. slot_index s.plane c line) (same_owner b a is)))
-slot_or s a b line n xs is next (suc i, lt, e) = next (i, omega (arith, lt), e)
+slot_of_own : (s : System) (a b : List ℕ) (line : Line) (n : ℕ) → ◌≡◌ {A = Option (List ℕ)} (Some b) (Some a) → Contains (slots_for s.plane b line) n → IsWritten s line a n
+slot_of_own s a b line n is h = inr (inr (subst (λ c. Contains (slots_for s.plane c line) n) (same_owner b a is) h))
+
+slot_or_new : (s : System) (a b : List ℕ) (line : Line) (n : ℕ) → ◌≡◌ {A = Option (List ℕ)} (Some b) (Some a) → Contains (slots_for s.plane b line ++ granted s.plane line) n → IsWritten s line a n
+slot_or_new s a b line n is h = by (Contains-append_cases (slots_for s.plane b line) (granted s.plane line) n h)
+  where
+    by : Contains (slots_for s.plane b line) n ⊎ Contains (granted s.plane line) n → IsWritten s line a n
+    by (inl slot) = slot_of_own s a b line n is slot
+    by (inr new) = inr (inl new)
 
 pub writes_own : (s : System) (line : Line) (a : List ℕ) (n : ℕ) → owner line ≡ Some a → Contains (writable s line) n → IsWritten s line a n
 writes_own s (w.poke b l off bytes) a n is h = inl (own_of s a b l n is h)
@@ -78,9 +84,9 @@ writes_own s (w.log b l v) a n is h = inl (own_of s a b l n is h)
 writes_own s (w.queue b l v) a n is h = inl (own_of s a b l n is h)
 writes_own s (w.settle b l) a n is h = inl (own_of s a b l n is h)
 writes_own s (w.dev b v) a n is h = inl (subst (λ c. IsOwn s c n) (same_owner b a is) (reach_own s b v n h))
-writes_own s (w.vsa b l k kind) a n is h = slot_or s a b (w.vsa b l k kind) n (granted s.plane (w.vsa b l k kind)) is (λ g. inr (inl g)) h
-writes_own s (w.grow b l k) a n is h = slot_or s a b (w.grow b l k) n (granted s.plane (w.grow b l k)) is (λ g. inr (inl g)) h
-writes_own s (w.drop b x) a n is h = slot_or s a b (w.drop b x) n [] is (λ g. absurd (none_in n g)) h
+writes_own s (w.vsa b l k kind) a n is h = slot_or_new s a b (w.vsa b l k kind) n is h
+writes_own s (w.grow b l k) a n is h = slot_or_new s a b (w.grow b l k) n is h
+writes_own s (w.drop b x) a n is h = slot_of_own s a b (w.drop b x) n is h
 writes_own s _ a n is h = absurd (none_in n h)
 
 -- no line reads a block of another application's area
@@ -91,10 +97,10 @@ no_other_read s line a b l n h is apart may theirs =
 
 -- nor writes one, but where its slot stands
 pub no_other_written : (s : System) (line : Line) (a b l : List ℕ) (n : ℕ) → GrantsApart s.plane → owner line ≡ Some a → bytes_eq a b ≡ false → Contains (writable s line) n → Contains (blocks_at s.plane b l) n
-    → n ≡ slot_index s.plane a line
+    → Contains (slots_for s.plane a line) n
 no_other_written s line a b l n h is apart may theirs = by (writes_own s line a n is may)
   where
-    by : IsWritten s line a n → n ≡ slot_index s.plane a line
+    by : IsWritten s line a n → Contains (slots_for s.plane a line) n
     by (inl own) = absurd (areas_apart s.plane a b own.0 l n h apart own.1 theirs)
     by (inr (inl new)) = absurd (new_apart s.plane line b l n new theirs)
     by (inr (inr slot)) = slot

@@ -1,5 +1,5 @@
 -- Scripts played on the machines, with the device events of each line: their replies, and whether the events follow the calls.
-use Rattle.std.proofs.Common.{◌≡◌, ℕ, Bool, true, false, ◌&&◌, ◌==◌, nat_eq, List, [], ◌∷◌, drop, refl, ap, if◌then◌else◌}
+use Rattle.std.proofs.Common.{◌≡◌, ℕ, Bool, true, false, ◌&&◌, ◌==◌, nat_eq, List, [], ◌∷◌, take, drop, refl, ap, if◌then◌else◌}
 use Rattle.std.proofs.lemmas.Bool.{and_parts, eqb-true, false≢true}
 use Rattle.std.proofs.lemmas.Map.Views.{Contains-from_any}
 use Rattle.std.proofs.lemmas.Slice.Eq.{bytes_eq-Decides}
@@ -12,7 +12,7 @@ use Rattle.ark_machine.specs.Row
 use Rattle.ark_machine.specs.Row.{Call}
 use Rattle.ark_machine.specs.Plane.{blocks_at, granted}
 use Rattle.ark_machine.specs.System.{System, Turn, line_turn, owner}
-use Rattle.ark_machine.specs.Follow.{slot_index, slot_content, is_repeated, ends_of, Makes, ReadsAt, WritesAt, ReadsIn, WritesIn, ZeroesIn, IsSync, Follow, ended, fails, goes_on, again, passes}
+use Rattle.ark_machine.specs.Follow.{slots_for, slot_content, is_repeated, ends_of, Makes, ReadsAt, WritesAt, ReadsIn, WritesIn, ZeroesIn, IsSync, Follow, ended, fails, goes_on, again, passes}
 
 -- a line, and the device events of its part
 abbrev pub Played : Type 0
@@ -73,10 +73,11 @@ makes s a line (Row.writes l k content) e = writes_at (slice_get (blocks_at s.pl
 makes s a line Row.syncs e = is_sync e
 makes s a line (Row.reads_in l) e = reads_in (blocks_at s.plane a l) e
 makes s a line (Row.writes_in l) e = writes_in (blocks_at s.plane a l) e
+makes s a line (Row.writes_first l) e = writes_in (take 1 (blocks_at s.plane a l)) e
 makes s a line (Row.reads_some l) e = reads_in (blocks_at s.plane a l) e
 makes s a line (Row.zeroes_some l) e = zeroes_in (drop 1 (blocks_at s.plane a l)) e
 makes s a line (Row.zeroes_new k) e = writes_at (slice_get (granted s.plane line) k) zero_block e
-makes s a line Row.writes_slot e = writes_at (Some (slot_index s.plane a line)) (slot_content s.plane a line) e
+makes s a line Row.writes_slot e = writes_at (slice_get (slots_for s.plane a line) 0) (slot_content s.plane a line) e
 
 abbrev is_none_left : List Event → Bool
 is_none_left [] = true
@@ -160,10 +161,11 @@ makes_is s a line (Row.writes l k content) e h = writes_at_is (slice_get (blocks
 makes_is s a line Row.syncs e h = sync_is e h
 makes_is s a line (Row.reads_in l) e h = reads_in_is (blocks_at s.plane a l) e h
 makes_is s a line (Row.writes_in l) e h = writes_in_is (blocks_at s.plane a l) e h
+makes_is s a line (Row.writes_first l) e h = writes_in_is (take 1 (blocks_at s.plane a l)) e h
 makes_is s a line (Row.reads_some l) e h = reads_in_is (blocks_at s.plane a l) e h
 makes_is s a line (Row.zeroes_some l) e h = zeroes_in_is (drop 1 (blocks_at s.plane a l)) e h
 makes_is s a line (Row.zeroes_new k) e h = writes_at_is (slice_get (granted s.plane line) k) zero_block e h
-makes_is s a line Row.writes_slot e h = writes_at_is (Some (slot_index s.plane a line)) (slot_content s.plane a line) e h
+makes_is s a line Row.writes_slot e h = writes_at_is (slice_get (slots_for s.plane a line) 0) (slot_content s.plane a line) e h
 
 none_left : (es : List Event) → is_none_left es ≡ true → es ≡ []
 none_left [] h = refl

@@ -1,5 +1,5 @@
 -- Each device call of a line is within what the line may touch, word by word.
-use Rattle.std.proofs.Common.{◌≡◌, ℕ, zero, suc, ◌+◌, Bool, true, false, not, List, [], ◌∷◌, ◌++◌, drop, map, refl, subst, arith, if◌then◌else◌, ◌&&◌, cond}
+use Rattle.std.proofs.Common.{◌≡◌, ℕ, zero, suc, ◌+◌, Bool, true, false, not, List, [], ◌∷◌, ◌++◌, take, drop, map, refl, arith, if◌then◌else◌, ◌&&◌, cond}
 use Rattle.std.specs.Prelude.{Option, Some, None, slice_get, Contains, nat_lt, IsTrue}
 use Rattle.std.specs.List.{AllByRecursion, range_with_len}
 use Rattle.ark_base.specs.declared.kind.Outcome.{Outcome}
@@ -21,7 +21,7 @@ use Rattle.ark_machine.specs.Logs.{opening_calls, with_opened}
 use Rattle.ark_machine.specs.Polls.{polled, poll_log, poll_opened, poll_oldest, poll_card, phase_ended, next_phase, phases_left, one_done, emptied, unreaped_on, posted_on}
 use Rattle.ark_machine.specs.System.{System}
 use Rattle.ark_machine.specs.Plane.{blocks_at, granted}
-use Rattle.ark_machine.specs.Follow.{Makes, slot_index}
+use Rattle.ark_machine.specs.Follow.{Makes, slots_for}
 use Rattle.ark_machine.specs.Confined.{IsAllowed, readable, writable, may_sync}
 
 -- whatever event makes the call is allowed
@@ -42,6 +42,11 @@ at_contains (x ∷ xs) (suc k) n h =
 behind_first : (xs : List ℕ) (n : ℕ) → Contains (drop 1 xs) n → Contains xs n
 behind_first [] n h = h
 behind_first (x ∷ xs) n h = (suc h.0, omega (arith, h.1), h.2)
+
+at_first : (xs : List ℕ) (n : ℕ) → Contains (take 1 xs) n → Contains xs n
+at_first [] n h = h
+at_first (x ∷ xs) n (zero, lt, is) = (zero, omega arith, is)
+at_first (x ∷ xs) n (suc k, lt, is) = absurd (omega (arith, lt))
 
 -- one list has all of another
 abbrev pub AreIn : List ℕ → List ℕ → Type 0
@@ -71,6 +76,12 @@ writes_in s a line l within (Read n ok) h = absurd h
 writes_in s a line l within (Sync ok) h = absurd h
 writes_in s a line l within (Out bytes) h = absurd h
 
+writes_first : (s : System) (a : List ℕ) (line : Line) (l : List ℕ) → AreIn (blocks_at s.plane a l) (writable s line) → AllowsCall s a line (Row.writes_first l)
+writes_first s a line l within (Write n b took ok) h = within n (at_first (blocks_at s.plane a l) n h)
+writes_first s a line l within (Read n ok) h = absurd h
+writes_first s a line l within (Sync ok) h = absurd h
+writes_first s a line l within (Out bytes) h = absurd h
+
 zeroes_some : (s : System) (a : List ℕ) (line : Line) (l : List ℕ) → AreIn (blocks_at s.plane a l) (writable s line) → AllowsCall s a line (Row.zeroes_some l)
 zeroes_some s a line l within (Write n b took ok) h = within n (behind_first (blocks_at s.plane a l) n h.0)
 zeroes_some s a line l within (Read n ok) h = absurd h
@@ -83,7 +94,7 @@ writes s a line l k content within (Read n ok) h = absurd h
 writes s a line l k content within (Sync ok) h = absurd h
 writes s a line l k content within (Out bytes) h = absurd h
 
-pub syncs : (s : System) (a : List ℕ) (line : Line) → IsTrue (may_sync line) → AllowsCall s a line Row.syncs
+pub syncs : (s : System) (a : List ℕ) (line : Line) → IsTrue (may_sync s line) → AllowsCall s a line Row.syncs
 syncs s a line may (Sync ok) h = may
 syncs s a line may (Read n ok) h = absurd h
 syncs s a line may (Write n b took ok) h = absurd h
@@ -95,11 +106,8 @@ zeroes_new s a line k within (Read n ok) h = absurd h
 zeroes_new s a line k within (Sync ok) h = absurd h
 zeroes_new s a line k within (Out bytes) h = absurd h
 
-some_is : (m n : ℕ) → ◌≡◌ {A = Option ℕ} (Some m) (Some n) → m ≡ n
-some_is m n h = cc
-
-writes_slot : (s : System) (a : List ℕ) (line : Line) → Contains (writable s line) (slot_index s.plane a line) → AllowsCall s a line Row.writes_slot
-writes_slot s a line within (Write n b took ok) h = subst (λ k. Contains (writable s line) k) (some_is (slot_index s.plane a line) n h.0) within
+writes_slot : (s : System) (a : List ℕ) (line : Line) → AreIn (slots_for s.plane a line) (writable s line) → AllowsCall s a line Row.writes_slot
+writes_slot s a line within (Write n b took ok) h = within n (at_contains (slots_for s.plane a line) 0 n h.0)
 writes_slot s a line within (Read n ok) h = absurd h
 writes_slot s a line within (Sync ok) h = absurd h
 writes_slot s a line within (Out bytes) h = absurd h
@@ -113,23 +121,23 @@ zeroes_all : (s : System) (a : List ℕ) (line : Line) → AreIn (granted s.plan
 zeroes_all s a line within [] = tt
 zeroes_all s a line within (k ∷ ks) = (zeroes_new s a line k within, zeroes_all s a line within ks)
 
-pub grants : (s : System) (a : List ℕ) (line : Line) (n : ℕ) → AreIn (granted s.plane line) (writable s line) → Contains (writable s line) (slot_index s.plane a line) → IsTrue (may_sync line)
+pub grants : (s : System) (a : List ℕ) (line : Line) (n : ℕ) → AreIn (granted s.plane line) (writable s line) → AreIn (slots_for s.plane a line) (writable s line) → IsTrue (may_sync s line)
     → AllowsAll s a line (grant_calls n)
 grants s a line n within slot may =
     all_append (AllowsCall s a line) (map Row.zeroes_new (range_with_len 0 n)) (Row.syncs ∷ Row.writes_slot ∷ Row.syncs ∷ []) (zeroes_all s a line within (range_with_len 0 n))
     (syncs s a line may, (writes_slot s a line slot, (syncs s a line may, tt)))
 
 -- `drop`
-pub drops : (s : System) (a : List ℕ) (line : Line) (is_area : Bool) → Contains (writable s line) (slot_index s.plane a line) → IsTrue (may_sync line)
+pub drops : (s : System) (a : List ℕ) (line : Line) (is_area : Bool) → AreIn (slots_for s.plane a line) (writable s line) → IsTrue (may_sync s line)
     → AllowsAll s a line (if is_area then Row.writes_slot ∷ Row.syncs ∷ [] else [])
 drops s a line true slot may = (writes_slot s a line slot, (syncs s a line may, tt))
 drops s a line false slot may = tt
 
 -- `log` and `queue`
-pub opens : (s : System) (a : List ℕ) (line : Line) (l : List ℕ) (f : Found) → AreIn (blocks_at s.plane a l) (readable s line) → AreIn (blocks_at s.plane a l) (writable s line) → IsTrue (may_sync line)
+pub opens : (s : System) (a : List ℕ) (line : Line) (l : List ℕ) (f : Found) → AreIn (blocks_at s.plane a l) (readable s line) → AreIn (blocks_at s.plane a l) (writable s line) → IsTrue (may_sync s line)
     → AllowsAll s a line (opening_calls l f)
 opens s a line l (damaged n) r x may = (reads_some s a line l r, tt)
-opens s a line l (found es) r x may = (reads_some s a line l r, (syncs s a line may, (zeroes_some s a line l x, (writes_in s a line l x, (syncs s a line may, tt)))))
+opens s a line l (found es) r x may = (reads_some s a line l r, (syncs s a line may, (zeroes_some s a line l x, (writes_first s a line l x, (syncs s a line may, tt)))))
 
 -- Moves.
 
@@ -152,7 +160,7 @@ tried_calls P now ok count m v x j js calls h =
 
 -- a phase of the log at label l
 pub phase_calls : (s : System) (a : List ℕ) (line : Line) (l : List ℕ) (verb : Verb) (m : Machine) (v : List ℕ) (x : Vsic) (p : Phase) (js : List Job) (e : Ended)
-    → AreIn (blocks_at s.plane a l) (readable s line) → AreIn (blocks_at s.plane a l) (writable s line) → IsTrue (may_sync line)
+    → AreIn (blocks_at s.plane a l) (readable s line) → AreIn (blocks_at s.plane a l) (writable s line) → IsTrue (may_sync s line)
     → AllowsAll s a line (phase_moves verb l m v x p js e).calls
 phase_calls s a line l syncing m v x p js e r w' may = (syncs s a line may, tt)
 phase_calls s a line l reading m v x p js e r w' may =

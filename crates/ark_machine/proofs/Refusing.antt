@@ -16,8 +16,8 @@ use Rattle.ark_machine.specs.Plane.{Plane, LiveFilter, Change, recorded}
 use Rattle.ark_machine.specs.Granting.{after_refusal, change_of}
 use Rattle.ark_machine.specs.Step.{step}
 use Rattle.ark_machine.specs.System.{System, Turn, machine_of, owner, takes, own_turn, nic_turn, taken_turn, wire_turn, common_turn, owned_turn, line_turn}
-use Rattle.ark_machine.specs.Refused.{is_told_late, is_of_sending, reaps_first, may_leave}
-use Rattle.ark_machine.proofs.Answering.{plain_not_refused}
+use Rattle.ark_machine.specs.Refused.{is_told_late, is_of_sending, reaps_first}
+use Rattle.ark_machine.proofs.Answering.{plain_not_refused, may_begin}
 use Rattle.ark_machine.proofs.Rows.{row_is, arrive_steady}
 use Rattle.ark_machine.proofs.Listed.{set_same}
 
@@ -29,18 +29,18 @@ after_early : (p : Plane) (x : Refusal) (c : Option Change) → is_told_late x �
 after_early p r.DeviceFault c h = absurd (false≢true (sym h))
 after_early p _ c h = refl
 
-not_late : (line : Line) (x : Refusal) → may_leave line x ≡ false → is_told_late x ≡ false
+not_late : (line : Line) (x : Refusal) → may_begin line x ≡ false → is_told_late x ≡ false
 not_late line x h = by (is_told_late x) h
   where
     by : (b : Bool) → (b || (reaps_first line && is_of_sending x)) ≡ false → b ≡ false
     by true e = absurd (false≢true (sym e))
     by false e = refl
 
-same_system : (s : System) (p : Plane) (ms : List (List ℕ × Machine)) → p ≡ s.plane → ms ≡ s.machines → ◌≡◌ {A = System} (record { plane = p; now = s.now; machines = ms }) s
+pub same_system : (s : System) (p : Plane) (ms : List (List ℕ × Machine)) → p ≡ s.plane → ms ≡ s.machines → ◌≡◌ {A = System} (record { plane = p; now = s.now; machines = ms }) s
 same_system s p ms e f =
     ap (λ (q : Plane). record { plane = q; now = s.now; machines = ms }) e ∙ ap (λ (ns : List (List ℕ × Machine)). record { plane = s.plane; now = s.now; machines = ns }) f
 
-own_spared : (s : System) (a : List ℕ) (line : Line) (g : Given) (x : Refusal) → (step (machine_of s a) line g).said ≡ said.Refused x → may_leave line x ≡ false
+own_spared : (s : System) (a : List ℕ) (line : Line) (g : Given) (x : Refusal) → (step (machine_of s a) line g).said ≡ said.Refused x → may_begin line x ≡ false
     → IsSpared s (own_turn s a line (step (machine_of s a) line g))
 own_spared s a line g x h spare =
     let m : Machine = machine_of s a in
@@ -59,14 +59,14 @@ wire_spared : (s : System) (frame : List ℕ) (o : Option Own) (x : Refusal) →
 wire_spared s frame None x h = (refl, refl)
 wire_spared s frame (Some own) x h = taken_spared s frame (find (λ f. takes own frame f) s.plane.filters) x h
 
-common_spared : (s : System) (line : Line) (x : Refusal) → (common_turn s line).said ≡ said.Refused x → IsSpared s (common_turn s line)
+pub common_spared : (s : System) (line : Line) (x : Refusal) → (common_turn s line).said ≡ said.Refused x → IsSpared s (common_turn s line)
 common_spared s (w.tick n) x h = absurd cc
 common_spared s (w.nic own) x h = nic_spared s own s.plane.own x h
 common_spared s (w.wire frame) x h = wire_spared s frame s.plane.own x h
 common_spared s _ x h = (refl, refl)
 
--- a refused line leaves the system as it was, but for the refusals that may leave something
-pub refused_spared : (s : System) (line : Line) (ends : List Ended) (memory : Bool) (x : Refusal) → (line_turn s line ends memory).said ≡ said.Refused x → may_leave line x ≡ false
+-- a line that is refused at once leaves the system as it was
+pub refused_spared : (s : System) (line : Line) (ends : List Ended) (memory : Bool) (x : Refusal) → (line_turn s line ends memory).said ≡ said.Refused x → may_begin line x ≡ false
     → IsSpared s (line_turn s line ends memory)
 refused_spared s line ends memory x h spare = by (owner line) h
   where

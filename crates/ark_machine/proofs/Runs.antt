@@ -53,6 +53,7 @@ makes_device s a line (Row.writes l k b) (Out bytes) es h = absurd h
 makes_device s a line Row.syncs (Out bytes) es h = absurd h
 makes_device s a line (Row.reads_in l) (Out bytes) es h = absurd h
 makes_device s a line (Row.writes_in l) (Out bytes) es h = absurd h
+makes_device s a line (Row.writes_first l) (Out bytes) es h = absurd h
 makes_device s a line (Row.reads_some l) (Out bytes) es h = absurd h
 makes_device s a line (Row.zeroes_some l) (Out bytes) es h = absurd h
 makes_device s a line (Row.zeroes_new k) (Out bytes) es h = absurd h

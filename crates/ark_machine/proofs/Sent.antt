@@ -113,6 +113,9 @@ listed_paced t (p ∷ ps) a h =
       | false ↦ listed_paced t ps a h.1
     ]
 
+pub machine_paced : (s : System) (a : List ℕ) → StandsPaced s → MachinePacedAt s.now (machine_of s a)
+machine_paced s a h = listed_paced s.now s.machines a h
+
 set_paced : (t : ℕ) (ms : List (List ℕ × Machine)) (a : List ℕ) (m : Machine) → AllPaced t ms → MachinePacedAt t m → AllPaced t (set_machine ms a m)
 set_paced t [] a m h k = elim m.made as (λ b. AllPaced t (cond b ((a, m) ∷ []) [])) [ true ↦ (k, tt) | false ↦ tt ]
 set_paced t (p ∷ ps) a m h k =

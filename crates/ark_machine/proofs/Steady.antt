@@ -208,11 +208,11 @@ polled_steady m s = poll_log_steady m s (log_at m s)
 
 -- Settling.
 
-abbrev NextSteady : Machine → Next → Type 0
+abbrev pub NextSteady : Machine → Next → Type 0
 NextSteady m (stops r) = RowSteady m r
 NextSteady m (calls_on k) = Leads m k
 
-settle_move_steady : (m : Machine) (s : List ℕ) (e : Ended) → IsSteady m (settle_move m s e).machine (settle_move m s e).said
+pub settle_move_steady : (m : Machine) (s : List ℕ) (e : Ended) → IsSteady m (settle_move m s e).machine (settle_move m s e).said
 settle_move_steady m s e = log_move_steady s m (card_of m s) e
 
 without_steady : (s : List ℕ) (m k : Machine) (x : Move) → Leads m k → Leads m x.machine → NextSteady m (without_call s k x)

@@ -57,7 +57,7 @@ settle_moves : (s : System) (a l : List ℕ) (m : Machine) (e : Ended) → Allow
 settle_moves s a l m e = log_move_all s a l m (card_of m l) (vsic_at m (card_of m l)) e
 
 -- a row with which settling stops calls no device
-abbrev StopsQuiet : Next → Type 0
+abbrev pub StopsQuiet : Next → Type 0
 StopsQuiet (stops r) = IsQuiet r
 StopsQuiet (calls_on m) = Unit {0}
 
@@ -140,15 +140,15 @@ transfer_calls s a v t k within =
       | false ↦ (reads s a (w.dev a v) (label_numbered m t.vsa) (t.off + k) within, tt)
     ]
 
-phases_on : (s : System) (a v : List ℕ) (x : Vsic) (p : Phase) (js : List Job) (e : Ended) (o : Option (List ℕ)) → log_on (machine_of s a) v ≡ o
+phases_on : (s : System) (a v : List ℕ) (x : Vsic) (p : Phase) (js : List Job) (e : Ended) (o : Option (List ℕ)) → vsic_at (machine_of s a) v ≡ Some x → log_on (machine_of s a) v ≡ o
     → AllowsAll s a (w.dev a v) (phase_moves_on o (machine_of s a) v x p js e).calls
-phases_on s a v x p js e None on = tt
-phases_on s a v x p js e (Some l) on = phase_calls s a (w.dev a v) l p.verb (machine_of s a) v x p js e (reaches_log s a v l on) (reaches_log s a v l on) refl
+phases_on s a v x p js e None at on = tt
+phases_on s a v x p js e (Some l) at on = phase_calls s a (w.dev a v) l p.verb (machine_of s a) v x p js e (reaches_log s a v l on) (reaches_log s a v l on) (rw at refl)
 
 moves_in : (s : System) (a v : List ℕ) (x : Vsic) (js : List Job) (e : Ended) → vsic_at (machine_of s a) v ≡ Some x → AllowsAll s a (w.dev a v) (moved (machine_of s a) v x js e).calls
 moves_in s a v x [] e at = tt
-moves_in s a v x (flush ∷ js) e at = (syncs s a (w.dev a v) refl, tt)
-moves_in s a v x (phase p ∷ js) e at = phases_on s a v x p js e (log_on (machine_of s a) v) refl
+moves_in s a v x (flush ∷ js) e at = (syncs s a (w.dev a v) (rw at refl), tt)
+moves_in s a v x (phase p ∷ js) e at = phases_on s a v x p js e (log_on (machine_of s a) v) at refl
 moves_in s a v x (transfer t ∷ js) e at =
     let m : Machine = machine_of s a in
     let after : Machine = transferred m t x.queue.moved e (raw_numbered m t.vsa) in
@@ -178,7 +178,7 @@ frame_quiet P m v x own p len ps frame =
       ]
     ]
 
-tx_quiet : (P : Call → Type 0) (m : Machine) (v : List ℕ) (x : Vnic) (own : Option Own) (ps : List (Place × ℕ)) → AllByRecursion P (tx_moves m v x own ps).calls
+pub tx_quiet : (P : Call → Type 0) (m : Machine) (v : List ℕ) (x : Vnic) (own : Option Own) (ps : List (Place × ℕ)) → AllByRecursion P (tx_moves m v x own ps).calls
 tx_quiet P m v x own [] = tt
 tx_quiet P m v x own (p ∷ ps) = frame_quiet P m v x own p.0 p.1 ps (take p.1 (bytes_in m p.0))
 

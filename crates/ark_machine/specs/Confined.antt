@@ -1,16 +1,16 @@
 -- Which blocks a line may touch and which frames it may send, by the grants that are held before it.
-use Rattle.std.specs.Prelude.{◌≡◌, ◌⊎◌, ℕ, Bool, true, false, List, [], ◌∷◌, ◌++◌, length, drop, if◌then◌else◌, option_map, unwrap_or, Ok, Err, Contains, IsTrue}
+use Rattle.std.specs.Prelude.{◌≡◌, ◌⊎◌, ℕ, Bool, true, false, List, [], ◌∷◌, ◌++◌, length, drop, if◌then◌else◌, is_some, option_map, unwrap_or, Ok, Err, Contains, IsTrue}
 use Rattle.std.specs.List.{flat_map}
 use Rattle.ark_media.specs.Journal.{Event, Read, Write, Sync, Out, has_succeeded, device_events, output_of}
 use Rattle.ark_script.specs.Line as w
 use Rattle.ark_script.specs.Line.{Line}
 use Rattle.ark_script.specs.Lines.{Meaning, Says, FirstSay}
-use Rattle.ark_machine.specs.Machine.{Machine, Held, vsic_at, label_numbered}
+use Rattle.ark_machine.specs.Machine.{Machine, Held, raw_at, vsic_at, label_numbered}
 use Rattle.ark_machine.specs.Control.{is_open_on}
-use Rattle.ark_machine.specs.Plane.{blocks_at, granted}
+use Rattle.ark_machine.specs.Plane.{blocks_at, slot_of, granted}
 use Rattle.ark_machine.specs.System.{System, machine_of}
-use Rattle.ark_machine.specs.Follow.{slot_index}
-use Rattle.ark_machine.specs.Sending.{SendsWithin, AllKeep}
+use Rattle.ark_machine.specs.Follow.{slots_for}
+use Rattle.ark_machine.specs.Sending.{SendsWithin, AllKeep, PassesWithin}
 use Rattle.ark_machine.specs.Replies.{turn_for, system_after}
 
 -- what a card reaches: the areas that are bound to it, by the numbers of their objects, and the log that is open on it
@@ -45,25 +45,26 @@ writable s (w.log a l v) = blocks_at s.plane a l
 writable s (w.queue a l v) = blocks_at s.plane a l
 writable s (w.settle a l) = blocks_at s.plane a l
 writable s (w.dev a v) = reach s a v
-writable s (w.vsa a l n k) = slot_index s.plane a (w.vsa a l n k) ∷ granted s.plane (w.vsa a l n k)
-writable s (w.grow a l n) = slot_index s.plane a (w.grow a l n) ∷ granted s.plane (w.grow a l n)
-writable s (w.drop a x) = slot_index s.plane a (w.drop a x) ∷ []
+writable s (w.vsa a l n k) = slots_for s.plane a (w.vsa a l n k) ++ granted s.plane (w.vsa a l n k)
+writable s (w.grow a l n) = slots_for s.plane a (w.grow a l n) ++ granted s.plane (w.grow a l n)
+writable s (w.drop a x) = slots_for s.plane a (w.drop a x)
 writable s _ = []
 
-abbrev pub may_sync : Line → Bool
-may_sync (w.log a l v) = true
-may_sync (w.queue a l v) = true
-may_sync (w.settle a l) = true
-may_sync (w.dev a v) = true
-may_sync (w.vsa a l n k) = true
-may_sync (w.grow a l n) = true
-may_sync (w.drop a x) = true
-may_sync _ = false
+-- whether it may sync: a card that moves is a storage card, what grows is a raw area, and what is dropped has a slot
+abbrev pub may_sync : System → Line → Bool
+may_sync s (w.log a l v) = true
+may_sync s (w.queue a l v) = true
+may_sync s (w.settle a l) = true
+may_sync s (w.dev a v) = is_some (vsic_at (machine_of s a) v)
+may_sync s (w.vsa a l n k) = true
+may_sync s (w.grow a l n) = is_some (raw_at (machine_of s a) l)
+may_sync s (w.drop a x) = is_some (slot_of s.plane a x)
+may_sync s _ = false
 
 abbrev pub IsAllowed : System → Line → Event → Type 0
 IsAllowed s line (Read n ok) = Contains (readable s line) n
 IsAllowed s line (Write n content took ok) = Contains (writable s line) n
-IsAllowed s line (Sync ok) = IsTrue (may_sync line)
+IsAllowed s line (Sync ok) = IsTrue (may_sync s line)
 IsAllowed s line (Out bytes) = Unit {0}
 
 abbrev pub AllAllowed : System → Line → List Event → Type 0
@@ -76,12 +77,12 @@ EndsAtFailure [] = Unit {0}
 EndsAtFailure (e ∷ []) = Unit {0}
 EndsAtFailure (e ∷ f ∷ es) = IsTrue (has_succeeded e) × EndsAtFailure (f ∷ es)
 
--- the device events of one line
+-- the device events of one line: what they touch, that they end at a failure, and that their blocks are within the rate
 abbrev pub IsConfined : System → Meaning → List Event → Type 0
-IsConfined s (Ok line) es = AllAllowed s line es × EndsAtFailure es
+IsConfined s (Ok line) es = AllAllowed s line es × EndsAtFailure es × PassesWithin s line es
 IsConfined s (Err refusal) es = es ≡ []
 
--- each whole part: what was done to the device, the frame that went out, and the rates afterwards
+-- each whole part: what was done to the device, the frame that went out, and the rates of all queues afterwards
 pub record IsPartConfined (s : System) (m : Meaning) (part : List Event) : Type 0 where
   pub device : IsConfined s m (device_events part)
   pub sends : SendsWithin s m (output_of part)

@@ -1,5 +1,5 @@
 -- How device events follow a line's calls.
-use Rattle.std.specs.Prelude.{◌≡◌, ℕ, Bool, true, false, List, [], ◌∷◌, drop, map, Option, Some, None, option_map, slice_get, unwrap_or, Ok, Err, Contains}
+use Rattle.std.specs.Prelude.{◌≡◌, ℕ, Bool, true, false, List, [], ◌∷◌, length, take, drop, map, nat_lt, if◌then◌else◌, Option, Some, None, option_map, slice_get, unwrap_or, Ok, Err, Contains}
 use Rattle.ark_media.specs.Journal.{Event, Read, Write, Sync, Out, zero_block, has_succeeded}
 use Rattle.ark_table.specs.Slots.{Slot, slot_bytes}
 use Rattle.ark_caladan.specs.Chain.{reading, writing, syncing}
@@ -8,7 +8,7 @@ use Rattle.ark_script.specs.Line.{Line}
 use Rattle.ark_script.specs.Lines.{Meaning}
 use Rattle.ark_machine.specs.Row
 use Rattle.ark_machine.specs.Row.{Call, Ended}
-use Rattle.ark_machine.specs.Plane.{Plane, blocks_at, granted, slot_of, free_slot}
+use Rattle.ark_machine.specs.Plane.{Plane, blocks_at, granted, slot_of, max_slots, free_slot}
 use Rattle.ark_machine.specs.Granting.{new_slot, with_more}
 use Rattle.ark_machine.specs.System.{System, owner}
 
@@ -36,16 +36,19 @@ abbrev pub IsSync : Event → Type 0
 IsSync (Sync ok) = Unit {0}
 IsSync _ = ⊥
 
--- the slot that a line writes: the area's own, or the least free one
-abbrev pub index_of : Option Slot → ℕ
-index_of slot = unwrap_or (option_map (λ t. t.index) slot) 0
+-- The slots of the table that a line may write, none or one: the least free one, or that of an area that is held.
 
-abbrev pub slot_index : Plane → List ℕ → Line → ℕ
-slot_index p a (w.drop b x) = index_of (slot_of p a x)
-slot_index p a (w.grow b s n) = index_of (slot_of p a s)
-slot_index p a _ = free_slot p
+abbrev pub own_index : Option Slot → List ℕ
+own_index None = []
+own_index (Some t) = t.index ∷ []
 
--- what it writes there
+abbrev pub slots_for : Plane → List ℕ → Line → List ℕ
+slots_for p a (w.vsa b s n k) = if nat_lt (length p.slots) max_slots then free_slot p ∷ [] else []
+slots_for p a (w.grow b s n) = own_index (slot_of p a s)
+slots_for p a (w.drop b x) = own_index (slot_of p a x)
+slots_for p a _ = []
+
+-- what a line writes there
 abbrev pub grown_content : Option Slot → List ℕ → List ℕ
 grown_content slot more = unwrap_or (option_map (λ t. slot_bytes (with_more t more)) slot) zero_block
 
@@ -61,10 +64,11 @@ Makes s a line (Row.writes l k content) e = WritesAt (slice_get (blocks_at s.pla
 Makes s a line Row.syncs e = IsSync e
 Makes s a line (Row.reads_in l) e = ReadsIn (blocks_at s.plane a l) e
 Makes s a line (Row.writes_in l) e = WritesIn (blocks_at s.plane a l) e
+Makes s a line (Row.writes_first l) e = WritesIn (take 1 (blocks_at s.plane a l)) e
 Makes s a line (Row.reads_some l) e = ReadsIn (blocks_at s.plane a l) e
 Makes s a line (Row.zeroes_some l) e = ZeroesIn (drop 1 (blocks_at s.plane a l)) e
 Makes s a line (Row.zeroes_new k) e = WritesAt (slice_get (granted s.plane line) k) zero_block e
-Makes s a line Row.writes_slot e = WritesAt (Some (slot_index s.plane a line)) (slot_content s.plane a line) e
+Makes s a line Row.writes_slot e = WritesAt (slice_get (slots_for s.plane a line) 0) (slot_content s.plane a line) e
 
 abbrev pub is_repeated : Call → Bool
 is_repeated (Row.reads_some l) = true

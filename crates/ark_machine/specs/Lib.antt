@@ -24,6 +24,7 @@ pub mod Sending
 pub mod Confined
 pub mod Start
 pub mod Recovers
+pub mod Stopped
 pub mod Paced
 pub mod Refused
 pub mod Asked

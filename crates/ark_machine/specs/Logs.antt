@@ -10,7 +10,7 @@ use Rattle.ark_script.specs.declared.said.Said.TheVariants as said
 use Rattle.ark_machine.specs.Bytes.{Frames}
 use Rattle.ark_machine.specs.Objects.{held_in}
 use Rattle.ark_machine.specs.Machine.{Machine, log_at, vsic_at, serial_at, missing, with_log, with_vsic, room_for}
-use Rattle.ark_machine.specs.Row.{Row, Given, Call, syncs, reads_some, zeroes_some, writes_in, says, answer, has_fault, synced_by}
+use Rattle.ark_machine.specs.Row.{Row, Given, Call, syncs, reads_some, zeroes_some, writes_first, says, answer, has_fault, synced_by}
 use Rattle.ark_machine.specs.Control.{has_log}
 use Rattle.ark_machine.specs.Cards.{bound_with, bound_without}
 
@@ -57,20 +57,25 @@ opening v (Some start) g = record g {
 }
 opening v None g = g
 
--- the reads; then, where the list is not damaged, a sync, zeros to ring blocks, the header, a sync
+-- the reads; then, where the list is not damaged, a sync, zeros to ring blocks, the header to the first block, a sync
 abbrev pub opening_calls : List ℕ → Found → List Call
 opening_calls s (damaged n) = reads_some s ∷ []
-opening_calls s (found l) = reads_some s ∷ syncs ∷ zeroes_some s ∷ writes_in s ∷ syncs ∷ []
+opening_calls s (found l) = reads_some s ∷ syncs ∷ zeroes_some s ∷ writes_first s ∷ syncs ∷ []
 
 -- a log is open on the card, or a descriptor is in its ring
 abbrev pub is_card_busy : Machine → List ℕ → Bool
 is_card_busy m v = has_log m v || unwrap_or (option_map (λ x. nat_lt 0 (held_in x.queue)) (vsic_at m v)) false
 
+-- open on the card, and bound there
+abbrev pub opened_on : Machine → List ℕ → List ℕ → Machine
+opened_on m s v = with_vsic (with_log m s (opening v (room_for m 1))) v (bound_with (serial_at m s))
+
+-- not opened where a call failed; as it was where the list is damaged
 abbrev pub opened_machine : Machine → List ℕ → List ℕ → Given → Machine
 opened_machine m s v g =
-    synced_by g.ended
-    (if has_fault g.ended || is_some (damage_of (found_in (log_at m s))) then m
-    else with_vsic (with_log m s (opening v (room_for m 1))) v (bound_with (serial_at m s)))
+    if has_fault g.ended then synced_by g.ended m
+    else if is_some (damage_of (found_in (log_at m s))) then m
+    else synced_by g.ended (opened_on m s v)
 
 abbrev pub found_entries : Machine → List ℕ → Entries
 found_entries m s = entries (found_in (log_at m s))

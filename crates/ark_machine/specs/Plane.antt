@@ -1,5 +1,5 @@
 -- The control plane: what is granted, as sets and lists of names, blocks and filters.
-use Rattle.std.specs.Prelude.{ℕ, zero, suc, ◌+◌, ◌-◌, Bool, true, false, not, ◌&&◌, List, [], ◌++◌, length, take, nat_le, nat_lt, ◌==◌, if◌then◌else◌, Option, Some, None, is_none, option_map, find, filter as select, unwrap_or, bytes_eq}
+use Rattle.std.specs.Prelude.{ℕ, zero, suc, ◌+◌, ◌-◌, Bool, true, false, not, ◌&&◌, List, [], ◌++◌, length, take, nat_le, nat_lt, ◌==◌, if◌then◌else◌, Option, Some, None, is_some, is_none, option_map, find, filter as select, unwrap_or, bytes_eq}
 use Rattle.std.specs.List.{list_any, range_with_len}
 use Rattle.ark_extents.specs.Blocks.{runs_of}
 use Rattle.ark_filters.specs.Overlap.{meets}
@@ -110,6 +110,13 @@ is_at_limit p (w.app a frames) = nat_le max_apps (length p.apps)
 is_at_limit p (w.vsa a s n k) = nat_le max_slots (length p.slots)
 is_at_limit p _ = false
 
+-- whether the line changes the table, so that it is refused once a change of the table has failed
+abbrev pub is_change : Plane → Line → Bool
+is_change p (w.vsa a s n k) = true
+is_change p (w.grow a s n) = true
+is_change p (w.drop a x) = is_some (slot_of p a x)
+is_change p _ = false
+
 abbrev pub is_receive : Direction → Bool
 is_receive direction.Rx = true
 is_receive direction.Tx = false
@@ -131,7 +138,7 @@ recorded p line ends memory = record {
   no_space = unwrap_or (option_map (λ n. nat_lt (length (free_blocks p)) n) (asked line)) false;
   scattered = nat_lt max_runs (length (runs_of (before_them p line ++ granted p line)));
   overlap = overlapped p line;
-  table_failed = p.failed;
+  table_failed = is_change p line && p.failed;
   own = p.own;
   ended = ends;
   no_memory = memory;

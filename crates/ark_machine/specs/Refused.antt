@@ -22,9 +22,14 @@ abbrev pub reaps_first : Line → Bool
 reaps_first (w.sendto a k ip port payload) = true
 reaps_first _ = false
 
+-- a device call failed
+abbrev pub is_fault : Refusal → Bool
+is_fault r.DeviceFault = true
+is_fault _ = false
+
 -- whether a line that is refused so may have changed something
 abbrev pub may_leave : Line → Refusal → Bool
-may_leave line x = is_told_late x || (reaps_first line && is_of_sending x)
+may_leave line x = is_fault x || (reaps_first line && is_of_sending x)
 
 -- the line gives its application an area, more blocks, or an open log
 abbrev pub is_gain : Line → Bool

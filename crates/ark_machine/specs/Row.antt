@@ -30,7 +30,7 @@ pub record Given : Type 0 where
   pub scattered : Bool
   -- the earliest live receive filter that the new one overlaps, by its owner and label
   pub overlap : Option (List ℕ × List ℕ)
-  -- a change of the table of grants has failed in this run
+  -- the line changes the table of grants, and a change of it has failed in this run
   pub table_failed : Bool
   pub own : Option Own
   pub ended : List Ended
@@ -45,6 +45,8 @@ pub data Call : Type 0 where
   -- one read, or one write of any content, anywhere in the area
   reads_in : List ℕ → Call
   writes_in : List ℕ → Call
+  -- one write of any content to the area's first block
+  writes_first : List ℕ → Call
   -- any number of reads in the area, or of zero writes to any of its blocks but the first
   reads_some : List ℕ → Call
   zeroes_some : List ℕ → Call

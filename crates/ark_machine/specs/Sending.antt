@@ -1,15 +1,18 @@
 -- Frames that go out, and the rates that queues keep.
-use Rattle.std.specs.Prelude.{◌≡◌, ℕ, List, IsTrue, Option, Some, None, Ok}
+use Rattle.std.specs.Prelude.{◌≡◌, ℕ, List, [], ◌∷◌, ◌++◌, IsTrue, Option, Some, None, option_and_then, Ok}
 use Rattle.std.specs.List.{AllByRecursion}
-use Rattle.ark_vic.specs.Pace.{Keeps}
+use Rattle.ark_media.specs.Journal.{Event, Read, Write, Sync, Out}
+use Rattle.ark_vic.specs.Pace.{Pass, Keeps}
 use Rattle.ark_script.specs.Line as w
+use Rattle.ark_script.specs.Line.{Line}
 use Rattle.ark_script.specs.Lines.{Meaning}
 use Rattle.ark_script.specs.Text.{text}
 use Rattle.ark_script.specs.declared.said.Said.TheVariants as said
 use Rattle.ark_machine.specs.Objects
 use Rattle.ark_machine.specs.Objects.{Object, Paced}
-use Rattle.ark_machine.specs.Machine.{Machine, Held}
+use Rattle.ark_machine.specs.Machine.{Machine, Held, vsic_at}
 use Rattle.ark_machine.specs.Network.{is_let_out}
+use Rattle.ark_machine.specs.Logs.{card_of}
 use Rattle.ark_machine.specs.System.{System, machine_of}
 
 -- the line moves a card, and a transmit filter that is assigned to the card takes the frame
@@ -44,3 +47,32 @@ ListedKeeps p = MachineKeeps p.1
 -- every queue of every application does
 abbrev pub AllKeep : System → Type 0
 AllKeep s = AllByRecursion ListedKeeps s.machines
+
+-- Blocks that pass while a line makes its device calls.
+
+-- each block that is read or written is a pass at this tick
+abbrev pub blocks_passed : ℕ → List Event → List Pass
+blocks_passed now [] = []
+blocks_passed now (Read n ok ∷ es) = (now, 512) ∷ blocks_passed now es
+blocks_passed now (Write n content took ok ∷ es) = (now, 512) ∷ blocks_passed now es
+blocks_passed now (Sync ok ∷ es) = blocks_passed now es
+blocks_passed now (Out bytes ∷ es) = blocks_passed now es
+
+-- the pace of a storage card's queue
+abbrev pub pace_at : Machine → List ℕ → Option Paced
+pace_at m v = option_and_then (λ x. x.pace) (vsic_at m v)
+
+-- that of the card that a line moves: of `settle` the card of its log
+abbrev pub pace_by : System → Line → Option Paced
+pace_by s (w.dev a v) = pace_at (machine_of s a) v
+pace_by s (w.settle a l) = pace_at (machine_of s a) (card_of (machine_of s a) l)
+pace_by s _ = None
+
+-- with these passes more, the queue keeps the law of its rate
+abbrev pub KeepsWith : Option Paced → List Pass → Type 0
+KeepsWith None more = Unit {0}
+KeepsWith (Some p) more = Keeps p.q p.burst (p.passes ++ more)
+
+-- the blocks of a line's device events are within the rate of the card that it moves
+abbrev pub PassesWithin : System → Line → List Event → Type 0
+PassesWithin s line es = KeepsWith (pace_by s line) (blocks_passed s.now es)

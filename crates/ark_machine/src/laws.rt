@@ -2,6 +2,7 @@
 ghost use Rattle.std.specs.Prelude.{◌≡◌, ◌≤◌, ◌++◌, ℕ, Bool, true, false, List, [], ◌∷◌, Some, None, Ok, Contains, bytes_eq, length, map};
 ghost use Rattle.ark_base.specs.Conditions.{Conditions, first};
 ghost use Rattle.ark_base.specs.declared.refusal.Refusal.{Refusal};
+ghost use Rattle.ark_base.specs.declared.refusal.Refusal.TheVariants as r;
 ghost use Rattle.ark_media.specs.Journal.{Event};
 ghost use Rattle.ark_table.specs.Slots.{Slot, slots_of};
 ghost use Rattle.ark_script.specs.Line as w;
@@ -14,10 +15,10 @@ ghost use Rattle.ark_machine.specs.System.{System, fresh_system, machine_of, own
 ghost use Rattle.ark_machine.specs.Sockets.{sent_reaped};
 ghost use Rattle.ark_machine.specs.Start.{start_system};
 ghost use Rattle.ark_machine.specs.Plane.{Plane, blocks_at, granted};
-ghost use Rattle.ark_machine.specs.Follow.{PerformsFor, slot_index};
+ghost use Rattle.ark_machine.specs.Follow.{PerformsFor, slots_for};
 ghost use Rattle.ark_machine.specs.Grants.{GrantsApart};
 ghost use Rattle.ark_machine.specs.Replies.{Answers, EachAnswers, turn_for, system_after, Replies};
-ghost use Rattle.ark_machine.specs.Sending.{IsLetOut, AllKeep};
+ghost use Rattle.ark_machine.specs.Sending.{IsLetOut, AllKeep, PassesWithin};
 ghost use Rattle.ark_machine.specs.Paced.{StandsPaced};
 ghost use Rattle.ark_machine.specs.Confined.{AllAllowed, EndsAtFailure, Confined, readable, writable};
 ghost use Rattle.ark_machine.specs.Private.{Play, after_plays, inputs_of, replies_to, private_replies, private_machine};
@@ -27,10 +28,12 @@ ghost use Rattle.ark_machine.specs.Refused.{is_told_late, is_of_sending, may_lea
 
 /// Every line is confined. What follows its device calls touches only the blocks that the grants of its application allow it,
 /// and ends at the first call that fails. A frame goes out only by a move of a card, and only where a transmit filter that is
-/// assigned to the card takes it. Each queue keeps its rate after a line if it did before, with no pass in the time to come; at
-/// the start of a run, on a fresh device or a stored one, there is none. So whoever answers as the machines do is confined.
+/// assigned to the card takes it. Each queue keeps its rate after a line if it did before, with no pass in the time to come, and
+/// the blocks of the line's device calls, as far as they are made, are within the rate of the storage card that it moves; at the
+/// start of a run, on a fresh device or a stored one, there is no pass. So whoever answers as the machines do is confined.
 pub fn confinement_laws()
     ensures touches { (s : System) (line : Line) (ends : List Ended) (memory : Bool) (es : List Event) → PerformsFor s line (line_turn s line ends memory).calls es (owner line) → AllAllowed s line es }
+    ensures passes { (s : System) (line : Line) (ends : List Ended) (memory : Bool) (es : List Event) → StandsPaced s → PerformsFor s line (line_turn s line ends memory).calls es (owner line) → PassesWithin s line es }
     ensures stops { (s : System) (line : Line) (ends : List Ended) (memory : Bool) (es : List Event) → PerformsFor s line (line_turn s line ends memory).calls es (owner line) → EndsAtFailure es }
     ensures sends { (s : System) (line : Line) (ends : List Ended) (memory : Bool) → (line_turn s line ends memory).said ≡ said.Sent → IsLetOut s (Ok line) (line_turn s line ends memory).bytes }
     ensures paced { (s : System) (line : Line) (ends : List Ended) (memory : Bool) → StandsPaced s → StandsPaced (line_turn s line ends memory).after }
@@ -41,7 +44,7 @@ pub fn confinement_laws()
 {}
 
 /// No block is granted twice: not in the slots that are read from an image, nor after a line if not before it, and a new block
-/// is in no area. So a line reads no block of another application's area, and writes none but where its slot stands.
+/// is in no area. So a line reads no block of another application's area, and writes none but at a slot that it may write.
 pub fn grant_laws()
     ensures fresh { (size : ℕ) → GrantsApart (fresh_system size).plane }
     ensures stored { (image : List (List ℕ)) (slots : List Slot) → slots_of image ≡ Ok slots → GrantsApart (start_system image slots).plane }
@@ -49,7 +52,7 @@ pub fn grant_laws()
     ensures apart { (p : Plane) (a b l k : List ℕ) (n : ℕ) → GrantsApart p → bytes_eq a b ≡ false → Contains (blocks_at p a l) n → Contains (blocks_at p b k) n → ⊥ }
     ensures new_blocks { (p : Plane) (line : Line) (b k : List ℕ) (n : ℕ) → Contains (granted p line) n → Contains (blocks_at p b k) n → ⊥ }
     ensures reads { (s : System) (line : Line) (a b l : List ℕ) (n : ℕ) → GrantsApart s.plane → owner line ≡ Some a → bytes_eq a b ≡ false → Contains (readable s line) n → Contains (blocks_at s.plane b l) n → ⊥ }
-    ensures writes { (s : System) (line : Line) (a b l : List ℕ) (n : ℕ) → GrantsApart s.plane → owner line ≡ Some a → bytes_eq a b ≡ false → Contains (writable s line) n → Contains (blocks_at s.plane b l) n → n ≡ slot_index s.plane a line }
+    ensures writes { (s : System) (line : Line) (a b l : List ℕ) (n : ℕ) → GrantsApart s.plane → owner line ≡ Some a → bytes_eq a b ≡ false → Contains (writable s line) n → Contains (blocks_at s.plane b l) n → Contains (slots_for s.plane a line) n }
 {}
 
 /// Applications are apart. A line of one leaves the machine of each other as it is. In a run, whatever other lines stand in it,
@@ -67,9 +70,9 @@ pub fn privacy_laws()
     ensures start { (image : List (List ℕ)) (slots : List Slot) (a : List ℕ) → machine_of (start_system image slots) a ≡ with_areas unmade (map (area_in image) (own_slots a slots)) }
 {}
 
-/// A refused line leaves the system as it was and calls no device, but for the refusals that only device calls tell, and for
-/// `sendto`, which reaps its ring before it finds no place, and does no more. No refused line gives a label, and only one that
-/// gives a label up takes one.
+/// A refused line leaves the system as it was, but for one whose device call failed, and for `sendto`, which reaps its ring
+/// before it finds no place, and does no more. It calls no device, but for the refusals that only device calls tell. No refused
+/// line gives a label, and only one that gives a label up takes one.
 pub fn refusal_laws()
     ensures unchanged { (s : System) (line : Line) (ends : List Ended) (memory : Bool) (x : Refusal) → (line_turn s line ends memory).said ≡ said.Refused x → may_leave line x ≡ false → (line_turn s line ends memory).after ≡ s }
     ensures no_call { (s : System) (line : Line) (ends : List Ended) (memory : Bool) (x : Refusal) → (line_turn s line ends memory).said ≡ said.Refused x → is_told_late x ≡ false → (line_turn s line ends memory).calls ≡ [] }
@@ -77,14 +80,16 @@ pub fn refusal_laws()
     ensures no_label { (s : System) (a : List ℕ) (line : Line) (ends : List Ended) (memory : Bool) (x : Refusal) → owner line ≡ Some a → gives_up line ≡ false → (line_turn s line ends memory).said ≡ said.Refused x → labels (machine_of (line_turn s line ends memory).after a) ≡ labels (machine_of s a) }
 {}
 
-/// With a refusal that only device calls tell, a line that asks for an area, for more blocks or for an open log gains nothing:
-/// its application's machine is as it was, but for what a sync that succeeded made sure of, and the slots are as they were. One
-/// that gives a label up takes it away all the same. One that looks at blocks or entries changes nothing of its machine.
+/// Where a device call failed, a line that asks for an area, for more blocks or for an open log gains nothing: its application's
+/// machine is as it was, but for what a sync that succeeded made sure of, and the slots are as they were. One that gives a label
+/// up takes it away all the same. One that looks at blocks or entries changes nothing of its machine. Where the list that was
+/// found is damaged, the system is as it was.
 pub fn fault_laws()
-    ensures no_gain { (s : System) (a : List ℕ) (line : Line) (ends : List Ended) (memory : Bool) (x : Refusal) → owner line ≡ Some a → is_gain line ≡ true → (line_turn s line ends memory).said ≡ said.Refused x → is_told_late x ≡ true → machine_of (line_turn s line ends memory).after a ≡ synced_by ends (machine_of s a) }
+    ensures no_gain { (s : System) (a : List ℕ) (line : Line) (ends : List Ended) (memory : Bool) → owner line ≡ Some a → is_gain line ≡ true → (line_turn s line ends memory).said ≡ said.Refused r.DeviceFault → machine_of (line_turn s line ends memory).after a ≡ synced_by ends (machine_of s a) }
     ensures no_slot { (s : System) (a : List ℕ) (line : Line) (ends : List Ended) (memory : Bool) (x : Refusal) → owner line ≡ Some a → is_gain line ≡ true → (line_turn s line ends memory).said ≡ said.Refused x → (line_turn s line ends memory).after.plane.slots ≡ s.plane.slots }
     ensures given_up { (s : System) (a l : List ℕ) (ends : List Ended) (memory : Bool) (x : Refusal) → (line_turn s (w.drop a l) ends memory).said ≡ said.Refused x → is_told_late x ≡ true → at (machine_of (line_turn s (w.drop a l) ends memory).after a) l ≡ None }
     ensures looked { (s : System) (a : List ℕ) (line : Line) (ends : List Ended) (memory : Bool) (x : Refusal) → owner line ≡ Some a → is_look line ≡ true → (line_turn s line ends memory).said ≡ said.Refused x → is_told_late x ≡ true → machine_of (line_turn s line ends memory).after a ≡ machine_of s a }
+    ensures damaged { (s : System) (line : Line) (ends : List Ended) (memory : Bool) (n : ℕ) → (line_turn s line ends memory).said ≡ said.Refused (r.Damaged n) → (line_turn s line ends memory).after ≡ s }
 {}
 
 /// A line is refused where a condition of its word holds, with the refusal of least rank, in the one order, whose condition
