@@ -30,22 +30,6 @@ closes_none status told beside how = ([], none how, goes_none told told beside b
     none (inl e) = subst (λ (x : Status). Closes x beside.sink_faults beside.sink_faults []) (sym e) refl
     none (inr e) = subst (λ (x : Status). Closes x beside.sink_faults beside.sink_faults []) (sym e) refl
 
--- a line was put
-line_put : {E : Type 0} (line : List ℕ) (t0 t1 : Told) (before now : ℕ) (r : Result (Unit {0}) E) → HasCause before now r → (p : Puts t0 t1 line (is_ok r)) → PutsLine line before now (Out p.part ∷ [])
-line_put line t0 t1 before now (Ok x) cause p = record { part = p.part; more = p.more; prefix = p.prefix; only = refl; whole = inl (p.all refl) }
-line_put line t0 t1 before now (Err e) cause p = record { part = p.part; more = p.more; prefix = p.prefix; only = refl; whole = inr cause.failed }
-
--- and it is that of the status
-pub closes_put : {E : Type 0} (status : Status) (line : List ℕ) (t0 t1 : Told) (b0 b1 : Beside) (r : Result (Unit {0}) E) →
-    ((closing : List Event) → PutsLine line b0.sink_faults b1.sink_faults closing → Closes status b0.sink_faults b1.sink_faults closing) →
-    HasCause b0.sink_faults b1.sink_faults r → Puts t0 t1 line (is_ok r) → KeepsAtPut b0 b1 →
-    (closing : List Event) × Closes status b0.sink_faults b1.sink_faults closing × Goes closing [] t0 t1 b0 b1
-closes_put status line t0 t1 b0 b1 r closes cause p keeps = (
-  Out p.part ∷ [],
-  closes (Out p.part ∷ []) (line_put line t0 t1 b0.sink_faults b1.sink_faults r cause p),
-  goes_put t0 t1 b0 b1 p.part p.rests keeps cause.later,
-)
-
 -- the count rose since any earlier call too
 line_since : (line : List ℕ) (a b c : ℕ) (closing : List Event) → a ≤ b → PutsLine line b c closing → PutsLine line a c closing
 line_since line a b c closing later p = record {
