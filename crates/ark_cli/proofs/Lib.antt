@@ -10,4 +10,5 @@ pub mod Running
 pub mod Closing
 mod WorkedWork
 mod WorkedReport
+pub mod WorkedRuns
 pub mod Completing
