@@ -11,4 +11,5 @@ pub mod Closing
 mod WorkedWork
 mod WorkedReport
 pub mod WorkedRuns
+mod WorkedScript
 pub mod Completing
