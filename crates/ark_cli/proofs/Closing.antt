@@ -1,14 +1,14 @@
 -- The closing line after a run, and what the program did.
-use Rattle.std.proofs.Common.{◌≡◌, ℕ, ◌≤◌, Bool, true, false, List, [], ◌∷◌, ◌++◌, length, drop, refl, sym, ◌∙◌, ap, subst, append-nil, inl, inr, arith}
-use Rattle.std.specs.Prelude.{◌⊎◌, Result, Ok, Err, is_ok}
+use Rattle.std.proofs.Common.{◌≡◌, ℕ, ◌≤◌, true, false, List, [], ◌∷◌, ◌++◌, length, drop, refl, sym, ◌∙◌, ap, subst, append-nil, inl, inr, arith}
+use Rattle.std.specs.Prelude.{◌⊎◌}
 use Rattle.ark_base.specs.declared.status.Status.{Status}
 use Rattle.ark_base.specs.declared.status.Status.TheVariants.{Done, Usage, Source, Sink, Device, Memory, Damaged, Long}
 use Rattle.ark_media.specs.Journal.{Event, Out, device_events}
-use Rattle.ark_media.specs.Calls.{Told, Beside, Adds, Goes, Puts, KeepsAtPut, HasCause, Rose}
+use Rattle.ark_media.specs.Calls.{Told, Beside, Adds, Goes, Rose}
 use Rattle.ark_media.specs.Going.{rose_later, rose_from, adds_then}
 use Rattle.ark_media.specs.Parts.{Parts, parts, ends_reply}
 use Rattle.ark_media.proofs.Parting.{parts-more}
-use Rattle.ark_media.proofs.Composing.{device_events-append, goes_none, goes_put, goes_then, takes_none, takes_then, told_before}
+use Rattle.ark_media.proofs.Composing.{device_events-append, goes_none, goes_then, takes_none, takes_then, told_before}
 use Rattle.ark_script.specs.Lines.{lines_of}
 use Rattle.ark_script.specs.Text.{no_newline}
 use Rattle.ark_machine.specs.System.{fresh_system}

@@ -12,4 +12,5 @@ mod WorkedWork
 mod WorkedReport
 pub mod WorkedRuns
 mod WorkedScript
+mod WorkedUsage
 pub mod Completing

@@ -13,6 +13,9 @@ use Rattle.ark_machine.specs.System.{fresh_system}
 use Rattle.ark_machine.proofs.Images.{image_after}
 use Rattle.ark_machine.proofs.Playing.{Played, replies, performed}
 use Rattle.ark_machine.proofs.Scripts as scripts
+use Rattle.ark_base.specs.declared.status.Status.TheVariants.{Damaged}
+use Rattle.ark_base.specs.Status.{code_of}
+use Rattle.ark_cli.specs.Ending.{closing_words}
 use Rattle.ark_cli.specs.Report.{report}
 
 area : ℕ → List ℕ → List ℕ → Slot
@@ -97,3 +100,11 @@ cut_short = refl
 wrong_slot : report (with_byte 1 46 1) ≡ Err 1
 unfolding superblock
 wrong_slot = refl
+
+-- the closing line and the status of a device that is damaged there
+damaged_line : closing_words (Damaged 0) ≡ codes "fault damaged 0"
+unfolding digits
+damaged_line = refl
+
+damaged_code : code_of (Damaged 0) ≡ 6
+damaged_code = refl

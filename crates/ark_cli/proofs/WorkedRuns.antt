@@ -1,16 +1,13 @@
 -- Whole runs on a new device, worked out: words, script, events, output and status.
 use Rattle.std.specs.Fmt.{digits}
-use Rattle.std.proofs.Common.{◌≡◌, ℕ, ◌≤◌, true, false, List, [], ◌∷◌, ◌++◌, length, codes, refl, sym, ◌∙◌, ap, subst, append-nil, inl, inr, arith, lit≤, Ok}
-use Rattle.std.proofs.lemmas.Fmt.{decimal_injective}
-use Rattle.std.specs.Prelude.{Some, None, decimal}
+use Rattle.std.proofs.Common.{◌≡◌, ℕ, ◌≤◌, true, false, List, [], ◌∷◌, ◌++◌, length, codes, refl, sym, ◌∙◌, ap, append-nil, inl, inr, arith, lit≤, Ok}
+use Rattle.std.specs.Prelude.{Some, None}
 use Rattle.ark_base.specs.declared.status.Status.{Status}
-use Rattle.ark_base.specs.declared.status.Status.TheVariants.{Done, Usage, Source, Sink, Damaged, Long}
+use Rattle.ark_base.specs.declared.status.Status.TheVariants.{Done, Source, Sink, Long}
 use Rattle.ark_base.specs.Status.{code_of}
-use Rattle.ark_media.specs.Journal.{Event, Write, Sync, Out, History, fresh, onto, output_of, device_events}
-use Rattle.ark_media.specs.Calls.{Told, Beside, Script, Rests}
+use Rattle.ark_media.specs.Journal.{Event, Write, Sync, Out, fresh, onto, output_of, device_events}
+use Rattle.ark_media.specs.Calls.{Told, Beside, Script}
 use Rattle.ark_media.specs.Parts.{parts}
-use Rattle.ark_media.proofs.Composing.{goes_put}
-use Rattle.ark_words.specs.Sorted.{Sorted, sorted}
 use Rattle.ark_script.specs.Line as w
 use Rattle.ark_script.specs.Lines.{Meaning, Says, lines_of}
 use Rattle.ark_table.specs.Superblock.{superblock}
@@ -24,7 +21,7 @@ use Rattle.ark_cli.specs.Words.{IsRun}
 use Rattle.ark_cli.specs.Line.{limit}
 use Rattle.ark_cli.specs.Opening.{SinceMake, IsOpening}
 use Rattle.ark_cli.specs.Cut.{CutReplies}
-use Rattle.ark_cli.specs.Ending.{closing_words, PutsLine, Closes, HasRun, Ends, IsClosed, Does, no_command, runs}
+use Rattle.ark_cli.specs.Ending.{PutsLine, Closes, HasRun, Ends, IsClosed, Does, runs}
 
 abbrev pub line : List ℕ → List ℕ
 line words = words ++ 10 ∷ []
@@ -37,7 +34,7 @@ told_of events = record { history = Some (record { base = (fresh 200).base; jour
 abbrev pub beside_of : List ℕ → List ℕ → ℕ → ℕ → Beside
 beside_of taken left source sink = record { script = Some (record { taken = taken; left = left }); attach_faults = 0; source_faults = source; sink_faults = sink }
 
-some_is : {A : Type 0} (x y : A) → Some x ≡ Some y → x ≡ y
+pub some_is : {A : Type 0} (x y : A) → Some x ≡ Some y → x ≡ y
 some_is x y e = cc
 
 since_run : (events : List Event) (taken left : List ℕ) (source sink : ℕ) → SinceMake 200 events taken (told_of events) (beside_of [] (taken ++ left) 0 0) (beside_of taken left source sink)
@@ -159,9 +156,9 @@ never_short : Closes Source 0 0 (Out (codes "fault") ∷ []) → ⊥
 never_short c =
     elim c.whole [
       | inl all ↦
-        let part : codes "fault" ≡ c.part = cc (c.only) in
-        let same : line (codes "fault source") ≡ codes "fault" = c.prefix ∙ ap (λ (m : List ℕ). c.part ++ m) all ∙ append-nil c.part ∙ sym part in
-        cc
+          let part : codes "fault" ≡ c.part = cc (c.only) in
+          let same : line (codes "fault source") ≡ codes "fault" = c.prefix ∙ ap (λ (m : List ℕ). c.part ++ m) all ∙ append-nil c.part ∙ sym part in
+          cc
       | inr rose ↦ absurd (omega (arith, rose))
     ]
 
@@ -187,56 +184,3 @@ sink_output = refl
 
 sink_code : code_of Sink ≡ 3
 sink_code = refl
-
--- Words that are no command.
-
-abbrev small_words : List (List ℕ)
-small_words = codes "run" ∷ codes "--new" ∷ codes "129" ∷ codes "d" ∷ []
-
-too_small : (size : ℕ) (device : List ℕ) → IsRun small_words size device → ⊥
-unfolding digits
-too_small size device h =
-    let rest : h.0.0 ≡ codes "--new" ∷ codes "129" ∷ codes "d" ∷ [] = cc (h.0.1) in
-    let sort : sorted (codes "--new" ∷ codes "129" ∷ codes "d" ∷ []) ≡ Some (record { new = decimal size ∷ []; plain = device ∷ [] }) =
-    subst (λ (r : List (List ℕ)). sorted r ≡ Some (record { new = decimal size ∷ []; plain = device ∷ [] })) rest h.0.2 in
-    let new : codes "129" ∷ [] ≡ decimal size ∷ [] = ap (λ (s : Sorted). s.new) (some_is _ _ sort) in
-    let spelled : codes "129" ≡ decimal size = cc in
-    let same : size ≡ 129 = decimal_injective size 129 (omega arith) (omega arith) (sym spelled) in
-    absurd (omega (arith, h.1.0, same))
-
-abbrev usage_line : List Event
-usage_line = Out (line (codes "fault usage")) ∷ []
-
--- the closing line alone was put
-rests_usage : Rests usage_line (told_of []) (told_of usage_line)
-rests_usage = record {
-  adds = record {
-    told = λ h is.
-        let same : ◌≡◌ {A = History} (record { base = (fresh 200).base; journal = onto usage_line [] }) h = some_is (record { base = (fresh 200).base; journal = onto usage_line [] }) h is in
-        ([], ap (λ (x : History). Some (record { base = x.base; journal = [] })) same, ap (λ (x : History). x.journal) (sym same));
-  };
-  blocks = refl;
-  faults = refl;
-}
-
-usage_run : (script : List ℕ) → Does small_words (told_of []) (told_of usage_line) (beside_of [] script 0 0) (beside_of [] script 0 0) Usage
-usage_run script = no_command refl too_small (record {
-  closing = usage_line;
-  closes = whole_line (codes "fault usage") 0 0;
-  goes = goes_put (told_of []) (told_of usage_line) (beside_of [] script 0 0) (beside_of [] script 0 0) (line (codes "fault usage")) rests_usage
-      (record { script = record { told = λ x is. is }; attach = refl; source = refl }) (lit≤ tt);
-})
-
-usage_output : output_of usage_line ≡ line (codes "fault usage")
-usage_output = refl
-
-usage_code : code_of Usage ≡ 1
-usage_code = refl
-
--- the closing line of a damaged device
-damaged_line : closing_words (Damaged 0) ≡ codes "fault damaged 0"
-unfolding digits
-damaged_line = refl
-
-damaged_code : code_of (Damaged 0) ≡ 6
-damaged_code = refl

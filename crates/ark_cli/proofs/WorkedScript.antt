@@ -65,15 +65,28 @@ app_says = (lit≤ tt, (refl, (refl, refl)))
 
 they_say : EachSays lines meanings
 unfolding digits
-they_say =
-    ((lit≤ tt, none_unknown),
-    ((lit≤ tt, frob_unknown),
-    (subst (λ (m : Meaning). Says (codes "app") m) no_argument (says (codes "app") (lit≤ tt)),
-    (subst (λ (m : Meaning). Says (codes "app A") m) no_name (says (codes "app A") (lit≤ tt)),
-    ((lit≤ tt, (refl, ((refl, refl), (refl, refl), (refl, lit≤ tt, lit≤ tt)))),
-    (app_says,
-    (app_says,
-    ((lit≤ tt, (refl, (refl, lit≤ tt, lit≤ tt))), tt))))))))
+they_say = (
+  (lit≤ tt, none_unknown),
+  (
+    (lit≤ tt, frob_unknown),
+    (
+      subst (λ (m : Meaning). Says (codes "app") m) no_argument (says (codes "app") (lit≤ tt)),
+      (
+        subst (λ (m : Meaning). Says (codes "app A") m) no_name (says (codes "app A") (lit≤ tt)),
+        (
+          (lit≤ tt, (refl, ((refl, refl), (refl, refl), (refl, lit≤ tt, lit≤ tt)))),
+          (
+            app_says,
+            (
+              app_says,
+              ((lit≤ tt, (refl, (refl, lit≤ tt, lit≤ tt))), tt),
+            ),
+          ),
+        ),
+      ),
+    ),
+  ),
+)
 
 abbrev texts : List (List ℕ)
 texts =
@@ -99,15 +112,28 @@ unfolding step answer digits
 they_reply = record {
   meanings = meanings;
   say = they_say;
-  each =
-      (record { output = refl; calls = refl; memory = tt },
-      (record { output = refl; calls = refl; memory = tt },
-      (record { output = refl; calls = refl; memory = tt },
-      (record { output = refl; calls = refl; memory = tt },
-      (record { output = refl; calls = ended; memory = tt },
-      (record { output = refl; calls = ended; memory = tt },
-      (record { output = refl; calls = ended; memory = tt },
-      (record { output = refl; calls = refl; memory = tt }, tt))))))));
+  each = (
+    record { output = refl; calls = refl; memory = tt },
+    (
+      record { output = refl; calls = refl; memory = tt },
+      (
+        record { output = refl; calls = refl; memory = tt },
+        (
+          record { output = refl; calls = refl; memory = tt },
+          (
+            record { output = refl; calls = ended; memory = tt },
+            (
+              record { output = refl; calls = ended; memory = tt },
+              (
+                record { output = refl; calls = ended; memory = tt },
+                (record { output = refl; calls = refl; memory = tt }, tt),
+              ),
+            ),
+          ),
+        ),
+      ),
+    ),
+  );
   begins = refl;
 }
 

@@ -1,9 +1,8 @@
 -- The script of `work`, worked out.
 use Rattle.std.specs.Fmt.{digits}
-use Rattle.std.proofs.Common.{◌≡◌, ℕ, true, List, [], ◌∷◌, length, drop, map, codes, refl, arith, lit≤, Ok}
+use Rattle.std.proofs.Common.{◌≡◌, ℕ, true, List, [], ◌∷◌, length, drop, map, codes, refl, lit≤, Ok}
 use Rattle.std.specs.Prelude.{None}
 use Rattle.ark_base.specs.declared.kind.Kind.TheVariants as kind
-use Rattle.ark_media.specs.Journal.{Event}
 use Rattle.ark_script.specs.Line as w
 use Rattle.ark_script.specs.Lines.{Meaning, EachSays}
 use Rattle.ark_machine.specs.Row.{answer}
@@ -11,7 +10,7 @@ use Rattle.ark_machine.specs.Step.{step}
 use Rattle.ark_machine.specs.System.{fresh_system}
 use Rattle.ark_machine.proofs.Playing.{Played, performed}
 use Rattle.ark_machine.proofs.Scripts.{quiet, app, area, granting, opening_empty}
-use Rattle.ark_cli.specs.Work.{generated, summary, prelude, work_blocks, replies_to, Summary}
+use Rattle.ark_cli.specs.Work.{generated, summary, prelude, work_blocks, Summary}
 
 prelude_has : length (generated 1 0) ≡ 16
 prelude_has = refl
@@ -108,23 +107,52 @@ begun_performed = refl
 
 prelude_says : EachSays prelude asked
 unfolding digits
-prelude_says =
-    ((lit≤ tt, (refl, (refl, refl))),
-    ((lit≤ tt, (refl, (refl, refl))),
-    ((lit≤ tt, (refl, ((refl, refl), (refl, refl), ((refl, lit≤ tt, lit≤ tt), refl)))),
-    ((lit≤ tt, (refl, ((refl, refl), (refl, refl), ((refl, lit≤ tt, lit≤ tt), refl)))),
-    ((lit≤ tt, (refl, ((refl, refl), (refl, refl), (refl, lit≤ tt, lit≤ tt), refl))),
-    ((lit≤ tt, (refl, ((refl, refl), (refl, refl), (refl, lit≤ tt, lit≤ tt), refl))),
-    ((lit≤ tt, (refl, ((refl, refl), (refl, refl), (refl, refl)))),
-    ((lit≤ tt, (refl, ((refl, refl), (refl, refl), (refl, refl)))),
-    ((lit≤ tt, (refl, ((refl, refl), (refl, refl), (refl, lit≤ tt, lit≤ tt)))),
-    ((lit≤ tt, (refl, ((refl, refl), (refl, refl), (refl, lit≤ tt, lit≤ tt)))),
-    ((lit≤ tt, (refl, ((refl, refl), (refl, refl), ((refl, lit≤ tt, lit≤ tt), refl)))),
-    ((lit≤ tt, (refl, ((refl, refl), (refl, refl), (refl, lit≤ tt, lit≤ tt), refl))),
-    ((lit≤ tt, (refl, ((refl, refl), (refl, refl), (refl, refl)))),
-    ((lit≤ tt, (refl, ((refl, refl), (refl, refl), ((refl, lit≤ tt, lit≤ tt), refl)))),
-    ((lit≤ tt, (refl, ((refl, refl), (refl, refl), (refl, lit≤ tt, lit≤ tt), refl))),
-    ((lit≤ tt, (refl, ((refl, refl), (refl, refl), (refl, refl)))), tt))))))))))))))))
+prelude_says = (
+  (lit≤ tt, (refl, (refl, refl))),
+  (
+    (lit≤ tt, (refl, (refl, refl))),
+    (
+      (lit≤ tt, (refl, ((refl, refl), (refl, refl), ((refl, lit≤ tt, lit≤ tt), refl)))),
+      (
+        (lit≤ tt, (refl, ((refl, refl), (refl, refl), ((refl, lit≤ tt, lit≤ tt), refl)))),
+        (
+          (lit≤ tt, (refl, ((refl, refl), (refl, refl), (refl, lit≤ tt, lit≤ tt), refl))),
+          (
+            (lit≤ tt, (refl, ((refl, refl), (refl, refl), (refl, lit≤ tt, lit≤ tt), refl))),
+            (
+              (lit≤ tt, (refl, ((refl, refl), (refl, refl), (refl, refl)))),
+              (
+                (lit≤ tt, (refl, ((refl, refl), (refl, refl), (refl, refl)))),
+                (
+                  (lit≤ tt, (refl, ((refl, refl), (refl, refl), (refl, lit≤ tt, lit≤ tt)))),
+                  (
+                    (lit≤ tt, (refl, ((refl, refl), (refl, refl), (refl, lit≤ tt, lit≤ tt)))),
+                    (
+                      (lit≤ tt, (refl, ((refl, refl), (refl, refl), ((refl, lit≤ tt, lit≤ tt), refl)))),
+                      (
+                        (lit≤ tt, (refl, ((refl, refl), (refl, refl), (refl, lit≤ tt, lit≤ tt), refl))),
+                        (
+                          (lit≤ tt, (refl, ((refl, refl), (refl, refl), (refl, refl)))),
+                          (
+                            (lit≤ tt, (refl, ((refl, refl), (refl, refl), ((refl, lit≤ tt, lit≤ tt), refl)))),
+                            (
+                              (lit≤ tt, (refl, ((refl, refl), (refl, refl), (refl, lit≤ tt, lit≤ tt), refl))),
+                              ((lit≤ tt, (refl, ((refl, refl), (refl, refl), (refl, refl)))), tt),
+                            ),
+                          ),
+                        ),
+                      ),
+                    ),
+                  ),
+                ),
+              ),
+            ),
+          ),
+        ),
+      ),
+    ),
+  ),
+)
 
 -- no line behind the prelude, and memory for each
 nothing_lacks : Summary 1 0 [] (map (λ p. p.1) begun) (codes "work 0 ok 16 refused 0 other 0")

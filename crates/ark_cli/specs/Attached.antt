@@ -1,8 +1,8 @@
 -- How `run DEVICE` begins on a device that was there, and how it ends. `base` is the device's image as it was attached.
 use Rattle.std.specs.Prelude.{◌≡◌, ◌⊎◌, ◌≤◌, ◌+◌, ℕ, true, false, List, [], ◌∷◌, ◌++◌, length, Some, Ok, Err}
 use Rattle.ark_base.specs.declared.status.Status.{Status}
-use Rattle.ark_base.specs.declared.status.Status.TheVariants.{Done, Usage, Source, Sink, Device, Memory, Damaged, Long}
-use Rattle.ark_media.specs.Journal.{Event, Read, Write, Sync, Out, History, onto, HasFailed, output_of, device_events}
+use Rattle.ark_base.specs.declared.status.Status.TheVariants.{Done, Source, Sink, Device, Memory, Damaged, Long}
+use Rattle.ark_media.specs.Journal.{Event, Read, History, onto, HasFailed, output_of, device_events}
 use Rattle.ark_media.specs.Calls.{Told, Beside, Takes}
 use Rattle.ark_media.specs.Parts.{parts}
 use Rattle.ark_table.specs.Slots.{Slot, slots_of}
