@@ -157,7 +157,7 @@ prelude_says = (
 -- no line behind the prelude, and memory for each
 nothing_lacks : Summary 1 0 [] (map (λ p. p.1) begun) (codes "work 0 ok 16 refused 0 other 0")
 unfolding step answer digits
-nothing_lacks = record { meanings = asked; say = prelude_says; each = refl; in_prelude = refl; counts = refl }
+nothing_lacks = record { meanings = asked; say = prelude_says; each = refl; in_prelude = refl; lacking = refl; counts = refl }
 
 -- The first line finds no memory: the lines of that application are refused, and the other's areas begin at the first free block.
 
@@ -183,4 +183,4 @@ half_begun =
 
 first_lacks : Summary 1 0 (1 ∷ []) (map (λ p. p.1) half_begun) (codes "work 0 ok 8 refused 8 other 0")
 unfolding step answer digits
-first_lacks = record { meanings = asked; say = prelude_says; each = refl; in_prelude = refl; counts = refl }
+first_lacks = record { meanings = asked; say = prelude_says; each = refl; in_prelude = refl; lacking = refl; counts = refl }

@@ -102,7 +102,7 @@ pub record IsQuiet (told0 told1 : Told) (beside0 beside1 : Beside) (status : Sta
   pub closes : Closes status beside0.sink_faults beside1.sink_faults closing
   pub goes : Goes closing [] told0 told1 beside0 beside1
 
--- the device could not be made: the closing line alone came
+-- the device could not be made, or attached where it was there: the closing line alone came
 pub record IsRefused (told0 told1 : Told) (beside0 beside1 : Beside) (status : Status) : Type 0 where
   pub closing : List Event
   pub closes : Closes status beside0.sink_faults beside1.sink_faults closing

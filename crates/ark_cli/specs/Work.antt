@@ -1,5 +1,5 @@
 -- The script that the command `work` runs, and the line that it puts.
-use Rattle.std.specs.Prelude.{◌≡◌, ℕ, zero, suc, ◌+◌, ◌-◌, ◌*◌, ◌/◌, ◌%◌, ◌^◌, Bool, true, List, [], ◌∷◌, ◌++◌, length, get_or, filter, flat_map, codes, decimal, ◌==◌, ◌||◌, nat_eq, nat_le, nat_lt, bytes_eq, if◌then◌else◌, Ok, Err}
+use Rattle.std.specs.Prelude.{◌≡◌, ℕ, zero, suc, ◌+◌, ◌-◌, ◌*◌, ◌/◌, ◌%◌, ◌^◌, Bool, true, false, not, ◌&&◌, List, [], ◌∷◌, ◌++◌, length, get_or, filter, flat_map, codes, decimal, ◌==◌, ◌||◌, nat_eq, nat_le, nat_lt, bytes_eq, if◌then◌else◌, Ok, Err}
 use Rattle.std.specs.Int.{w32, to_be_bytes}
 use Rattle.std.specs.List.{list_all, list_any}
 use Rattle.ark_media.specs.Journal.{Event}
@@ -9,6 +9,7 @@ use Rattle.ark_script.specs.declared.said.Said.TheVariants.{Refused}
 use Rattle.ark_machine.specs.Row.{Ended}
 use Rattle.ark_machine.specs.System.{System, Turn, fresh_system, quiet_turn, line_turn}
 use Rattle.ark_machine.specs.Follow.{ends_of}
+use Rattle.ark_machine.specs.Replies.{may_lack}
 
 -- the state of the generator after a draw
 abbrev pub next : ℕ → ℕ
@@ -119,6 +120,16 @@ replies_to s full place (m ∷ ms) [] = []
 replies_to s full place (m ∷ ms) (es ∷ lists) =
     text (turn_at s full place m es).said (turn_at s full place m es).bytes ∷ replies_to (turn_at s full place m es).after full (place + 1) ms lists
 
+-- a line whose word may find no memory
+abbrev pub can_lack : Meaning → Bool
+can_lack (Ok line) = may_lack line
+can_lack (Err refusal) = false
+
+-- of lines in turn, the first at this place, only such lines are at the places of `full`
+abbrev pub lack_rightly : List ℕ → ℕ → List Meaning → Bool
+lack_rightly full place [] = true
+lack_rightly full place (m ∷ ms) = (not (list_any (nat_eq place) full) || can_lack m) && lack_rightly full (place + 1) ms
+
 -- `work` makes a device of so many blocks
 abbrev pub work_blocks : ℕ
 work_blocks = 4096
@@ -130,4 +141,5 @@ pub record Summary (seed lines : ℕ) (full : List ℕ) (lists : List (List Even
   pub say : EachSays (generated seed lines) meanings
   pub each : length lists ≡ length meanings
   pub in_prelude : list_all (λ place. nat_le place (length prelude)) full ≡ true
+  pub lacking : lack_rightly full 1 meanings ≡ true
   pub counts : words ≡ summary lines (replies_to (fresh_system work_blocks) full 1 meanings lists)
