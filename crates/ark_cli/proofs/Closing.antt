@@ -1,14 +1,14 @@
 -- The closing line after a run, and what the program did.
-use Rattle.std.proofs.Common.{◌≡◌, ℕ, ◌≤◌, Bool, true, false, List, [], ◌∷◌, ◌++◌, length, drop, refl, sym, ◌∙◌, ap, subst, append-nil, inl, inr}
+use Rattle.std.proofs.Common.{◌≡◌, ℕ, ◌≤◌, true, false, List, [], ◌∷◌, ◌++◌, length, drop, refl, sym, ◌∙◌, ap, subst, append-nil, inl, inr, arith}
 use Rattle.std.specs.Prelude.{◌⊎◌}
 use Rattle.ark_base.specs.declared.status.Status.{Status}
 use Rattle.ark_base.specs.declared.status.Status.TheVariants.{Done, Usage, Source, Sink, Device, Memory, Damaged, Long}
 use Rattle.ark_media.specs.Journal.{Event, Out, device_events}
-use Rattle.ark_media.specs.Calls.{Told, Beside, Adds, Goes, Puts, KeepsAtPut, Rose}
-use Rattle.ark_media.specs.Going.{rose_later, adds_then}
+use Rattle.ark_media.specs.Calls.{Told, Beside, Adds, Goes, Rose}
+use Rattle.ark_media.specs.Going.{rose_later, rose_from, adds_then}
 use Rattle.ark_media.specs.Parts.{Parts, parts, ends_reply}
 use Rattle.ark_media.proofs.Parting.{parts-more}
-use Rattle.ark_media.proofs.Composing.{device_events-append, goes_none, goes_put, goes_then, takes_none, takes_then, told_before}
+use Rattle.ark_media.proofs.Composing.{device_events-append, goes_none, goes_then, takes_none, takes_then, told_before}
 use Rattle.ark_script.specs.Lines.{lines_of}
 use Rattle.ark_script.specs.Text.{no_newline}
 use Rattle.ark_machine.specs.System.{fresh_system}
@@ -17,47 +17,65 @@ use Rattle.ark_machine.specs.Confined.{BeginsConfined}
 use Rattle.ark_cli.specs.Words.{IsRun}
 use Rattle.ark_cli.specs.Opening.{SinceMake, BeginsFormat, IsUnmade}
 use Rattle.ark_cli.proofs.Turning.{still_at_end}
-use Rattle.ark_cli.specs.Ending.{closing_words, Closes, HasRun, Ends, IsOpen, IsClosed, IsQuiet, IsRefused, RunsNew, Commands, Does, no_command, unread, no_memory, no_device, runs, IsCause, IsUndamaged}
+use Rattle.ark_cli.specs.Ending.{closing_words, PutsLine, Closes, HasRun, Ends, IsOpen, IsClosed, IsQuiet, IsRefused, RunsNew, Commands, Does, no_command, unread, no_memory, no_device, runs, IsCause, IsUndamaged}
 use Rattle.ark_cli.proofs.Answering.{cut_line, clean_goes_on}
 use Rattle.ark_cli.proofs.Opened.{since_then}
 
 -- no closing line was put
-pub closes_none : (status : Status) (told : Told) (beside : Beside) → (status ≡ Done) ⊎ (status ≡ Sink) → (closing : List Event) × Closes status closing × Goes closing [] told told beside beside
+pub closes_none : (status : Status) (told : Told) (beside : Beside) → (status ≡ Done) ⊎ (status ≡ Sink) →
+    (closing : List Event) × Closes status beside.sink_faults beside.sink_faults closing × Goes closing [] told told beside beside
 closes_none status told beside how = ([], none how, goes_none told told beside beside refl refl)
   where
-    none : (status ≡ Done) ⊎ (status ≡ Sink) → Closes status []
-    none (inl e) = subst (λ (x : Status). Closes x []) (sym e) refl
-    none (inr e) = subst (λ (x : Status). Closes x []) (sym e) refl
+    none : (status ≡ Done) ⊎ (status ≡ Sink) → Closes status beside.sink_faults beside.sink_faults []
+    none (inl e) = subst (λ (x : Status). Closes x beside.sink_faults beside.sink_faults []) (sym e) refl
+    none (inr e) = subst (λ (x : Status). Closes x beside.sink_faults beside.sink_faults []) (sym e) refl
 
--- one was put, or a prefix of it
-pub closes_put : (status : Status) (line : List ℕ) (t0 t1 : Told) (b0 b1 : Beside) (ok : Bool) → ((closing : List Event) → ((part : List ℕ) × (more : List ℕ) × (line ≡ part ++ more) × (closing ≡ Out part ∷ [])) → Closes status closing) →
-    Puts t0 t1 line ok → KeepsAtPut b0 b1 → b0.sink_faults ≤ b1.sink_faults → (closing : List Event) × Closes status closing × Goes closing [] t0 t1 b0 b1
-closes_put status line t0 t1 b0 b1 ok closes p keeps later =
-    (Out p.part ∷ [], closes (Out p.part ∷ []) (p.part, p.more, p.prefix, refl), goes_put t0 t1 b0 b1 p.part p.rests keeps later)
+-- the count rose since any earlier call too
+line_since : (line : List ℕ) (a b c : ℕ) (closing : List Event) → a ≤ b → PutsLine line b c closing → PutsLine line a c closing
+line_since line a b c closing later p = record {
+  part = p.part;
+  more = p.more;
+  prefix = p.prefix;
+  only = p.only;
+  whole = elim p.whole [
+    | inl all ↦ inl all
+    | inr rose ↦ inr (rose_from a b c later rose)
+  ];
+}
+
+closes_since : (status : Status) (a b c : ℕ) (closing : List Event) → a ≤ b → Closes status b c closing → Closes status a c closing
+closes_since Done a b c closing later h = h
+closes_since Sink a b c closing later h = h
+closes_since Usage a b c closing later h = line_since (closing_words Usage ++ 10 ∷ []) a b c closing later h
+closes_since Source a b c closing later h = line_since (closing_words Source ++ 10 ∷ []) a b c closing later h
+closes_since Device a b c closing later h = line_since (closing_words Device ++ 10 ∷ []) a b c closing later h
+closes_since Memory a b c closing later h = line_since (closing_words Memory ++ 10 ∷ []) a b c closing later h
+closes_since (Damaged block) a b c closing later h = line_since (closing_words (Damaged block) ++ 10 ∷ []) a b c closing later h
+closes_since Long a b c closing later h = line_since (closing_words Long ++ 10 ∷ []) a b c closing later h
 
 -- what a closing event is: none, or one that ends no reply
 abbrev IsNoReply : List Event → Type 0
 IsNoReply closing = (closing ≡ []) ⊎ ((part : List ℕ) × (closing ≡ Out part ∷ []) × (ends_reply (Out part) ≡ false))
 
-no_reply : (words : List ℕ) (closing : List Event) → no_newline words ≡ true → ends_reply (Out (words ++ 10 ∷ [])) ≡ false → ((part : List ℕ) × (more : List ℕ) × (words ++ 10 ∷ [] ≡ part ++ more) × (closing ≡ Out part ∷ [])) → IsNoReply closing
-no_reply words closing clean none c = inr (
-  c.0,
-  c.3,
-  elim (cut_line words c.0 c.1 clean c.2) [
+no_reply : (words : List ℕ) (before now : ℕ) (closing : List Event) → no_newline words ≡ true → ends_reply (Out (words ++ 10 ∷ [])) ≡ false → PutsLine (words ++ 10 ∷ []) before now closing → IsNoReply closing
+no_reply words before now closing clean none c = inr (
+  c.part,
+  c.only,
+  elim (cut_line words c.part c.more clean c.prefix) [
     | inl same ↦ subst (λ b. ends_reply (Out b) ≡ false) (sym same) none
-    | inr part ↦ clean_goes_on c.0 part
+    | inr part ↦ clean_goes_on c.part part
   ],
 )
 
-closes_no_reply : (status : Status) (closing : List Event) → IsUndamaged status → Closes status closing → IsNoReply closing
-closes_no_reply Done closing u c = inl c
-closes_no_reply Sink closing u c = inl c
-closes_no_reply Usage closing u c = no_reply (closing_words Usage) closing refl refl c
-closes_no_reply Source closing u c = no_reply (closing_words Source) closing refl refl c
-closes_no_reply Device closing u c = no_reply (closing_words Device) closing refl refl c
-closes_no_reply Memory closing u c = no_reply (closing_words Memory) closing refl refl c
-closes_no_reply Long closing u c = no_reply (closing_words Long) closing refl refl c
-closes_no_reply (Damaged block) closing u c = absurd u
+closes_no_reply : (status : Status) (before now : ℕ) (closing : List Event) → IsUndamaged status → Closes status before now closing → IsNoReply closing
+closes_no_reply Done before now closing u c = inl c
+closes_no_reply Sink before now closing u c = inl c
+closes_no_reply Usage before now closing u c = no_reply (closing_words Usage) before now closing refl refl c
+closes_no_reply Source before now closing u c = no_reply (closing_words Source) before now closing refl refl c
+closes_no_reply Device before now closing u c = no_reply (closing_words Device) before now closing refl refl c
+closes_no_reply Memory before now closing u c = no_reply (closing_words Memory) before now closing refl refl c
+closes_no_reply Long before now closing u c = no_reply (closing_words Long) before now closing refl refl c
+closes_no_reply (Damaged block) before now closing u c = absurd u
 
 closing_devices : (closing : List Event) → IsNoReply closing → device_events closing ≡ []
 closing_devices closing (inl none) = rw none refl
@@ -107,9 +125,9 @@ ends_later size t1 t2 Usage closing script whole rest adds e = e
 ends_later size t1 t2 Memory closing script whole rest adds e = e
 ends_later size t1 t2 (Damaged block) closing script whole rest adds e = e
 
-closed : (size : ℕ) (t1 t2 : Told) (b0 b1 b2 : Beside) (status : Status) (closing : List Event) → IsOpen size t1 b0 b1 status → Closes status closing → Goes closing [] t1 t2 b1 b2 → IsClosed size t2 b0 b2 status
+closed : (size : ℕ) (t1 t2 : Told) (b0 b1 b2 : Beside) (status : Status) (closing : List Event) → IsOpen size t1 b0 b1 status → Closes status b1.sink_faults b2.sink_faults closing → Goes closing [] t1 t2 b1 b2 → IsClosed size t2 b0 b2 status
 closed size t1 t2 b0 b1 b2 status closing o c goes =
-    let none : IsNoReply closing = closes_no_reply status closing (ends_undamaged size t1 status o.script (parts o.events).whole (parts o.events).unfinished o.ends) c in
+    let none : IsNoReply closing = closes_no_reply status b1.sink_faults b2.sink_faults closing (ends_undamaged size t1 status o.script (parts o.events).whole (parts o.events).unfinished o.ends) c in
     let are : parts (o.events ++ closing) ≡ record { whole = (parts o.events).whole; unfinished = (parts o.events).unfinished ++ closing } = parts_closed o.events closing none in
     record {
       script = o.script;
@@ -122,7 +140,7 @@ closed size t1 t2 b0 b1 b2 status closing o c goes =
       rest = (parts o.events).unfinished;
       closing = closing;
       unfinished = ap (λ (p : Parts). p.unfinished) are;
-      closes = c;
+      closes = closes_since status b0.sink_faults b1.sink_faults b2.sink_faults closing o.since.sink c;
       ends = subst (λ (w : List (List Event)). Ends size t2 status o.script w (parts o.events).unfinished) (sym (ap (λ (p : Parts). p.whole) are))
           (ends_later size t1 t2 status closing o.script (parts o.events).whole (parts o.events).unfinished goes.tells.adds o.ends);
       at_end = λ e. still_at_end b1.script b2.script (o.at_end e) goes.takes;
@@ -130,14 +148,14 @@ closed size t1 t2 b0 b1 b2 status closing o c goes =
       short = o.short;
     }
 
-module _ (words : List (List ℕ)) (t0 t1 t2 : Told) (b0 b1 b2 : Beside) (status : Status) (closing : List Event) (c : Closes status closing) (goes : Goes closing [] t1 t2 b1 b2) where
+module _ (words : List (List ℕ)) (t0 t1 t2 : Told) (b0 b1 b2 : Beside) (status : Status) (closing : List Event) (c : Closes status b1.sink_faults b2.sink_faults closing) (goes : Goes closing [] t1 t2 b1 b2) where
   quiet : Goes [] [] t0 t1 b0 b1 → IsQuiet t0 t2 b0 b2 status
-  quiet first = record { closing = closing; closes = c; goes = goes_then [] closing [] [] t0 t1 t2 b0 b1 b2 first goes }
+  quiet first = record { closing = closing; closes = closes_since status b0.sink_faults b1.sink_faults b2.sink_faults closing first.sink c; goes = goes_then [] closing [] [] t0 t1 t2 b0 b1 b2 first goes }
 
   refused : IsUnmade t0 t1 b0 b1 → IsRefused t0 t2 b0 b2 status
   refused u = record {
     closing = closing;
-    closes = c;
+    closes = closes_since status b0.sink_faults b1.sink_faults b2.sink_faults closing (omega (arith, u.sink)) c;
     adds = adds_then t0.history t1.history t2.history [] closing u.adds goes.tells.adds;
     takes = takes_then b0.script b1.script b2.script [] [] (takes_none b0.script b1.script u.script) goes.takes;
   }

@@ -10,4 +10,7 @@ pub mod Running
 pub mod Closing
 mod WorkedWork
 mod WorkedReport
+pub mod WorkedRuns
+mod WorkedScript
+mod WorkedUsage
 pub mod Completing

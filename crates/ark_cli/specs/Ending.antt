@@ -28,11 +28,20 @@ closing_words Memory = codes "fault memory"
 closing_words (Damaged block) = codes "fault damaged " ++ decimal block
 closing_words Long = codes "fault long"
 
--- the closing line came out, or a prefix of it where its put failed; two statuses have none
-abbrev pub Closes : Status → List Event → Type 0
-Closes Done events = events ≡ []
-Closes Sink events = events ≡ []
-Closes status events = (part : List ℕ) × (more : List ℕ) × (closing_words status ++ 10 ∷ [] ≡ part ++ more) × (events ≡ Out part ∷ [])
+-- A line was put in one call: the whole of it came out, or a prefix where the put failed, which raised the count of failed puts.
+pub record PutsLine (line : List ℕ) (before now : ℕ) (events : List Event) : Type 0 where
+  pub part : List ℕ
+  -- the bytes that did not come out
+  pub more : List ℕ
+  pub prefix : line ≡ part ++ more
+  pub only : events ≡ Out part ∷ []
+  pub whole : (more ≡ []) ⊎ Rose before now
+
+-- the closing line was put, by the count of failed puts before and now; two statuses have none
+abbrev pub Closes : Status → ℕ → ℕ → List Event → Type 0
+Closes Done before now events = events ≡ []
+Closes Sink before now events = events ≡ []
+Closes status before now events = PutsLine (closing_words status ++ 10 ∷ []) before now events
 
 -- The parts of a run's events on a fresh device: the opening, and then one for each line of the script, each of which
 -- answers as the machines do and touches no more than its line may.
@@ -49,13 +58,14 @@ EndsCut size told script (opening ∷ whole) rest = (h : History) → told.histo
 
 -- How many whole parts there are by the status, and what stands behind them, before the closing line: every line of the
 -- whole script has its reply; every line whose newline came (within the limit, where the script is longer); a put failed;
--- or the device could not be formatted.
+-- the device could not be formatted; or memory was wanting to load it. In the last two cases nothing came out.
 abbrev pub Ends : ℕ → Told → Status → List ℕ → List (List Event) → List Event → Type 0
 Ends size told Done script whole rest = (length whole ≡ length (lines_of script) + 1) × (rest ≡ [])
 Ends size told Source script whole rest = (length whole ≡ newlines script + 1) × (rest ≡ [])
 Ends size told Long script whole rest = (length whole ≡ newlines (within_limit script) + 1) × (rest ≡ [])
 Ends size told Sink script whole rest = EndsCut size told script whole rest
 Ends size told Device script whole rest = (whole ≡ []) × (output_of rest ≡ [])
+Ends size told Memory script whole rest = (whole ≡ []) × (output_of rest ≡ [])
 Ends size told _ script whole rest = ⊥
 
 -- A device was made and the script run on it; before the closing line.
@@ -80,7 +90,7 @@ pub record IsClosed (size : ℕ) (told : Told) (beside0 beside1 : Beside) (statu
   pub rest : List Event
   pub closing : List Event
   pub unfinished : (parts events).unfinished ≡ rest ++ closing
-  pub closes : Closes status closing
+  pub closes : Closes status beside0.sink_faults beside1.sink_faults closing
   pub ends : Ends size told status script (parts events).whole rest
   pub at_end : status ≡ Done → IsAtEnd beside1.script
   pub long : status ≡ Long → length script ≡ limit + 1
@@ -89,13 +99,13 @@ pub record IsClosed (size : ℕ) (told : Told) (beside0 beside1 : Beside) (statu
 -- no device was made, attached or touched, and no byte of the script was taken: the closing line alone came
 pub record IsQuiet (told0 told1 : Told) (beside0 beside1 : Beside) (status : Status) : Type 0 where
   pub closing : List Event
-  pub closes : Closes status closing
+  pub closes : Closes status beside0.sink_faults beside1.sink_faults closing
   pub goes : Goes closing [] told0 told1 beside0 beside1
 
--- the device could not be made: the closing line alone came
+-- the device could not be made, or attached where it was there: the closing line alone came
 pub record IsRefused (told0 told1 : Told) (beside0 beside1 : Beside) (status : Status) : Type 0 where
   pub closing : List Event
-  pub closes : Closes status closing
+  pub closes : Closes status beside0.sink_faults beside1.sink_faults closing
   pub adds : Adds told0.history told1.history closing
   pub takes : Takes beside0.script beside1.script []
 

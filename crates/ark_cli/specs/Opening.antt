@@ -14,6 +14,7 @@ pub record IsUnmade (told0 told1 : Told) (beside0 beside1 : Beside) : Type 0 whe
   pub adds : Adds told0.history told1.history []
   pub risen : Rose beside0.attach_faults beside1.attach_faults
   pub script : StillTold beside0.script beside1.script
+  pub sink : beside1.sink_faults ≡ beside0.sink_faults
 
 -- What the outside tells since a device of so many blocks was made: a fresh device with these events, and these bytes of the
 -- script that were taken.

@@ -78,7 +78,7 @@ fn command<W: Outside>(alloc: Global, words: &[String], world: &mut W) -> Status
 // Puts the closing line of a status that has one. Where this fails, the status stays.
 fn close<W: Outside>(status: Status, world: &mut W)
     requires { IsUndamaged status }
-    ensures closes { (closing : List Event) × Closes status closing × Goes closing [] (W.told world.old) (W.told world.new) (W.beside world.old) (W.beside world.new) }
+    ensures closes { (closing : List Event) × Closes status (W.beside world.old).sink_faults (W.beside world.new).sink_faults closing × Goes closing [] (W.told world.old) (W.told world.new) (W.beside world.old) (W.beside world.new) }
 {
     let line: &[u8] = match status {
         Status::Done => return,
