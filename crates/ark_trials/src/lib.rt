@@ -6,6 +6,8 @@ mod areas;
 #[cfg(test)]
 mod built;
 #[cfg(test)]
+mod each_call;
+#[cfg(test)]
 mod failures;
 #[cfg(test)]
 mod lines;
