@@ -12,6 +12,8 @@ mod failures;
 #[cfg(test)]
 mod lines;
 #[cfg(test)]
+mod once;
+#[cfg(test)]
 mod runs;
 #[cfg(test)]
 mod watched;
