@@ -8,4 +8,5 @@ mod reply;
 mod script;
 mod words;
 
+pub use ark_words::{Task, WordsFault, read_words};
 pub use command::arrakis;

@@ -1,18 +1,17 @@
-use crate::runs::{run, run_on};
+use crate::runs::run_on;
 use ark_base::Status;
-use ark_media::Fail;
 use std::alloc::Global;
-use std::test::Fail as Failure;
+use std::test::Fail;
 
 // Whether the script is run to its end on a new device of so many blocks, with this output.
-fn shows(alloc: Global, blocks: &str, script: &[u8], out: &[u8]) -> Result<bool, Failure> {
+fn shows(alloc: Global, blocks: &str, script: &[u8], out: &[u8]) -> Result<bool, Fail> {
     let done = run_on(alloc, blocks, script, &[])?;
     Ok(done.status == Status::Done && done.world.out() == out)
 }
 
 // The blocks from 129 on are granted, each once.
 #[test]
-fn grants_each_block_once(rt: HostRuntime) -> Result<(), Failure> {
+fn grants_each_block_once(rt: HostRuntime) -> Result<(), Fail> {
     let cases: [(&str, &[u8], &[u8]); 4] = [
         (
             "130",
@@ -21,7 +20,7 @@ fn grants_each_block_once(rt: HostRuntime) -> Result<(), Failure> {
         ),
         (
             "200",
-            b"app a\napp b\nvsa a s 71 raw\nvsa b s 1 raw\n",
+            b"app a\nvsa a s 71 raw\napp b\nvsa b t 1 raw\n",
             b"ready 200 0\nok\nok\nok\nrefused 10 no space\n",
         ),
         (
@@ -43,7 +42,7 @@ fn grants_each_block_once(rt: HostRuntime) -> Result<(), Failure> {
 
 // A block is read as it was written, without the zeros at its end.
 #[test]
-fn reads_what_was_written(rt: HostRuntime) -> Result<(), Failure> {
+fn reads_what_was_written(rt: HostRuntime) -> Result<(), Fail> {
     let cases: [(&[u8], &[u8]); 4] = [
         (
             b"app a\nvsa a s 2 raw\npoke a s 1 0aff\npeek a s 1\npeek a s 0\npeek a s 2\napp b\npeek b s 0\n",
@@ -70,51 +69,11 @@ fn reads_what_was_written(rt: HostRuntime) -> Result<(), Failure> {
 
 // An application holds eight areas and no more.
 #[test]
-fn grants_eight_areas(rt: HostRuntime) -> Result<(), Failure> {
+fn grants_eight_areas(rt: HostRuntime) -> Result<(), Fail> {
     let script =
         b"app a\nvsa a a 1 raw\nvsa a b 1 raw\nvsa a c 1 raw\nvsa a d 1 raw\nvsa a e 1 raw\nvsa a f 1 raw\nvsa a g 1 raw\nvsa a h 1 raw\nvsa a i 1 raw\nvsa a h 1 raw\n";
     let out =
         b"ready 200 0\nok\nok\nok\nok\nok\nok\nok\nok\nok\nrefused 7 limit\nrefused 4 name taken\n";
     assert!(rt; shows(rt.alloc(), "200", script, out)?);
-    Ok(())
-}
-
-// Each device call of a run fails in turn: the write of a poke that took effect or not, and the read of a peek. The calls
-// before them are make, write, sync, the put of the device's line, fetch, and the puts of two replies.
-#[test]
-fn tells_of_failed_calls(rt: HostRuntime) -> Result<(), Failure> {
-    let script = b"app a\nvsa a s 1 raw\npoke a s 0 07\npeek a s 0\n";
-    let cases: [(u32, bool, &[u8]); 4] = [
-        (
-            7,
-            false,
-            b"ready 200 0\nok\nok\nrefused 21 device fault\nok -\n",
-        ),
-        (
-            7,
-            true,
-            b"ready 200 0\nok\nok\nrefused 21 device fault\nok 07\n",
-        ),
-        (
-            9,
-            false,
-            b"ready 200 0\nok\nok\nok\nrefused 21 device fault\n",
-        ),
-        (
-            9,
-            true,
-            b"ready 200 0\nok\nok\nok\nrefused 21 device fault\n",
-        ),
-    ];
-    for (call, took, out) in cases {
-        let plan = [Fail {
-            call,
-            took,
-            part: 0,
-        }];
-        let done = run(rt.alloc(), script, &plan)?;
-        assert_eq!(rt; done.status, Status::Done, "at {call}");
-        assert_eq!(rt; done.world.out(), out, "at {call}");
-    }
     Ok(())
 }

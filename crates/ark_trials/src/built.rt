@@ -1,4 +1,4 @@
-use crate::runs::run;
+use crate::runs::{run, run_on};
 use ark_base::Status;
 use std::alloc::Global;
 use std::test::Fail;
@@ -82,5 +82,18 @@ fn refuses_words_to_come(rt: HostRuntime) -> Result<(), Fail> {
             "at {line:?}"
         );
     }
+    Ok(())
+}
+
+// One run of all words that are built, with lines of other words and forms between them.
+#[test]
+fn runs_every_built_word(rt: HostRuntime) -> Result<(), Fail> {
+    let script =
+        b"app web\napp db\napp web\napp\napp Web\napp  web\napps\n\nfrob\napp a 4\napp b 3\ntick 5\ndoor a d\ntick 7\napp kv_store_1\napp a\nvsa a s 2 raw\npoke a s 1 0aff\npeek a s 0\napp b\nvsa b s 1 raw\npoke b s 0 0b\npeek a s 1\npeek b s 0\nvsa b t 300 raw\n";
+    let out =
+        b"ready 400 0\nok\nok\nrefused 4 name taken\nrefused 1 syntax\nrefused 1 syntax\nrefused 1 syntax\nrefused 2 unknown word\nrefused 2 unknown word\nrefused 2 unknown word\nok\nrefused 1 syntax\nok 5\nrefused 2 unknown word\nok 12\nok\nrefused 4 name taken\nok\nok\nok -\nok\nok\nok\nok 0aff\nok 0b\nrefused 10 no space\n".as_slice();
+    let done = run_on(rt.alloc(), "400", script, &[])?;
+    assert_eq!(rt; done.status, Status::Done);
+    assert_eq!(rt; done.world.out(), out);
     Ok(())
 }

@@ -100,3 +100,20 @@ fn keeps_its_status_where_closing_fails(rt: HostRuntime) -> Result<(), Failure> 
     assert_eq!(rt; done.world.out(), b"ready 200 0\nfault ".as_slice());
     Ok(())
 }
+
+// A fetch that fails behind whole lines: these have their replies, and the closing line follows.
+#[test]
+fn closes_after_whole_lines(rt: HostRuntime) -> Result<(), Failure> {
+    let plan = [Fail {
+        call: 6,
+        took: false,
+        part: 0,
+    }];
+    let done = run(rt.alloc(), b"app a\n", &plan)?;
+    assert_eq!(rt; done.status, Status::Source);
+    assert_eq!(rt;
+        done.world.out(),
+        b"ready 200 0\nok\nfault source\n".as_slice()
+    );
+    Ok(())
+}

@@ -6,9 +6,13 @@ mod areas;
 #[cfg(test)]
 mod built;
 #[cfg(test)]
+mod each_call;
+#[cfg(test)]
 mod failures;
 #[cfg(test)]
 mod lines;
+#[cfg(test)]
+mod once;
 #[cfg(test)]
 mod runs;
 #[cfg(test)]

@@ -52,6 +52,25 @@ fn refuses_longer_lines(rt: HostRuntime) -> Result<(), Fail> {
     Ok(())
 }
 
+// One run in which lines of each kind stand together, and the last has no newline.
+#[test]
+fn answers_lines_of_each_kind(rt: HostRuntime) -> Result<(), Fail> {
+    let mut script = Vec::from_slice(
+        rt.alloc(),
+        b"\nfrob\napp\napp A\npeek a s 0\napp a\napp a\n",
+    )?;
+    let long = vec![in rt.alloc(); b'x'; 66_001]?;
+    script.extend_from_slice(&long)?;
+    script.extend_from_slice(b"\ntick 5")?;
+    let done = run(rt.alloc(), &script, &[])?;
+    assert_eq!(rt; done.status, Status::Done);
+    assert_eq!(rt;
+        done.world.out(),
+        b"ready 200 0\nrefused 2 unknown word\nrefused 2 unknown word\nrefused 1 syntax\nrefused 1 syntax\nrefused 3 no application\nok\nrefused 4 name taken\nrefused 24 too long\nok 5\n".as_slice()
+    );
+    Ok(())
+}
+
 // Sixteen applications are made in a run, and no more.
 #[test]
 fn makes_sixteen_applications(rt: HostRuntime) -> Result<(), Fail> {

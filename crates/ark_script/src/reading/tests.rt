@@ -283,6 +283,7 @@ fn reads_long_lines(rt: HostRuntime) -> Result<(), AllocError> {
     assert_eq!(rt; refused_long(&mut line, b"fill a b 0 ", 65_999), 0);
     assert_eq!(rt; refused_long(&mut line, b"append a l ", 65_547), 0);
     assert_eq!(rt; refused_long(&mut line, b"append a l ", 65_549), 1);
+    assert_eq!(rt; refused_long(&mut line, b"fill a b 10 ", 66_000), 0);
     Ok(())
 }
 
