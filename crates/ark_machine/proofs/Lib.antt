@@ -2,6 +2,7 @@ pub mod Answering
 pub mod Areas
 pub mod Cards
 pub mod Confining
+pub mod Contents
 pub mod Datagrams
 pub mod Dropping
 pub mod Early
@@ -14,10 +15,13 @@ pub mod Images
 pub mod Labels
 pub mod Lawful
 pub mod Leading
+pub mod Leaving
+pub mod Letting
 pub mod Limits
 pub mod Listed
 pub mod Logs
 pub mod Network
+pub mod OthersLeft
 pub mod Overlaps
 pub mod Owned
 pub mod Paced

@@ -104,3 +104,10 @@ stored_for image ms (t ∷ ts) a = stored_for image (with_stored image ms t) ts 
 -- an application starts with what its own slots hold
 pub start_private : (image : List (List ℕ)) (slots : List Slot) (a : List ℕ) → machine_of (start_system image slots) a ≡ with_areas unmade (map (area_in image) (own_slots a slots))
 start_private image slots a = stored_for image [] slots a
+
+-- two runs that start with the same areas for it, and bring the same to it
+pub start_alike : (image other : List (List ℕ)) (slots others : List Slot) (a : List ℕ) (xs ys : List Play) → map (area_in image) (own_slots a slots) ≡ map (area_in other) (own_slots a others)
+    → inputs_of a (start_system image slots) xs ≡ inputs_of a (start_system other others) ys → replies_to a (start_system image slots) xs ≡ replies_to a (start_system other others) ys
+start_alike image other slots others a xs ys areas is =
+    replies_alike a (start_system image slots) (start_system other others) xs ys
+    (start_private image slots a ∙ (ap (λ (zs : List Area). with_areas unmade zs) areas ∙ sym (start_private other others a))) is

@@ -27,6 +27,8 @@ pub mod Recovers
 pub mod Paced
 pub mod Refused
 pub mod Asked
+pub mod Left
+pub mod Frames
 pub mod Private
 pub mod Ranks
 pub mod Told

@@ -1,0 +1,14 @@
+use Rattle.std.proofs.Common.{refl}
+use Rattle.ark_machine.proofs.Contents.{tried_may, other_may, taken_stands, other_stands, synced_may, settled_may}
+use Rattle.ark_machine.proofs.effects.area_laws.Goals as goal
+
+pub returns : goal.returns
+returns c = record {
+  tried = tried_may;
+  others_tried = other_may;
+  stands = taken_stands;
+  others_stand = other_stands;
+  not_taken = λ off block r. refl;
+  synced = synced_may;
+  settled = settled_may;
+}
