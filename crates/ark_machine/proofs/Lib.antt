@@ -7,6 +7,7 @@ pub mod Datagrams
 pub mod Dropping
 pub mod Early
 pub mod FailedGrant
+pub mod FailedMarker
 pub mod Faults
 pub mod Frames
 pub mod Granted
@@ -20,7 +21,10 @@ pub mod Letting
 pub mod Limits
 pub mod Listed
 pub mod Logs
+pub mod LongLogs
+pub mod Maybe
 pub mod Network
+pub mod NextReady
 pub mod OthersLeft
 pub mod Overlaps
 pub mod Owned
@@ -35,6 +39,8 @@ pub mod RefusedLogs
 pub mod RefusedUses
 pub mod RefusedWords
 pub mod Refusing
+pub mod Reopened
+pub mod Reused
 pub mod Rows
 pub mod Rules
 pub mod Runs
@@ -43,6 +49,7 @@ pub mod Scripts
 pub mod SendRows
 pub mod Sending
 pub mod Sent
+pub mod SoFar
 pub mod Sockets
 pub mod Steady
 pub mod Stops

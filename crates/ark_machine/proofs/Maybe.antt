@@ -1,0 +1,72 @@
+-- Worked scripts on what a stop may leave of a block of an area, evaluated.
+use Rattle.std.proofs.Common.{◌≡◌, ℕ, Bool, true, false, List, [], ◌∷◌, ◌++◌, codes, refl}
+use Rattle.ark_base.specs.declared.kind.Kind.TheVariants as kind
+use Rattle.ark_media.specs.Journal.{Event, Write, Sync, zero_block}
+use Rattle.ark_script.specs.Line as w
+use Rattle.ark_machine.specs.Bytes.{padded}
+use Rattle.ark_machine.specs.Machine.{object_at}
+use Rattle.ark_machine.specs.Row.{answer}
+use Rattle.ark_machine.specs.Step.{step}
+use Rattle.ark_machine.specs.System.{fresh_system, machine_of}
+use Rattle.ark_machine.specs.Recovers.{object_maybe}
+use Rattle.ark_machine.proofs.Playing.{Played, played, performed}
+use Rattle.ark_machine.proofs.Scripts.{quiet, app, area, granting}
+
+abbrev a : List ℕ
+a = codes "a"
+
+abbrev s : List ℕ
+s = codes "s"
+
+abbrev v : List ℕ
+v = codes "v"
+
+abbrev written : List ℕ
+written = padded (10 ∷ 255 ∷ [])
+
+-- a write of block 1 of an area of two that took or not, and succeeded or not
+abbrev poked : Bool → Bool → List Played
+poked took ok =
+    app a ∷ quiet (w.vsic a v 2) ∷ (w.vsa a s 2 kind.Raw, granting (area 1 a s kind.Raw 129 2))
+    ∷ (w.poke a s 1 (10 ∷ 255 ∷ []), Write 130 written took ok ∷ [])
+    ∷ []
+
+-- then a sync of its own card
+abbrev flushed : Bool → Bool → List Played
+flushed took ok = poked took ok ++ (quiet (w.flush a v) ∷ (w.dev a v, Sync true ∷ []) ∷ [])
+
+-- what a stop may leave of a block of the area
+abbrev left_of : List Played → ℕ → List (List ℕ)
+left_of script k = object_maybe k (object_at (machine_of (played (fresh_system 200) script) a) s)
+
+pub written-list : left_of (poked true true) 1 ≡ zero_block ∷ written ∷ []
+unfolding step answer
+written-list = refl
+
+pub failed-list : left_of (poked false false) 1 ≡ zero_block ∷ written ∷ []
+unfolding step answer
+failed-list = refl
+
+pub taken-list : left_of (poked true false) 1 ≡ zero_block ∷ written ∷ []
+unfolding step answer
+taken-list = refl
+
+pub other-list : left_of (poked true true) 0 ≡ zero_block ∷ []
+unfolding step answer
+other-list = refl
+
+pub flushed-list : left_of (flushed true true) 1 ≡ written ∷ []
+unfolding step answer
+flushed-list = refl
+
+pub failed_flushed-list : left_of (flushed false false) 1 ≡ zero_block ∷ []
+unfolding step answer
+failed_flushed-list = refl
+
+pub taken_flushed-list : left_of (flushed true false) 1 ≡ written ∷ []
+unfolding step answer
+taken_flushed-list = refl
+
+pub flushed-performed : performed (fresh_system 200) (flushed false false) ≡ true
+unfolding step answer
+flushed-performed = refl
