@@ -1,4 +1,8 @@
 pub mod Answering
+pub mod AppliedFailures
+pub mod AppliedFrames
+pub mod AppliedOutputs
+pub mod AppliedRuns
 pub mod Areas
 pub mod Cards
 pub mod Confining

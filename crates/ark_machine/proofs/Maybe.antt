@@ -1,7 +1,7 @@
 -- Worked scripts on what a stop may leave of a block of an area, evaluated.
 use Rattle.std.proofs.Common.{◌≡◌, ℕ, Bool, true, false, List, [], ◌∷◌, ◌++◌, codes, refl}
 use Rattle.ark_base.specs.declared.kind.Kind.TheVariants as kind
-use Rattle.ark_media.specs.Journal.{Event, Write, Sync, zero_block}
+use Rattle.ark_media.specs.Journal.{Write, Sync, zero_block}
 use Rattle.ark_script.specs.Line as w
 use Rattle.ark_machine.specs.Bytes.{padded}
 use Rattle.ark_machine.specs.Machine.{object_at}

@@ -4,7 +4,7 @@ use Rattle.std.specs.Fmt.{digits}
 use Rattle.std.specs.Prelude.{Ok, take}
 use Rattle.ark_base.specs.declared.kind.Kind.TheVariants as kind
 use Rattle.ark_table.specs.Superblock.{superblock}
-use Rattle.ark_table.specs.Slots.{Slot, slots_of}
+use Rattle.ark_table.specs.Slots.{slots_of}
 use Rattle.ark_entry.specs.Found.{found, found_of}
 use Rattle.ark_script.specs.Text.{reply_words}
 use Rattle.ark_script.specs.declared.said.Said.TheVariants as said

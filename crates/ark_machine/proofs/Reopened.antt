@@ -1,7 +1,6 @@
 -- The runs after a stop in an append: the appended and the acknowledged script, and the openings on what the stop left.
-use Rattle.std.proofs.Common.{◌≡◌, ℕ, true, List, [], ◌∷◌, ◌++◌, codes, refl}
+use Rattle.std.proofs.Common.{◌≡◌, ℕ, true, List, [], ◌∷◌, codes, refl}
 use Rattle.std.specs.Fmt.{digits}
-use Rattle.hex.specs.Hex.{encode_with}
 use Rattle.ark_base.specs.declared.kind.Kind.TheVariants as kind
 use Rattle.ark_media.specs.Journal.{Event, Read, Write, Sync, zero_block}
 use Rattle.ark_table.specs.Superblock.{superblock}

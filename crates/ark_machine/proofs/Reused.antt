@@ -1,10 +1,9 @@
 -- Stops in a script that grants a dropped area's blocks anew: none shows the old entry in the new log.
-use Rattle.std.proofs.Common.{◌≡◌, ◌⊎◌, inl, inr, ℕ, ◌<◌, true, List, [], ◌∷◌, ◌++◌, length, replicate, codes, refl, sym, subst, ap, arith}
+use Rattle.std.proofs.Common.{◌≡◌, ◌⊎◌, inl, inr, ℕ, ◌<◌, true, List, [], ◌∷◌, ◌++◌, replicate, codes, refl, sym, subst, ap, arith}
 use Rattle.std.specs.Prelude.{Ok, Some, None, Contains, take}
 use Rattle.ark_base.specs.declared.kind.Kind.TheVariants as kind
 use Rattle.ark_media.specs.Journal.{Event, Write, Sync, onto, current, block, zero_block}
 use Rattle.ark_media.specs.Stops.{MayLeave, Whole}
-use Rattle.ark_media.proofs.Stopping.{now_may}
 use Rattle.ark_table.specs.Superblock.{superblock}
 use Rattle.ark_table.specs.Slots.{Slot, slots_of, slot_bytes}
 use Rattle.ark_entry.specs.Found.{Found, found, found_of}
@@ -14,9 +13,9 @@ use Rattle.ark_machine.specs.Row.{answer}
 use Rattle.ark_machine.specs.Step.{step}
 use Rattle.ark_machine.specs.Start.{view}
 use Rattle.ark_machine.specs.System.{System, fresh_system}
-use Rattle.ark_machine.specs.Plane.{Change, makes}
+use Rattle.ark_machine.specs.Plane.{makes}
 use Rattle.ark_machine.specs.Recovers.{Recovers, begun, ContentStands, log_choices}
-use Rattle.ark_machine.proofs.Playing.{Played, played}
+use Rattle.ark_machine.proofs.Playing.{played}
 use Rattle.ark_machine.proofs.Scripts.{quiet, area, zeroed}
 use Rattle.ark_machine.proofs.Images.{history}
 use Rattle.ark_machine.proofs.Stops.{base, log_slot, reused, single, recovers_log}

@@ -14,7 +14,7 @@ use Rattle.ark_entry.specs.Header.{header_bytes}
 use Rattle.ark_script.specs.Line as w
 use Rattle.ark_machine.specs.Row.{answer}
 use Rattle.ark_machine.specs.Step.{step}
-use Rattle.ark_machine.specs.Start.{view, start_system}
+use Rattle.ark_machine.specs.Start.{view}
 use Rattle.ark_machine.specs.System.{System, fresh_system}
 use Rattle.ark_machine.specs.Recovers.{Recovers, begun, ContentStands, log_choices}
 use Rattle.ark_machine.proofs.Playing.{Played, played, replies, performed}
