@@ -1,14 +1,33 @@
 -- What a raw area holds, and may hold after a stop, once a write was tried or a sync succeeded.
-use Rattle.std.proofs.Common.{◌≡◌, ℕ, zero, suc, ◌<◌, Bool, true, false, ◌||◌, ◌&&◌, List, [], ◌∷◌, ◌++◌, length, map, refl, sym, ◌∙◌, ap, subst, arith, cond, get_or-set_same, get_or-set_other}
+use Rattle.std.proofs.Common.{◌≡◌, ◌⊎◌, inl, inr, ℕ, zero, suc, ◌<◌, Bool, true, false, ◌||◌, ◌&&◌, List, [], ◌∷◌, ◌++◌, length, map, refl, sym, ◌∙◌, ap, subst, arith, get_or-set_same, get_or-set_other}
 use Rattle.std.proofs.lemmas.List.{get_or-map}
-use Rattle.std.specs.Prelude.{Option, Some, None, Contains, option_map, option_and_then, find, bytes_eq, slice_index_or}
+use Rattle.std.specs.Prelude.{Option, Some, None, Contains, option_map, option_and_then, slice_index_or}
 use Rattle.std.specs.List.{list_any}
+use Rattle.ark_base.specs.Conditions.{Conditions, early, late}
+use Rattle.ark_base.specs.declared.kind.Outcome.{Outcome}
+use Rattle.ark_base.specs.declared.kind.Outcome.TheVariants as outcome
+use Rattle.ark_base.specs.declared.refusal.Refusal.{Refusal}
+use Rattle.ark_base.specs.declared.refusal.Refusal.TheVariants as r
+use Rattle.ark_vic.specs.declared.door.Bell.TheVariants as bell
 use Rattle.ark_caladan.specs.Chain.{syncing}
+use Rattle.ark_script.specs.Line as w
+use Rattle.ark_script.specs.Line.{Line}
+use Rattle.ark_script.specs.declared.said.Said.TheVariants as said
+use Rattle.ark_machine.specs.Bytes.{padded}
 use Rattle.ark_machine.specs.Objects
-use Rattle.ark_machine.specs.Objects.{Object, Raw, as_raw}
-use Rattle.ark_machine.specs.Machine.{Machine, Held, holding, object_at, raw_at}
-use Rattle.ark_machine.specs.Row.{Ended, is_sync, settled, synced, synced_by}
-use Rattle.ark_machine.specs.Areas.{raw_written}
+use Rattle.ark_machine.specs.Objects.{Object, Raw, Vsic, Job, flush, as_raw}
+use Rattle.ark_machine.specs.Machine.{Machine, object_at, raw_at, vsic_at, vnic_at, with_vsic}
+use Rattle.ark_machine.specs.Row.{Row, Given, Ended, is_sync, settled, synced, synced_by, answer, unless_refused}
+use Rattle.ark_machine.specs.Areas.{raw_written, block_written}
+use Rattle.ark_machine.specs.Moves.{Move, moved, ended, ending, outcome_of, first_end, row_of}
+use Rattle.ark_machine.specs.Devices.{card_moves}
+use Rattle.ark_machine.specs.Plane.{recorded}
+use Rattle.ark_machine.specs.Step.{step}
+use Rattle.ark_machine.specs.System.{System, machine_of, line_turn}
+use Rattle.ark_machine.specs.Refused.{is_told_late}
+use Rattle.ark_machine.proofs.Early.{same_refusal, early_not_told}
+use Rattle.ark_machine.proofs.Privacy.{own_machine}
+use Rattle.ark_machine.proofs.Setting.{each_found, raw_set, vsic_no_vnic, vsic_raw, rung_left}
 
 -- A write that was tried.
 
@@ -26,16 +45,6 @@ other_stands off k block true r ne = get_or-set_other r.content off k block [] n
 other_stands off k block false r ne = refl
 
 -- A sync that succeeded.
-
-each_found : (f : Object → Object) (l : List ℕ) (hs : List Held) → option_map (λ h. h.object) (find (λ h. bytes_eq l h.label) (map (λ h. holding (f h.object) h) hs)) ≡ option_map f (option_map (λ h. h.object) (find (λ h. bytes_eq l h.label) hs))
-each_found f l [] = refl
-each_found f l (x ∷ xs) = by (each_found f l xs) (bytes_eq l x.label)
-  where
-    by : option_map (λ h. h.object) (find (λ h. bytes_eq l h.label) (map (λ h. holding (f h.object) h) xs)) ≡ option_map f (option_map (λ h. h.object) (find (λ h. bytes_eq l h.label) xs)) → (b : Bool)
-        → option_map (λ h. h.object) (cond b (Some (holding (f x.object) x)) (find (λ h. bytes_eq l h.label) (map (λ h. holding (f h.object) h) xs)))
-        ≡ option_map f (option_map (λ h. h.object) (cond b (Some x) (find (λ h. bytes_eq l h.label) xs)))
-    by rest true = refl
-    by rest false = rest
 
 settled_raw : (o : Option Object) (r : Raw) → option_and_then as_raw o ≡ Some r → option_and_then as_raw (option_map settled o) ≡ Some (record r { maybe = map (λ b. b ∷ []) r.content })
 settled_raw None r h = absurd cc
@@ -65,3 +74,69 @@ synced_may m l r ends e is there ok verb =
 
 pub settled_may : (r : Raw) (k : ℕ) → k < length r.content → slice_index_or (map (λ b. b ∷ []) r.content) k [] ≡ slice_index_or r.content k [] ∷ []
 settled_may r k lt = get_or-map (λ (b : List ℕ). b ∷ []) r.content k [] [] lt
+
+-- Lines that do so.
+
+-- a row that is not refused but for a device call leaves its machine
+tried_machine : (m : Machine) (c : Conditions) (row : Row) → ((answer m c row).said ≡ said.Ok) ⊎ ((answer m c row).said ≡ said.Refused r.DeviceFault) → (answer m c row).machine ≡ row.machine
+unfolding answer
+tried_machine m c row = by (early c) (late c) refl
+  where
+    by : (one two : Option Refusal) → early c ≡ one → ((unless_refused one two m row).said ≡ said.Ok) ⊎ ((unless_refused one two m row).said ≡ said.Refused r.DeviceFault) → (unless_refused one two m row).machine ≡ row.machine
+    by (Some y) two is (inl e) = absurd cc
+    by (Some y) two is (inr e) = absurd (early_not_told c y is (subst (λ z. is_told_late z ≡ true) (sym (same_refusal y r.DeviceFault e)) refl))
+    by None (Some y) is e = refl
+    by None None is e = refl
+
+poked_machine : (m : Machine) (a l : List ℕ) (off : ℕ) (bytes : List ℕ) (g : Given) → ((step m (w.poke a l off bytes) g).said ≡ said.Ok) ⊎ ((step m (w.poke a l off bytes) g).said ≡ said.Refused r.DeviceFault)
+    → (step m (w.poke a l off bytes) g).machine ≡ block_written m l off (padded bytes) g.ended
+unfolding step
+poked_machine m a l off bytes g h = tried_machine m _ _ h
+
+-- a write of one block
+pub poked_may : (s : System) (a l : List ℕ) (off : ℕ) (bytes : List ℕ) (e : Ended) (memory : Bool) (x : Raw) → raw_at (machine_of s a) l ≡ Some x
+    → ((line_turn s (w.poke a l off bytes) (e ∷ []) memory).said ≡ said.Ok) ⊎ ((line_turn s (w.poke a l off bytes) (e ∷ []) memory).said ≡ said.Refused r.DeviceFault)
+    → raw_at (machine_of (line_turn s (w.poke a l off bytes) (e ∷ []) memory).after a) l ≡ Some (raw_written off (padded bytes) e.took x)
+poked_may s a l off bytes e memory x is h =
+    let line : Line = w.poke a l off bytes in
+    let g : Given = recorded s.plane line (e ∷ []) memory in
+    ap (λ (n : Machine). raw_at n l) (own_machine s a line g ∙ poked_machine (machine_of s a) a l off bytes g h) ∙ raw_set (machine_of s a) l (raw_written off (padded bytes) e.took) x is
+
+done_machine : (m : Machine) (c : Conditions) (row : Row) (o : Outcome) → (answer m c row).said ≡ said.Done o → answer m c row ≡ row
+unfolding answer
+done_machine m c row o = by (early c) (late c)
+  where
+    by : (one two : Option Refusal) → (unless_refused one two m row).said ≡ said.Done o → unless_refused one two m row ≡ row
+    by (Some y) two h = absurd cc
+    by None (Some y) h = absurd cc
+    by None None h = refl
+
+-- a sync that a card's descriptor asks for
+flush_moves : (m : Machine) (v l : List ℕ) (x : Vsic) (js : List Job) (e : Ended) (y : Raw) → raw_at m l ≡ Some y → (moved m v x (flush ∷ js) e).said ≡ said.Done outcome.Ok
+    → raw_at (moved m v x (flush ∷ js) e).machine l ≡ Some (record y { maybe = map (λ b. b ∷ []) y.content })
+flush_moves m v l x js e y is = by e.ok
+  where
+    by : (ok : Bool) → said.Done (outcome_of ok) ≡ said.Done outcome.Ok → raw_at (ended (synced ok m) v x flush js (outcome_of ok)) l ≡ Some (record y { maybe = map (λ b. b ∷ []) y.content })
+    by true h =
+        rung_left as_raw (λ c. refl) (with_vsic (synced true m) v (ending flush js outcome.Ok)) x.door bell.Io l
+        ∙ (vsic_raw (synced true m) v (ending flush js outcome.Ok) l ∙ (ap (λ o. option_and_then as_raw o) (each_found settled l m.held) ∙ settled_raw (object_at m l) y is))
+    by false h = absurd cc
+
+dev_flushes : (a v l : List ℕ) (m : Machine) (g : Given) (x : Vsic) (js : List Job) (y : Raw) → vsic_at m v ≡ Some x → x.queue.posted ≡ flush ∷ js → raw_at m l ≡ Some y
+    → (step m (w.dev a v) g).said ≡ said.Done outcome.Ok → raw_at (step m (w.dev a v) g).machine l ≡ Some (record y { maybe = map (λ b. b ∷ []) y.content })
+unfolding step
+dev_flushes a v l m g x js y card posted is h =
+    let same = done_machine m _ (row_of (card_moves m v g (vnic_at m v))) outcome.Ok h in
+    let good = subst (λ (z : Row). z.said ≡ said.Done outcome.Ok) same h in
+    subst (λ (z : Row). raw_at z.machine l ≡ Some (record y { maybe = map (λ b. b ∷ []) y.content })) (sym same)
+    (subst (λ (z : Move). z.said ≡ said.Done outcome.Ok → raw_at z.machine l ≡ Some (record y { maybe = map (λ b. b ∷ []) y.content })) (sym the_move) (flush_moves m v l x js (first_end g.ended) y is) good)
+  where
+    the_move : card_moves m v g (vnic_at m v) ≡ moved m v x (flush ∷ js) (first_end g.ended)
+    the_move = rw (vsic_no_vnic m v x card) (rw card (ap (λ ps. moved m v x ps (first_end g.ended)) posted))
+
+pub flushed_may : (s : System) (a v l : List ℕ) (ends : List Ended) (memory : Bool) (x : Vsic) (js : List Job) (y : Raw) → vsic_at (machine_of s a) v ≡ Some x → x.queue.posted ≡ flush ∷ js
+    → (line_turn s (w.dev a v) ends memory).said ≡ said.Done outcome.Ok → raw_at (machine_of s a) l ≡ Some y
+    → raw_at (machine_of (line_turn s (w.dev a v) ends memory).after a) l ≡ Some (record y { maybe = map (λ b. b ∷ []) y.content })
+flushed_may s a v l ends memory x js y card posted h is =
+    let g : Given = recorded s.plane (w.dev a v) ends memory in
+    ap (λ (n : Machine). raw_at n l) (own_machine s a (w.dev a v) g) ∙ dev_flushes a v l (machine_of s a) g x js y card posted is h

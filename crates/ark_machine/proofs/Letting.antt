@@ -1,9 +1,9 @@
 -- A frame that goes out: its filter, and its count.
-use Rattle.std.proofs.Common.{◌≡◌, ◌≤◌, ℕ, Bool, true, false, not, ◌&&◌, List, [], ◌∷◌, length, map, take, refl, sym, ◌∙◌, ap, subst, arith, cond}
+use Rattle.std.proofs.Common.{◌≡◌, ◌≤◌, ℕ, Bool, true, false, not, ◌&&◌, List, [], ◌∷◌, length, take, refl, sym, ◌∙◌, ap, subst, arith, cond}
 use Rattle.std.proofs.lemmas.Bool.{and_parts, false≢true}
 use Rattle.std.proofs.lemmas.List.{length-take}
 use Rattle.std.proofs.lemmas.List.Folds.{Any-from_list_any}
-use Rattle.std.specs.Prelude.{Option, Some, None, Ok, IsTrue, Contains, option_map, option_and_then, find, unwrap_or, bytes_eq}
+use Rattle.std.specs.Prelude.{Option, Some, None, Ok, IsTrue, Contains, option_and_then, bytes_eq}
 use Rattle.ark_base.specs.Conditions.{Conditions, early, late}
 use Rattle.ark_base.specs.declared.kind.Outcome.TheVariants as outcome
 use Rattle.ark_base.specs.declared.refusal.Refusal.{Refusal}
@@ -13,15 +13,12 @@ use Rattle.ark_filters.specs.declared.filter.Direction.TheVariants as direction
 use Rattle.ark_packet.specs.declared.own.Own.{Own}
 use Rattle.ark_script.specs.Line as w
 use Rattle.ark_script.specs.declared.said.Said.TheVariants as said
-use Rattle.ark_vic.specs.Bells as bells
-use Rattle.ark_vic.specs.declared.door.Bell.{Bell}
 use Rattle.ark_vic.specs.declared.door.Bell.TheVariants as bell
-use Rattle.ark_vic.specs.declared.door.Counts.{Counts}
 use Rattle.ark_machine.specs.Objects
 use Rattle.ark_machine.specs.Objects.{Object, Paced, Place, Vnic, as_vnic, as_door}
-use Rattle.ark_machine.specs.Machine.{Machine, Held, holding, vnic_at, door_at, object_at, with_object, with_vnic}
+use Rattle.ark_machine.specs.Machine.{Machine, Held, vnic_at, with_vnic}
 use Rattle.ark_machine.specs.Row.{Row, Given, Ended, answer, unless_refused}
-use Rattle.ark_machine.specs.Rates.{is_over_burst, may_pass, passed, rung}
+use Rattle.ark_machine.specs.Rates.{is_over_burst, may_pass, passed}
 use Rattle.ark_machine.specs.Network.{is_transmit, lets_out, is_let_out, bytes_in, tx_ended, tx_ending, tx_passed, frame_moves, tx_moves}
 use Rattle.ark_machine.specs.Moves.{Move, moves, row_of}
 use Rattle.ark_machine.specs.Devices.{card_moves}
@@ -32,6 +29,7 @@ use Rattle.ark_machine.specs.Sending.{IsLetOut}
 use Rattle.ark_machine.specs.Frames.{LetsOut, tx_pace_at, IsCounted}
 use Rattle.ark_machine.proofs.Listed.{same_bytes}
 use Rattle.ark_machine.proofs.Privacy.{own_machine}
+use Rattle.ark_machine.proofs.Setting.{vnic_set, rung_left}
 
 -- The filter.
 
@@ -64,86 +62,6 @@ let_out_by_filter s a v frame = by s.plane.own refl
         let found = Any-from_list_any (λ (x : Held). lets_out v own frame x.object) (machine_of s a).held h in
         filter_is s a v frame own found.1 is (found.0, found.2, found.3) found.1.object refl found.4
 
--- What is at a label once an object is set.
-
-object_set : (l : List ℕ) (o : Object) (hs : List Held) → option_map (λ h. h.object) (find (λ h. bytes_eq l h.label) (map (λ h. cond (bytes_eq l h.label) (holding o h) h) hs))
-    ≡ option_map (λ (x : Object). o) (option_map (λ h. h.object) (find (λ h. bytes_eq l h.label) hs))
-object_set l o [] = refl
-object_set l o (x ∷ xs) = by (object_set l o xs) (bytes_eq l x.label) refl
-  where
-    others : List Held
-    others = map (λ h. cond (bytes_eq l h.label) (holding o h) h) xs
-
-    by : option_map (λ h. h.object) (find (λ h. bytes_eq l h.label) others) ≡ option_map (λ (x : Object). o) (option_map (λ h. h.object) (find (λ h. bytes_eq l h.label) xs)) → (b : Bool) → bytes_eq l x.label ≡ b
-        → option_map (λ h. h.object) (find (λ h. bytes_eq l h.label) (cond b (holding o x) x ∷ others)) ≡ option_map (λ (x : Object). o) (option_map (λ h. h.object) (cond b (Some x) (find (λ h. bytes_eq l h.label) xs)))
-    by rest true is = rw is refl
-    by rest false is = rw is rest
-
--- another label has what it had
-object_left : (l d : List ℕ) (o : Object) (hs : List Held) → bytes_eq l d ≡ false → option_map (λ h. h.object) (find (λ h. bytes_eq l h.label) (map (λ h. cond (bytes_eq d h.label) (holding o h) h) hs))
-    ≡ option_map (λ h. h.object) (find (λ h. bytes_eq l h.label) hs)
-object_left l d o [] apart = refl
-object_left l d o (x ∷ xs) apart = by (object_left l d o xs apart) (bytes_eq d x.label) refl
-  where
-    others : List Held
-    others = map (λ h. cond (bytes_eq d h.label) (holding o h) h) xs
-
-    by : option_map (λ h. h.object) (find (λ h. bytes_eq l h.label) others) ≡ option_map (λ h. h.object) (find (λ h. bytes_eq l h.label) xs) → (b : Bool) → bytes_eq d x.label ≡ b
-        → option_map (λ h. h.object) (find (λ h. bytes_eq l h.label) (cond b (holding o x) x ∷ others)) ≡ option_map (λ h. h.object) (find (λ h. bytes_eq l h.label) (x ∷ xs))
-    by rest true is = let other : bytes_eq l x.label ≡ false = subst (λ y. bytes_eq l y ≡ false) (same_bytes d x.label is) apart in rw other rest
-    by rest false is = elim (bytes_eq l x.label) as (λ t. option_map (λ h. h.object) (cond t (Some x) (find (λ h. bytes_eq l h.label) others)) ≡ option_map (λ h. h.object) (cond t (Some x) (find (λ h. bytes_eq l h.label) xs))) [
-      | true ↦ refl
-      | false ↦ rest
-    ]
-
--- The card.
-
-the_vnic : (o : Option Object) (x : Vnic) (n : Object) (y : Vnic) → option_and_then as_vnic o ≡ Some x → as_vnic n ≡ Some y → option_and_then as_vnic (option_map (λ (z : Object). n) o) ≡ Some y
-the_vnic None x n y h is = absurd cc
-the_vnic (Some z) x n y h is = is
-
-vnic_set : (m : Machine) (v : List ℕ) (f : Vnic → Vnic) (x : Vnic) → vnic_at m v ≡ Some x → vnic_at (with_vnic m v f) v ≡ Some (f x)
-vnic_set m v f x is =
-    subst (λ o. vnic_at (unwrap_or (option_map (λ y. with_object m v (Objects.vnic (f y))) o) m) v ≡ Some (f x)) (sym is)
-    (ap (λ o. option_and_then as_vnic o) (object_set v (Objects.vnic (f x)) m.held) ∙ the_vnic (object_at m v) x (Objects.vnic (f x)) (f x) is refl)
-
-abbrev pace_in : Option Object → Option Paced
-pace_in o = option_and_then (λ x. x.tx_pace) (option_and_then as_vnic o)
-
--- a doorbell has no pace
-door_pace : (o : Option Object) (c : Counts) → option_and_then as_door o ≡ Some c → pace_in o ≡ None
-door_pace None c h = refl
-door_pace (Some (Objects.vnic x)) c h = absurd cc
-door_pace (Some (Objects.raw r)) c h = refl
-door_pace (Some (Objects.log g)) c h = refl
-door_pace (Some (Objects.vsic x)) c h = refl
-door_pace (Some (Objects.filter f card)) c h = refl
-door_pace (Some (Objects.door d)) c h = refl
-door_pace (Some (Objects.rate q b)) c h = refl
-door_pace (Some (Objects.buffer b)) c h = refl
-door_pace (Some (Objects.socket k)) c h = refl
-
-rung_pace : (m : Machine) (d : Option (List ℕ)) (b : Bell) (v : List ℕ) → tx_pace_at (rung m d b) v ≡ tx_pace_at m v
-rung_pace m None b v = refl
-rung_pace m (Some d) b v = by (door_at m d) refl
-  where
-    counted : Counts → Object
-    counted c = Objects.door (bells.one_more c b)
-
-    at_door : (c : Counts) → option_and_then as_door (object_at m d) ≡ Some c → (t : Bool) → bytes_eq v d ≡ t → tx_pace_at (with_object m d (counted c)) v ≡ tx_pace_at m v
-    at_door c is true same =
-        subst (λ l. tx_pace_at (with_object m d (counted c)) l ≡ tx_pace_at m l) (sym (same_bytes v d same))
-        (ap pace_in (object_set d (counted c) m.held) ∙ (none (object_at m d) ∙ sym (door_pace (object_at m d) c is)))
-      where
-        none : (o : Option Object) → pace_in (option_map (λ (z : Object). counted c) o) ≡ None
-        none None = refl
-        none (Some z) = refl
-    at_door c is false other = ap pace_in (object_left v d (counted c) m.held other)
-
-    by : (o : Option Counts) → door_at m d ≡ o → tx_pace_at (unwrap_or (option_map (λ c. with_object m d (counted c)) o) m) v ≡ tx_pace_at m v
-    by None is = refl
-    by (Some c) is = at_door c is (bytes_eq v d) refl
-
 -- The count.
 
 take_within : (n : ℕ) (xs : List ℕ) → length (take n xs) ≤ n
@@ -153,8 +71,8 @@ gone_pace : (m : Machine) (v : List ℕ) (x : Vnic) (p : Place) (ps : List (Plac
 gone_pace m v x p ps pace is =
     let one : Machine = with_vnic m v (tx_passed pace) in
     let two : Machine = with_vnic one v (tx_ending p ps outcome.Ok) in
-    rung_pace two x.tx_door bell.Tx v
-    ∙ ap (λ o. option_and_then (λ y. y.tx_pace) o) (vnic_set one v (tx_ending p ps outcome.Ok) (tx_passed pace x) (vnic_set m v (tx_passed pace) x is))
+    ap (λ o. option_and_then (λ y. y.tx_pace) o)
+    (rung_left as_vnic (λ c. refl) two x.tx_door bell.Tx v ∙ vnic_set one v (tx_ending p ps outcome.Ok) (tx_passed pace x) (vnic_set m v (tx_passed pace) x is))
 
 frame_counted : (m : Machine) (v : List ℕ) (x : Vnic) (own : Option Own) (p : Place) (len : ℕ) (ps : List (Place × ℕ)) → vnic_at m v ≡ Some x → x.tx.posted ≡ (p, len) ∷ ps
     → (frame_moves m v x own p len ps (take len (bytes_in m p))).said ≡ said.Sent

@@ -53,6 +53,7 @@ pub mod Scripts
 pub mod SendRows
 pub mod Sending
 pub mod Sent
+pub mod Setting
 pub mod SoFar
 pub mod Sockets
 pub mod Steady

@@ -1,14 +1,20 @@
 -- Worked scripts on what a stop may leave of a block of an area, evaluated.
-use Rattle.std.proofs.Common.{◌≡◌, ℕ, Bool, true, false, List, [], ◌∷◌, ◌++◌, codes, refl}
+use Rattle.std.proofs.Common.{◌≡◌, inr, ℕ, Bool, true, false, List, [], ◌∷◌, ◌++◌, replicate, codes, refl}
+use Rattle.std.specs.Prelude.{Some, None}
 use Rattle.ark_base.specs.declared.kind.Kind.TheVariants as kind
 use Rattle.ark_media.specs.Journal.{Write, Sync, zero_block}
+use Rattle.ark_caladan.specs.Chain.{writing}
 use Rattle.ark_script.specs.Line as w
 use Rattle.ark_machine.specs.Bytes.{padded}
-use Rattle.ark_machine.specs.Machine.{object_at}
-use Rattle.ark_machine.specs.Row.{answer}
+use Rattle.ark_machine.specs.Objects.{Raw, Vsic, flush}
+use Rattle.ark_machine.specs.Machine.{object_at, raw_at}
+use Rattle.ark_machine.specs.Row.{Ended, answer}
+use Rattle.ark_machine.specs.Areas.{raw_written}
 use Rattle.ark_machine.specs.Step.{step}
-use Rattle.ark_machine.specs.System.{fresh_system, machine_of}
+use Rattle.ark_machine.specs.System.{System, fresh_system, machine_of, line_turn}
+use Rattle.ark_machine.specs.Follow.{ends_of}
 use Rattle.ark_machine.specs.Recovers.{object_maybe}
+use Rattle.ark_machine.proofs.Contents.{poked_may, flushed_may}
 use Rattle.ark_machine.proofs.Playing.{Played, played, performed}
 use Rattle.ark_machine.proofs.Scripts.{quiet, app, area, granting}
 
@@ -70,3 +76,29 @@ taken_flushed-list = refl
 pub flushed-performed : performed (fresh_system 200) (flushed false false) ≡ true
 unfolding step answer
 flushed-performed = refl
+
+-- The laws of lists, at these lines.
+
+abbrev fresh : Raw
+fresh = record { content = replicate 2 zero_block; maybe = replicate 2 (zero_block ∷ []) }
+
+abbrev granted : System
+granted = played (fresh_system 200) (app a ∷ (w.vsa a s 2 kind.Raw, granting (area 1 a s kind.Raw 129 2)) ∷ [])
+
+abbrev failing : Ended
+failing = record { verb = writing; ok = false; took = false }
+
+pub poked-raw : raw_at (machine_of (line_turn granted (w.poke a s 1 (10 ∷ 255 ∷ [])) (failing ∷ []) false).after a) s ≡ Some (raw_written 1 written false fresh)
+unfolding step answer
+poked-raw = poked_may granted a s 1 (10 ∷ 255 ∷ []) failing false fresh refl (inr refl)
+
+-- a flush is posted behind the write
+abbrev posted : System
+posted = played (fresh_system 200) (poked false false ++ (quiet (w.flush a v) ∷ []))
+
+abbrev card : Vsic
+card = record { size = 2; queue = record { posted = flush ∷ []; moved = 0; unreaped = [] }; bound = []; pace = None; door = None }
+
+pub flushed-raw : raw_at (machine_of (line_turn posted (w.dev a v) (ends_of (Sync true ∷ [])) false).after a) s ≡ Some fresh
+unfolding step answer
+flushed-raw = flushed_may posted a v s (ends_of (Sync true ∷ [])) false card [] (raw_written 1 written false fresh) refl refl refl refl

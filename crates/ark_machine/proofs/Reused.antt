@@ -1,6 +1,6 @@
 -- Stops in a script that grants a dropped area's blocks anew: none shows the old entry in the new log.
-use Rattle.std.proofs.Common.{◌≡◌, ◌⊎◌, inl, inr, ℕ, ◌<◌, true, List, [], ◌∷◌, ◌++◌, replicate, codes, refl, sym, subst, ap, arith}
-use Rattle.std.specs.Prelude.{Ok, Some, None, Contains, take}
+use Rattle.std.proofs.Common.{◌≡◌, ◌⊎◌, inl, inr, ℕ, zero, suc, ◌<◌, true, List, [], ◌∷◌, ◌++◌, replicate, codes, refl, sym, subst, ap, arith}
+use Rattle.std.specs.Prelude.{Option, Ok, Some, None, Contains, take}
 use Rattle.ark_base.specs.declared.kind.Kind.TheVariants as kind
 use Rattle.ark_media.specs.Journal.{Event, Write, Sync, onto, current, block, zero_block}
 use Rattle.ark_media.specs.Stops.{MayLeave, Whole}
@@ -13,8 +13,8 @@ use Rattle.ark_machine.specs.Row.{answer}
 use Rattle.ark_machine.specs.Step.{step}
 use Rattle.ark_machine.specs.Start.{view}
 use Rattle.ark_machine.specs.System.{System, fresh_system}
-use Rattle.ark_machine.specs.Plane.{makes}
-use Rattle.ark_machine.specs.Recovers.{Recovers, begun, ContentStands, log_choices}
+use Rattle.ark_machine.specs.Plane.{Change, makes}
+use Rattle.ark_machine.specs.Recovers.{Recovers, begun, ContentStands, BlocksStand, block_choices, log_choices}
 use Rattle.ark_machine.proofs.Playing.{played}
 use Rattle.ark_machine.proofs.Scripts.{quiet, area, zeroed}
 use Rattle.ark_machine.proofs.Images.{history}
@@ -41,6 +41,9 @@ four_blocks : (image : List (List ℕ)) (first : List ℕ) → block image 129 �
     → view image log_slot.blocks ≡ first ∷ replicate 3 zero_block
 four_blocks image first p q s t = rw p (rw q (rw s (rw t refl)))
 
+no_slots : (t : Slot) → Contains {X = Slot} [] t → ⊥
+no_slots t h = absurd (omega (arith, h.1))
+
 -- In the drop the old slot is there or not; the new log has none yet.
 
 abbrev in_drop : List Event
@@ -64,6 +67,52 @@ in_drop-without = refl
 pub in_drop-with : slots_of (current base (onto (history 200 (take 3 reused)) [])) ≡ Ok (old_slot ∷ [])
 unfolding superblock
 in_drop-with = refl
+
+abbrev before_drop : System
+before_drop = played (fresh_system 200) (take 3 reused)
+
+abbrev drop_begun : Option Change
+drop_begun = begun before_drop (Some (Ok (w.drop (codes "b") (codes "r"))))
+
+abbrev drop_part : List Event
+drop_part = Write 1 zero_block true true ∷ []
+
+abbrev undropped : List (List ℕ)
+undropped = current base (onto (history 200 (take 3 reused)) [])
+
+some_block : (m n : ℕ) → ◌≡◌ {A = Option ℕ} (Some m) (Some n) → m ≡ n
+some_block m n e = cc
+
+none_past : (n : ℕ) → ◌≡◌ {A = Option ℕ} None (Some n) → ⊥
+none_past n e = cc
+
+old_blocks : BlocksStand before_drop drop_begun drop_part undropped old_slot
+unfolding step answer superblock
+old_blocks zero n h = subst (λ k. Contains (block_choices before_drop drop_begun drop_part old_slot 0 k) (block undropped k)) (some_block 129 n h) (0, omega arith, refl)
+old_blocks (suc zero) n h = subst (λ k. Contains (block_choices before_drop drop_begun drop_part old_slot 1 k) (block undropped k)) (some_block 130 n h) (1, omega arith, refl)
+old_blocks (suc (suc zero)) n h = subst (λ k. Contains (block_choices before_drop drop_begun drop_part old_slot 2 k) (block undropped k)) (some_block 131 n h) (0, omega arith, refl)
+old_blocks (suc (suc (suc zero))) n h = subst (λ k. Contains (block_choices before_drop drop_begun drop_part old_slot 3 k) (block undropped k)) (some_block 132 n h) (0, omega arith, refl)
+old_blocks (suc (suc (suc (suc k)))) n h = absurd (none_past n h)
+
+pub in_drop-recovers_with : Recovers before_drop drop_begun drop_part undropped
+unfolding step answer superblock
+in_drop-recovers_with = record {
+  slots = old_slot ∷ [];
+  readable = refl;
+  held = λ t h. inl (t, h, inl (inl refl));
+  others = λ t h. inl (0, old_slot, omega arith, refl, inl (inl (single old_slot t h)));
+  contents = λ t h. subst (λ x. ContentStands before_drop drop_begun drop_part undropped x x.kind) (sym (single old_slot t h)) old_blocks;
+}
+
+pub in_drop-recovers_without : Recovers before_drop drop_begun drop_part (current base (onto in_drop []))
+unfolding step answer superblock
+in_drop-recovers_without = record {
+  slots = [];
+  readable = refl;
+  held = λ t h. inr (sym (single old_slot t h));
+  others = λ t h. absurd (no_slots t h);
+  contents = λ t h. absurd (no_slots t h);
+}
 
 -- While the new blocks are made zero, there is no slot.
 
@@ -128,9 +177,6 @@ begins_slot = refl
 
 abbrev granting_part : List Event
 granting_part = zeroed log_slot.blocks ++ (Sync true ∷ Write 1 (slot_bytes log_slot) true true ∷ [])
-
-no_slots : (t : Slot) → Contains {X = Slot} [] t → ⊥
-no_slots t h = absurd (omega (arith, h.1))
 
 abbrev with_slot : List (List ℕ)
 with_slot = current base (onto in_slot [])

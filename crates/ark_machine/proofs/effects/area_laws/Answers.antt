@@ -1,5 +1,5 @@
 use Rattle.std.proofs.Common.{refl}
-use Rattle.ark_machine.proofs.Contents.{tried_may, other_may, taken_stands, other_stands, synced_may, settled_may}
+use Rattle.ark_machine.proofs.Contents.{tried_may, other_may, taken_stands, other_stands, synced_may, poked_may, flushed_may, settled_may}
 use Rattle.ark_machine.proofs.effects.area_laws.Goals as goal
 
 pub returns : goal.returns
@@ -10,5 +10,7 @@ returns c = record {
   others_stand = other_stands;
   not_taken = λ off block r. refl;
   synced = synced_may;
+  poked = poked_may;
+  flushed = flushed_may;
   settled = settled_may;
 }
