@@ -1,5 +1,5 @@
 -- The laws of frames that go out, applied to a worked script.
-use Rattle.std.proofs.Common.{◌≡◌, ℕ, false, List, [], ◌∷◌, ◌++◌, codes, refl}
+use Rattle.std.proofs.Common.{◌≡◌, ℕ, false, List, [], ◌∷◌, ◌++◌, length, codes, refl}
 use Rattle.std.specs.Prelude.{Some, None}
 use Rattle.ark_script.specs.Line as w
 use Rattle.ark_script.specs.declared.said.Said.TheVariants as said
@@ -60,3 +60,8 @@ goes-pace = refl
 
 pub goes-let_out : LetsOut before a n goes.bytes
 goes-let_out = let_out_by_filter before a n goes.bytes (line_sends before (w.dev a n) [] false goes-sent)
+
+-- all of its bytes went out
+pub goes-whole : length goes.bytes ≡ 200
+unfolding step answer
+goes-whole = refl

@@ -1,7 +1,7 @@
 -- A frame that goes out: its filter, and its count.
 use Rattle.std.proofs.Common.{◌≡◌, ◌≤◌, ℕ, Bool, true, false, not, ◌&&◌, List, [], ◌∷◌, length, take, refl, sym, ◌∙◌, ap, subst, arith, cond}
 use Rattle.std.proofs.lemmas.Bool.{and_parts, false≢true}
-use Rattle.std.proofs.lemmas.List.{length-take}
+use Rattle.std.proofs.lemmas.List.{length-take, length-take-le}
 use Rattle.std.proofs.lemmas.List.Folds.{Any-from_list_any}
 use Rattle.std.specs.Prelude.{Option, Some, None, Ok, IsTrue, Contains, option_and_then, bytes_eq}
 use Rattle.ark_base.specs.Conditions.{Conditions, early, late}
@@ -101,7 +101,7 @@ frame_counted m v x own p len ps at is = by (is_let_out m v own frame) (is_over_
     by false b c h = absurd cc
     by true true c h = absurd cc
     by true false false h = absurd cc
-    by true false true h = record { place = p; len = len; others = ps; oldest = is; is_frame = refl; within = take_within len (bytes_in m p); pace = gone_pace m v x p ps pace at }
+    by true false true h = record { place = p; len = len; others = ps; oldest = is; is_frame = refl; within = take_within len (bytes_in m p); exact = λ le. length-take-le len (bytes_in m p) le; pace = gone_pace m v x p ps pace at }
 
 tx_counted : (m : Machine) (v : List ℕ) (x : Vnic) (own : Option Own) (ps : List (Place × ℕ)) → vnic_at m v ≡ Some x → x.tx.posted ≡ ps → (tx_moves m v x own ps).said ≡ said.Sent
     → IsCounted m v x (tx_moves m v x own ps).bytes (tx_moves m v x own ps).machine

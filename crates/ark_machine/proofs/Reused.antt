@@ -114,7 +114,7 @@ in_drop-recovers_without = record {
   contents = λ t h. absurd (no_slots t h);
 }
 
--- While the new blocks are made zero, there is no slot.
+-- While the new blocks are made zero, there is no slot. A stop before the last of these writes leaves no other images.
 
 abbrev in_zeroes : List Event
 in_zeroes = history 200 (take 5 reused) ++ zeroed log_slot.blocks
@@ -165,6 +165,14 @@ in_opening-empty image left = by (left.each 129 (omega arith))
     by : (◌≡◌ {A = ℕ} 129 129 × (block image 129 ≡ header)) ⊎ (block image 129 ≡ zero_block) → found_of kind.Log (view image log_slot.blocks) ≡ no_entries
     by (inl h) = ap (λ x. found_of kind.Log x) (headed header h.1)
     by (inr h) = ap (λ x. found_of kind.Log x) (headed zero_block h)
+
+abbrev after_opening : List Event
+after_opening = in_opening ++ (Sync true ∷ [])
+
+pub after_opening-empty : (image : List (List ℕ)) → MayLeave Whole base (onto after_opening []) image → found_of kind.Log (view image log_slot.blocks) ≡ no_entries
+unfolding superblock
+after_opening-empty image left =
+    ap (λ x. found_of kind.Log x) (four_blocks image header (left.each 129 (omega arith)) (left.each 130 (omega arith)) (left.each 131 (omega arith)) (left.each 132 (omega arith)))
 
 -- The grants are recovered from what these stops leave.
 

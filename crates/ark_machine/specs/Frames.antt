@@ -27,7 +27,7 @@ abbrev pub tx_pace_at : Machine → List ℕ → Option Paced
 tx_pace_at m v = option_and_then (λ x. x.tx_pace) (vnic_at m v)
 
 -- The frame is that of the oldest posted descriptor of card x. So many bytes as were posted have passed the card's transmit
--- queue at the machine's tick, and no fewer than went out.
+-- queue at the machine's tick: as many as went out where the frame's buffer has them all, and never fewer.
 pub record IsCounted (m : Machine) (v : List ℕ) (x : Vnic) (frame : List ℕ) (after : Machine) : Type 0 where
   pub place : Place
   pub len : ℕ
@@ -35,4 +35,5 @@ pub record IsCounted (m : Machine) (v : List ℕ) (x : Vnic) (frame : List ℕ) 
   pub oldest : x.tx.posted ≡ (place, len) ∷ others
   pub is_frame : frame ≡ take len (bytes_in m place)
   pub within : length frame ≤ len
+  pub exact : len ≤ length (bytes_in m place) → length frame ≡ len
   pub pace : tx_pace_at after v ≡ passed m.now len x.tx_pace

@@ -22,6 +22,7 @@ ghost use Rattle.ark_machine.specs.Follow.{slot_index};
 ghost use Rattle.ark_machine.specs.Confined.{AllAllowed};
 ghost use Rattle.ark_machine.specs.Grants.{GrantsApart};
 ghost use Rattle.ark_machine.specs.Sending.{IsLetOut};
+ghost use Rattle.ark_machine.specs.Paced.{StandsPaced};
 ghost use Rattle.ark_machine.specs.Left.{left_by};
 ghost use Rattle.ark_machine.specs.Frames.{LetsOut, IsCounted};
 
@@ -35,10 +36,11 @@ pub fn failure_laws()
     ensures dropped { (s : System) (a l : List ℕ) (t : Slot) (ends : List Ended) (memory : Bool) → slot_of s.plane a l ≡ Some t → (line_turn s (w.drop a l) ends memory).said ≡ said.Refused r.DeviceFault → (line_turn s (w.drop a l) ends memory).after.plane.failed ≡ true }
 {}
 
-/// A frame that goes out is let out by a filter that its application holds. The rate of the card's transmit queue counts it,
-/// with no fewer bytes than went out.
+/// A frame that goes out is let out by a filter that its application holds. The rate of the card's transmit queue counts it at
+/// the machine's tick, which is the system's, with no fewer bytes than went out.
 pub fn frame_laws()
     ensures let_out { (s : System) (a v frame : List ℕ) → IsLetOut s (Ok (w.dev a v)) frame → LetsOut s a v frame }
+    ensures tick { (s : System) (a : List ℕ) → StandsPaced s → (machine_of s a).now ≡ s.now }
     ensures counted { (s : System) (a v : List ℕ) (ends : List Ended) (memory : Bool) (x : Vnic) → vnic_at (machine_of s a) v ≡ Some x → (line_turn s (w.dev a v) ends memory).said ≡ said.Sent → IsCounted (machine_of s a) v x (line_turn s (w.dev a v) ends memory).bytes (machine_of (line_turn s (w.dev a v) ends memory).after a) }
 {}
 
