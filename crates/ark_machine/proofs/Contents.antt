@@ -54,7 +54,7 @@ settled_raw (Some (Objects.raw x)) r h = subst (λ y. Some (record x { maybe = m
     the_raw x r h = cc
 settled_raw (Some _) r h = absurd cc
 
-has_synced : (ends : List Ended) (e : Ended) → Contains ends e → e.ok ≡ true → e.verb ≡ syncing → list_any (λ x. x.ok && is_sync x.verb) ends ≡ true
+pub has_synced : (ends : List Ended) (e : Ended) → Contains ends e → e.ok ≡ true → e.verb ≡ syncing → list_any (λ x. x.ok && is_sync x.verb) ends ≡ true
 has_synced [] e (k, lt, is) ok verb = absurd (omega (arith, lt))
 has_synced (x ∷ xs) e (zero, lt, is) ok verb =
     let good : x.ok ≡ true = ap (λ (y : Ended). y.ok) is ∙ ok in

@@ -59,6 +59,7 @@ pub mod Sockets
 pub mod Steady
 pub mod Stops
 pub mod Stored
+pub mod Synced
 pub mod Told
 pub mod Touching
 pub mod Transfers

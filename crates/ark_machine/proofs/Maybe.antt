@@ -1,20 +1,21 @@
 -- Worked scripts on what a stop may leave of a block of an area, evaluated.
-use Rattle.std.proofs.Common.{◌≡◌, inr, ℕ, Bool, true, false, List, [], ◌∷◌, ◌++◌, replicate, codes, refl}
+use Rattle.std.proofs.Common.{◌≡◌, inr, ℕ, Bool, true, false, List, [], ◌∷◌, ◌++◌, replicate, map, codes, refl, arith}
 use Rattle.std.specs.Prelude.{Some, None}
 use Rattle.ark_base.specs.declared.kind.Kind.TheVariants as kind
-use Rattle.ark_media.specs.Journal.{Write, Sync, zero_block}
+use Rattle.ark_media.specs.Journal.{Event, Write, Sync, zero_block}
 use Rattle.ark_caladan.specs.Chain.{writing}
 use Rattle.ark_script.specs.Line as w
 use Rattle.ark_machine.specs.Bytes.{padded}
 use Rattle.ark_machine.specs.Objects.{Raw, Vsic, flush}
 use Rattle.ark_machine.specs.Machine.{object_at, raw_at}
-use Rattle.ark_machine.specs.Row.{Ended, answer}
+use Rattle.ark_machine.specs.Row.{Ended, Call, syncs, zeroes_new, writes_slot, answer}
 use Rattle.ark_machine.specs.Areas.{raw_written}
 use Rattle.ark_machine.specs.Step.{step}
 use Rattle.ark_machine.specs.System.{System, fresh_system, machine_of, line_turn}
-use Rattle.ark_machine.specs.Follow.{ends_of}
+use Rattle.ark_machine.specs.Follow.{end_of, ends_of}
 use Rattle.ark_machine.specs.Recovers.{object_maybe}
 use Rattle.ark_machine.proofs.Contents.{poked_may, flushed_may}
+use Rattle.ark_machine.proofs.Synced.{synced_line}
 use Rattle.ark_machine.proofs.Playing.{Played, played, performed}
 use Rattle.ark_machine.proofs.Scripts.{quiet, app, area, granting}
 
@@ -102,3 +103,25 @@ card = record { size = 2; queue = record { posted = flush ∷ []; moved = 0; unr
 pub flushed-raw : raw_at (machine_of (line_turn posted (w.dev a v) (ends_of (Sync true ∷ [])) false).after a) s ≡ Some fresh
 unfolding step answer
 flushed-raw = flushed_may posted a v s (ends_of (Sync true ∷ [])) false card [] (raw_written 1 written false fresh) refl refl refl refl
+
+-- another area is granted behind the write: its first sync is of the whole device
+abbrev t : List ℕ
+t = codes "t"
+
+abbrev after_poke : System
+after_poke = played (fresh_system 200) (poked false false)
+
+abbrev grants : List Event
+grants = granting (area 2 a t kind.Raw 131 1)
+
+not_none : (c : Call) (cs : List Call) → c ∷ cs ≡ [] → ⊥
+not_none c cs h = cc
+
+pub grants-settle : (x : Raw) → raw_at (machine_of (line_turn after_poke (w.vsa a t 1 kind.Raw) (ends_of grants) false).after a) s ≡ Some x → x.maybe ≡ map (λ b. b ∷ []) x.content
+unfolding step answer
+grants-settle x h =
+    synced_line after_poke a (w.vsa a t 1 kind.Raw) (ends_of grants) false (end_of (Sync true)) refl refl (λ none. not_none (zeroes_new 0) (syncs ∷ writes_slot ∷ syncs ∷ []) none) (1, omega arith, refl) refl refl s x h
+
+pub grants-raw : raw_at (machine_of (line_turn after_poke (w.vsa a t 1 kind.Raw) (ends_of grants) false).after a) s ≡ Some fresh
+unfolding step answer
+grants-raw = refl

@@ -1,5 +1,6 @@
 use Rattle.std.proofs.Common.{refl}
 use Rattle.ark_machine.proofs.Contents.{tried_may, other_may, taken_stands, other_stands, synced_may, poked_may, flushed_may, settled_may}
+use Rattle.ark_machine.proofs.Synced.{synced_line}
 use Rattle.ark_machine.proofs.effects.area_laws.Goals as goal
 
 pub returns : goal.returns
@@ -12,5 +13,6 @@ returns c = record {
   synced = synced_may;
   poked = poked_may;
   flushed = flushed_may;
+  synced_line = synced_line;
   settled = settled_may;
 }
