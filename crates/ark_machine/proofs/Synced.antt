@@ -1,5 +1,5 @@
 -- What a stop may leave of an application's areas once a line of its own has synced.
-use Rattle.std.proofs.Common.{◌≡◌, ℕ, Bool, true, false, ◌||◌, List, [], ◌∷◌, map, refl, sym, ◌∙◌, ap, subst}
+use Rattle.std.proofs.Common.{◌≡◌, ℕ, Bool, true, ◌||◌, List, [], ◌∷◌, map, refl, sym, ◌∙◌, ap, subst}
 use Rattle.std.proofs.lemmas.Bool.{false≢true}
 use Rattle.std.specs.Prelude.{Option, Some, None, Contains, option_map, option_and_then}
 use Rattle.ark_base.specs.Conditions.{Conditions, early, late}
@@ -60,5 +60,5 @@ synced_line s a line ends memory e is kind calls there ok verb l x has =
     let left : machine_of (line_turn s line ends memory).after a ≡ synced_by ends heeded.0 = turn_machine s a line ends memory (synced_by ends heeded.0) is heeded.1 in
     let all : synced_by ends heeded.0 ≡ each_object settled heeded.0 = ap (λ b. synced b heeded.0) (has_synced ends e there ok verb) in
     let there : option_and_then as_raw (option_map settled (object_at heeded.0 l)) ≡ Some x =
-        ap (λ o. option_and_then as_raw o) (sym (each_found settled l heeded.0.held)) ∙ (ap (λ (k : Machine). raw_at k l) (sym (left ∙ all)) ∙ has) in
+    ap (λ o. option_and_then as_raw o) (sym (each_found settled l heeded.0.held)) ∙ (ap (λ (k : Machine). raw_at k l) (sym (left ∙ all)) ∙ has) in
     settled_is (object_at heeded.0 l) x there
