@@ -46,7 +46,7 @@ other_stands off k block false r ne = refl
 
 -- A sync that succeeded.
 
-settled_raw : (o : Option Object) (r : Raw) → option_and_then as_raw o ≡ Some r → option_and_then as_raw (option_map settled o) ≡ Some (record r { maybe = map (λ b. b ∷ []) r.content })
+pub settled_raw : (o : Option Object) (r : Raw) → option_and_then as_raw o ≡ Some r → option_and_then as_raw (option_map settled o) ≡ Some (record r { maybe = map (λ b. b ∷ []) r.content })
 settled_raw None r h = absurd cc
 settled_raw (Some (Objects.raw x)) r h = subst (λ y. Some (record x { maybe = map (λ b. b ∷ []) x.content }) ≡ Some (record y { maybe = map (λ b. b ∷ []) y.content })) (the_raw x r h) refl
   where
@@ -101,42 +101,3 @@ poked_may s a l off bytes e memory x is h =
     let line : Line = w.poke a l off bytes in
     let g : Given = recorded s.plane line (e ∷ []) memory in
     ap (λ (n : Machine). raw_at n l) (own_machine s a line g ∙ poked_machine (machine_of s a) a l off bytes g h) ∙ raw_set (machine_of s a) l (raw_written off (padded bytes) e.took) x is
-
-done_machine : (m : Machine) (c : Conditions) (row : Row) (o : Outcome) → (answer m c row).said ≡ said.Done o → answer m c row ≡ row
-unfolding answer
-done_machine m c row o = by (early c) (late c)
-  where
-    by : (one two : Option Refusal) → (unless_refused one two m row).said ≡ said.Done o → unless_refused one two m row ≡ row
-    by (Some y) two h = absurd cc
-    by None (Some y) h = absurd cc
-    by None None h = refl
-
--- a sync that a card's descriptor asks for
-flush_moves : (m : Machine) (v l : List ℕ) (x : Vsic) (js : List Job) (e : Ended) (y : Raw) → raw_at m l ≡ Some y → (moved m v x (flush ∷ js) e).said ≡ said.Done outcome.Ok
-    → raw_at (moved m v x (flush ∷ js) e).machine l ≡ Some (record y { maybe = map (λ b. b ∷ []) y.content })
-flush_moves m v l x js e y is = by e.ok
-  where
-    by : (ok : Bool) → said.Done (outcome_of ok) ≡ said.Done outcome.Ok → raw_at (ended (synced ok m) v x flush js (outcome_of ok)) l ≡ Some (record y { maybe = map (λ b. b ∷ []) y.content })
-    by true h =
-        rung_left as_raw (λ c. refl) (with_vsic (synced true m) v (ending flush js outcome.Ok)) x.door bell.Io l
-        ∙ (vsic_raw (synced true m) v (ending flush js outcome.Ok) l ∙ (ap (λ o. option_and_then as_raw o) (each_found settled l m.held) ∙ settled_raw (object_at m l) y is))
-    by false h = absurd cc
-
-dev_flushes : (a v l : List ℕ) (m : Machine) (g : Given) (x : Vsic) (js : List Job) (y : Raw) → vsic_at m v ≡ Some x → x.queue.posted ≡ flush ∷ js → raw_at m l ≡ Some y
-    → (step m (w.dev a v) g).said ≡ said.Done outcome.Ok → raw_at (step m (w.dev a v) g).machine l ≡ Some (record y { maybe = map (λ b. b ∷ []) y.content })
-unfolding step
-dev_flushes a v l m g x js y card posted is h =
-    let same = done_machine m _ (row_of (card_moves m v g (vnic_at m v))) outcome.Ok h in
-    let good = subst (λ (z : Row). z.said ≡ said.Done outcome.Ok) same h in
-    subst (λ (z : Row). raw_at z.machine l ≡ Some (record y { maybe = map (λ b. b ∷ []) y.content })) (sym same)
-    (subst (λ (z : Move). z.said ≡ said.Done outcome.Ok → raw_at z.machine l ≡ Some (record y { maybe = map (λ b. b ∷ []) y.content })) (sym the_move) (flush_moves m v l x js (first_end g.ended) y is) good)
-  where
-    the_move : card_moves m v g (vnic_at m v) ≡ moved m v x (flush ∷ js) (first_end g.ended)
-    the_move = rw (vsic_no_vnic m v x card) (rw card (ap (λ ps. moved m v x ps (first_end g.ended)) posted))
-
-pub flushed_may : (s : System) (a v l : List ℕ) (ends : List Ended) (memory : Bool) (x : Vsic) (js : List Job) (y : Raw) → vsic_at (machine_of s a) v ≡ Some x → x.queue.posted ≡ flush ∷ js
-    → (line_turn s (w.dev a v) ends memory).said ≡ said.Done outcome.Ok → raw_at (machine_of s a) l ≡ Some y
-    → raw_at (machine_of (line_turn s (w.dev a v) ends memory).after a) l ≡ Some (record y { maybe = map (λ b. b ∷ []) y.content })
-flushed_may s a v l ends memory x js y card posted h is =
-    let g : Given = recorded s.plane (w.dev a v) ends memory in
-    ap (λ (n : Machine). raw_at n l) (own_machine s a (w.dev a v) g) ∙ dev_flushes a v l (machine_of s a) g x js y card posted is h

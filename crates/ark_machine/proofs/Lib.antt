@@ -13,6 +13,7 @@ pub mod Early
 pub mod FailedGrant
 pub mod FailedMarker
 pub mod Faults
+pub mod Flushing
 pub mod Frames
 pub mod Granted
 pub mod Grants

@@ -6,7 +6,7 @@ use Rattle.ark_media.specs.Journal.{Event, Write, Sync, zero_block}
 use Rattle.ark_caladan.specs.Chain.{writing}
 use Rattle.ark_script.specs.Line as w
 use Rattle.ark_machine.specs.Bytes.{padded}
-use Rattle.ark_machine.specs.Objects.{Raw, Vsic, flush}
+use Rattle.ark_machine.specs.Objects.{Raw}
 use Rattle.ark_machine.specs.Machine.{object_at, raw_at}
 use Rattle.ark_machine.specs.Row.{Ended, Call, syncs, zeroes_new, writes_slot, answer}
 use Rattle.ark_machine.specs.Areas.{raw_written}
@@ -14,7 +14,8 @@ use Rattle.ark_machine.specs.Step.{step}
 use Rattle.ark_machine.specs.System.{System, fresh_system, machine_of, line_turn}
 use Rattle.ark_machine.specs.Follow.{end_of, ends_of}
 use Rattle.ark_machine.specs.Recovers.{object_maybe}
-use Rattle.ark_machine.proofs.Contents.{poked_may, flushed_may}
+use Rattle.ark_machine.proofs.Contents.{poked_may}
+use Rattle.ark_machine.proofs.Flushing.{flushed_may}
 use Rattle.ark_machine.proofs.Synced.{synced_line}
 use Rattle.ark_machine.proofs.Playing.{Played, played, performed}
 use Rattle.ark_machine.proofs.Scripts.{quiet, app, area, granting}
@@ -97,12 +98,9 @@ poked-raw = poked_may granted a s 1 (10 ∷ 255 ∷ []) failing false fresh refl
 abbrev posted : System
 posted = played (fresh_system 200) (poked false false ++ (quiet (w.flush a v) ∷ []))
 
-abbrev card : Vsic
-card = record { size = 2; queue = record { posted = flush ∷ []; moved = 0; unreaped = [] }; bound = []; pace = None; door = None }
-
 pub flushed-raw : raw_at (machine_of (line_turn posted (w.dev a v) (ends_of (Sync true ∷ [])) false).after a) s ≡ Some fresh
 unfolding step answer
-flushed-raw = flushed_may posted a v s (ends_of (Sync true ∷ [])) false card [] (raw_written 1 written false fresh) refl refl refl refl
+flushed-raw = flushed_may posted a v s (ends_of (Sync true ∷ [])) false (raw_written 1 written false fresh) refl refl refl
 
 -- another area is granted behind the write: its first sync is of the whole device
 abbrev t : List ℕ

@@ -76,14 +76,11 @@ pub raw_set : (m : Machine) (l : List ℕ) (f : Raw → Raw) (x : Raw) → raw_a
 raw_set m l f x is =
     subst (λ o. raw_at (unwrap_or (option_map (λ y. with_object m l (Objects.raw (f y))) o) m) l ≡ Some (f x)) (sym is) (kind_set as_raw m l (Objects.raw (f x)) x (f x) is refl)
 
--- a storage card is no area and no network card
+-- a storage card is no area
 vsic_alone : {X : Type 0} (p : Object → Option X) → ((x : Vsic) → p (Objects.vsic x) ≡ None) → (o : Option Object) (x : Vsic) → option_and_then as_vsic o ≡ Some x → option_and_then p o ≡ None
 vsic_alone p lacks None x h = refl
 vsic_alone p lacks (Some (Objects.vsic y)) x h = lacks y
 vsic_alone p lacks (Some _) x h = absurd cc
-
-pub vsic_no_vnic : (m : Machine) (v : List ℕ) (x : Vsic) → vsic_at m v ≡ Some x → vnic_at m v ≡ None
-vsic_no_vnic m v x h = vsic_alone as_vnic (λ y. refl) (object_at m v) x h
 
 pub vsic_raw : (m : Machine) (v : List ℕ) (f : Vsic → Vsic) (l : List ℕ) → raw_at (with_vsic m v f) l ≡ raw_at m l
 vsic_raw m v f l = by (vsic_at m v) refl
@@ -92,7 +89,7 @@ vsic_raw m v f l = by (vsic_at m v) refl
     by None is = refl
     by (Some x) is = kind_left as_raw m l v (Objects.vsic (f x)) (vsic_alone as_raw (λ y. refl) (object_at m v) x is) refl
 
--- nor is a doorbell
+-- a doorbell is none of the others
 door_alone : {X : Type 0} (p : Object → Option X) → ((c : Counts) → p (Objects.door c) ≡ None) → (o : Option Object) (c : Counts) → option_and_then as_door o ≡ Some c → option_and_then p o ≡ None
 door_alone p lacks None c h = refl
 door_alone p lacks (Some (Objects.door d)) c h = lacks d

@@ -11,9 +11,9 @@ ghost use Rattle.ark_script.specs.Line as w;
 ghost use Rattle.ark_script.specs.Line.{Line};
 ghost use Rattle.ark_script.specs.declared.said.Said.TheVariants as said;
 ghost use Rattle.ark_machine.specs.Bytes.{padded};
-ghost use Rattle.ark_machine.specs.Objects.{Raw, Vsic, Vnic, Job, flush};
-ghost use Rattle.ark_machine.specs.Machine.{Machine, raw_at, vsic_at, vnic_at};
-ghost use Rattle.ark_machine.specs.Row.{Ended, synced_by};
+ghost use Rattle.ark_machine.specs.Objects.{Raw, Vnic};
+ghost use Rattle.ark_machine.specs.Machine.{Machine, raw_at, vnic_at};
+ghost use Rattle.ark_machine.specs.Row.{Ended, syncs, synced_by};
 ghost use Rattle.ark_machine.specs.Areas.{raw_written};
 ghost use Rattle.ark_machine.specs.Plane.{blocks_at, slot_of};
 ghost use Rattle.ark_machine.specs.Granting.{change_of, failed_change};
@@ -55,7 +55,7 @@ pub fn stop_laws()
 /// What a machine knows of its raw areas follows what is done to them. A write that is tried adds its content to what a stop may
 /// leave of its block, and stands where it took effect; every other block is as it was. A sync that succeeds leaves of each
 /// block its content alone. So it is with the write of a `poke`, with a sync
-/// that a card was asked for, and with one of a line that grants, opens or drops.
+/// that a move of a card makes, and with one of a line that grants, opens or drops.
 pub fn area_laws()
     ensures tried { (off : ℕ) (block : List ℕ) (took : Bool) (r : Raw) → off < length r.maybe → slice_index_or (raw_written off block took r).maybe off [] ≡ slice_index_or r.maybe off [] ++ block ∷ [] }
     ensures others_tried { (off k : ℕ) (block : List ℕ) (took : Bool) (r : Raw) → (k ≡ off → ⊥) → slice_index_or (raw_written off block took r).maybe k [] ≡ slice_index_or r.maybe k [] }
@@ -64,7 +64,7 @@ pub fn area_laws()
     ensures not_taken { (off : ℕ) (block : List ℕ) (r : Raw) → (raw_written off block false r).content ≡ r.content }
     ensures synced { (m : Machine) (l : List ℕ) (x : Raw) (ends : List Ended) (e : Ended) → raw_at m l ≡ Some x → Contains ends e → e.ok ≡ true → e.verb ≡ syncing → raw_at (synced_by ends m) l ≡ Some (record x { maybe = map (λ b. b ∷ []) x.content }) }
     ensures poked { (s : System) (a l : List ℕ) (off : ℕ) (bytes : List ℕ) (e : Ended) (memory : Bool) (x : Raw) → raw_at (machine_of s a) l ≡ Some x → ((line_turn s (w.poke a l off bytes) (e ∷ []) memory).said ≡ said.Ok) ⊎ ((line_turn s (w.poke a l off bytes) (e ∷ []) memory).said ≡ said.Refused r.DeviceFault) → raw_at (machine_of (line_turn s (w.poke a l off bytes) (e ∷ []) memory).after a) l ≡ Some (raw_written off (padded bytes) e.took x) }
-    ensures flushed { (s : System) (a v l : List ℕ) (ends : List Ended) (memory : Bool) (x : Vsic) (js : List Job) (y : Raw) → vsic_at (machine_of s a) v ≡ Some x → x.queue.posted ≡ flush ∷ js → (line_turn s (w.dev a v) ends memory).said ≡ said.Done outcome.Ok → raw_at (machine_of s a) l ≡ Some y → raw_at (machine_of (line_turn s (w.dev a v) ends memory).after a) l ≡ Some (record y { maybe = map (λ b. b ∷ []) y.content }) }
+    ensures flushed { (s : System) (a v l : List ℕ) (ends : List Ended) (memory : Bool) (y : Raw) → (line_turn s (w.dev a v) ends memory).calls ≡ syncs ∷ [] → (line_turn s (w.dev a v) ends memory).said ≡ said.Done outcome.Ok → raw_at (machine_of s a) l ≡ Some y → raw_at (machine_of (line_turn s (w.dev a v) ends memory).after a) l ≡ Some (record y { maybe = map (λ b. b ∷ []) y.content }) }
     ensures synced_line { (s : System) (a : List ℕ) (line : Line) (ends : List Ended) (memory : Bool) (e : Ended) → owner line ≡ Some a → (is_gain line || gives_up line) ≡ true → ((line_turn s line ends memory).calls ≡ [] → ⊥) → Contains ends e → e.ok ≡ true → e.verb ≡ syncing → (l : List ℕ) (x : Raw) → raw_at (machine_of (line_turn s line ends memory).after a) l ≡ Some x → x.maybe ≡ map (λ b. b ∷ []) x.content }
     ensures settled { (x : Raw) (k : ℕ) → k < length x.content → slice_index_or (map (λ b. b ∷ []) x.content) k [] ≡ slice_index_or x.content k [] ∷ [] }
 {}

@@ -1,5 +1,6 @@
 use Rattle.std.proofs.Common.{refl}
-use Rattle.ark_machine.proofs.Contents.{tried_may, other_may, taken_stands, other_stands, synced_may, poked_may, flushed_may, settled_may}
+use Rattle.ark_machine.proofs.Contents.{tried_may, other_may, taken_stands, other_stands, synced_may, poked_may, settled_may}
+use Rattle.ark_machine.proofs.Flushing.{flushed_may}
 use Rattle.ark_machine.proofs.Synced.{synced_line}
 use Rattle.ark_machine.proofs.effects.area_laws.Goals as goal
 
