@@ -4,11 +4,8 @@ use Rattle.std.proofs.lemmas.List.{get_or-map}
 use Rattle.std.specs.Prelude.{Option, Some, None, Contains, option_map, option_and_then, slice_index_or}
 use Rattle.std.specs.List.{list_any}
 use Rattle.ark_base.specs.Conditions.{Conditions, early, late}
-use Rattle.ark_base.specs.declared.kind.Outcome.{Outcome}
-use Rattle.ark_base.specs.declared.kind.Outcome.TheVariants as outcome
 use Rattle.ark_base.specs.declared.refusal.Refusal.{Refusal}
 use Rattle.ark_base.specs.declared.refusal.Refusal.TheVariants as r
-use Rattle.ark_vic.specs.declared.door.Bell.TheVariants as bell
 use Rattle.ark_caladan.specs.Chain.{syncing}
 use Rattle.ark_script.specs.Line as w
 use Rattle.ark_script.specs.Line.{Line}
@@ -16,18 +13,16 @@ use Rattle.ark_script.specs.declared.said.Said.TheVariants as said
 use Rattle.ark_machine.specs.Bytes.{padded}
 use Rattle.ark_machine.specs.Objects
 use Rattle.ark_machine.specs.Objects.{Object, Raw, Vsic, Job, flush, as_raw}
-use Rattle.ark_machine.specs.Machine.{Machine, object_at, raw_at, vsic_at, vnic_at, with_vsic}
+use Rattle.ark_machine.specs.Machine.{Machine, object_at, raw_at}
 use Rattle.ark_machine.specs.Row.{Row, Given, Ended, is_sync, settled, synced, synced_by, answer, unless_refused}
 use Rattle.ark_machine.specs.Areas.{raw_written, block_written}
-use Rattle.ark_machine.specs.Moves.{Move, moved, ended, ending, outcome_of, first_end, row_of}
-use Rattle.ark_machine.specs.Devices.{card_moves}
 use Rattle.ark_machine.specs.Plane.{recorded}
 use Rattle.ark_machine.specs.Step.{step}
 use Rattle.ark_machine.specs.System.{System, machine_of, line_turn}
 use Rattle.ark_machine.specs.Refused.{is_told_late}
 use Rattle.ark_machine.proofs.Early.{same_refusal, early_not_told}
 use Rattle.ark_machine.proofs.Privacy.{own_machine}
-use Rattle.ark_machine.proofs.Setting.{each_found, raw_set, vsic_no_vnic, vsic_raw, rung_left}
+use Rattle.ark_machine.proofs.Setting.{each_found, raw_set}
 
 -- A write that was tried.
 

@@ -15,7 +15,7 @@ use Rattle.ark_machine.specs.Machine.{Machine, object_at, raw_at, vsic_at, vnic_
 use Rattle.ark_machine.specs.Bytes.{block_of}
 use Rattle.ark_machine.specs.Row.{Row, Given, Ended, Call, syncs, reads, writes, reads_in, writes_in, settled, synced, answer, unless_refused}
 use Rattle.ark_machine.specs.Rates.{is_over_burst, may_pass, passed}
-use Rattle.ark_machine.specs.Moves.{Move, moves, moved, move, ended, ending, ends, outcome_of, tried, block_moved, block_passed, gated, is_granted, transferred, transfer_call, raw_numbered, log_on, phase_written, phase_moves, phase_moves_on, first_end, row_of}
+use Rattle.ark_machine.specs.Moves.{Move, moves, moved, ended, ending, ends, outcome_of, tried, gated, is_granted, transferred, transfer_call, raw_numbered, log_on, phase_written, phase_moves, phase_moves_on, first_end, row_of}
 use Rattle.ark_machine.specs.Network.{is_let_out, bytes_in, tx_ended, tx_passed, frame_moves, tx_moves}
 use Rattle.ark_machine.specs.Devices.{card_moves}
 use Rattle.ark_machine.specs.Plane.{recorded}
