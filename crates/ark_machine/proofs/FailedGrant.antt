@@ -33,20 +33,20 @@ granted = app a ∷ (w.vsa a s 2 kind.Raw, failed_grant) ∷ []
 abbrev after : System
 after = played (fresh_system 200) granted
 
-abbrev slot : Slot
+abbrev pub slot : Slot
 slot = area 1 a s kind.Raw 129 2
 
 abbrev journal : List Event
 journal = onto (history 200 granted) []
 
 -- the slot stands, or it does not
-abbrev with_slot : List (List ℕ)
+abbrev pub with_slot : List (List ℕ)
 with_slot = current base journal
 
 abbrev zeroed_alone : List Played
 zeroed_alone = app a ∷ (w.vsa a s 2 kind.Raw, zeroed (129 ∷ 130 ∷ [])) ∷ []
 
-abbrev without_slot : List (List ℕ)
+abbrev pub without_slot : List (List ℕ)
 without_slot = current base (onto (history 200 zeroed_alone) [])
 
 pub may_be_with : MayLeave Whole base journal with_slot

@@ -75,13 +75,13 @@ gain_left m (w.log a s v) g is h = log_left m a s v g h
 gain_left m (w.queue a s v) g is h = queue_left m a s v g h
 gain_left m _ g is h = absurd (false≢true is)
 
-look_left : (m : Machine) (line : Line) (g : Given) (x : Refusal) → is_look line ≡ true → Late (step m line g) x → (step m line g).machine ≡ m
+pub look_left : (m : Machine) (line : Line) (g : Given) (x : Refusal) → is_look line ≡ true → Late (step m line g) x → (step m line g).machine ≡ m
 unfolding step
 look_left m (w.peek a s off) g x is h = (late_machine m _ _ x refl h.0 h.1).0
 look_left m (w.walk a s n) g x is h = (late_machine m _ _ x refl h.0 h.1).0
 look_left m _ g x is h = absurd (false≢true is)
 
-drop_left : (m : Machine) (a l : List ℕ) (g : Given) (x : Refusal) → Late (step m (w.drop a l) g) x → (step m (w.drop a l) g).machine ≡ synced_by g.ended (each_object (lets_go l (serial_at m l)) (without m l))
+pub drop_left : (m : Machine) (a l : List ℕ) (g : Given) (x : Refusal) → Late (step m (w.drop a l) g) x → (step m (w.drop a l) g).machine ≡ synced_by g.ended (each_object (lets_go l (serial_at m l)) (without m l))
 unfolding step
 drop_left m a l g x h = (late_machine m _ _ x refl h.0 h.1).0
 

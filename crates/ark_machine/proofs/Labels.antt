@@ -16,15 +16,17 @@ use Rattle.ark_machine.specs.Row.{Row, Given, Ended, says, answer, unless_refuse
 use Rattle.ark_machine.specs.Areas.{with_raw, raw_written, block_written}
 use Rattle.ark_machine.specs.Network.{is_tx_full}
 use Rattle.ark_machine.specs.Sockets.{tx_reaped, sent_reaped, card_at, posted_at, framed, frame_frames}
-use Rattle.ark_machine.specs.Plane.{recorded}
+use Rattle.ark_machine.specs.Plane.{Plane, Change, recorded}
+use Rattle.ark_machine.specs.Granting.{after_refusal, change_of}
 use Rattle.ark_machine.specs.Step.{step}
-use Rattle.ark_machine.specs.System.{System, machine_of, owner, line_turn}
-use Rattle.ark_machine.specs.Refused.{is_told_late, is_of_sending, reaps_first, may_fault, gives_up, labels}
+use Rattle.ark_machine.specs.System.{System, machine_of, set_machine, owner, line_turn}
+use Rattle.ark_machine.specs.Refused.{is_told_late, is_of_sending, reaps_first, may_leave, may_fault, gives_up, labels}
 use Rattle.ark_machine.proofs.Answering.{may_begin}
 use Rattle.ark_machine.proofs.Damaged.{damaged_left}
 use Rattle.ark_machine.proofs.Early.{same_refusal}
 use Rattle.ark_machine.proofs.Rows.{row_is}
 use Rattle.ark_machine.proofs.Refusing.{refused_spared}
+use Rattle.ark_machine.proofs.Leaving.{refused_after}
 use Rattle.ark_machine.proofs.Faults.{late_machine, Late, vsa_left, grow_left, log_left, queue_left, synced_labels, turn_machine, turn_said}
 
 -- `sendto`, refused after it has reaped.
@@ -68,12 +70,18 @@ module _ (m : Machine) (a k ip : List ℕ) (port : ℕ) (payload : List ℕ) (g 
   unfolding step answer
   sendto_calls = sending_calls (not m.made) (missing m (k ∷ [])) (is_none (socket_at m k)) (is_tx_full reaped (card_at reaped k)) (is_none (room_for reaped (frame_frames payload)))
 
+sending_plane : (p : Plane) (x : Refusal) (c : Option Change) → is_of_sending x ≡ true → after_refusal p x c ≡ p
+sending_plane p r.DeviceFault c of = absurd (false≢true of)
+sending_plane p _ c of = refl
+
 -- it has reaped the ring, and done no more
 pub sendto_refused : (s : System) (a k ip : List ℕ) (port : ℕ) (payload : List ℕ) (ends : List Ended) (memory : Bool) (x : Refusal) → (line_turn s (w.sendto a k ip port payload) ends memory).said ≡ said.Refused x
-    → is_of_sending x ≡ true → machine_of (line_turn s (w.sendto a k ip port payload) ends memory).after a ≡ sent_reaped (machine_of s a) k
+    → is_of_sending x ≡ true → (line_turn s (w.sendto a k ip port payload) ends memory).after ≡ record s { machines = set_machine s.machines a (sent_reaped (machine_of s a) k) }
 sendto_refused s a k ip port payload ends memory x h of =
-    turn_machine s a (w.sendto a k ip port payload) ends memory (sent_reaped (machine_of s a) k) refl
-    (sendto_left (machine_of s a) a k ip port payload (recorded s.plane (w.sendto a k ip port payload) ends memory) x h of)
+    let line : Line = w.sendto a k ip port payload in
+    let m : Machine = machine_of s a in
+    refused_after s a line ends memory x (sent_reaped m k) refl h (sendto_left m a k ip port payload (recorded s.plane line ends memory) x h of)
+    ∙ ap (λ (p : Plane). record s { plane = p; machines = set_machine s.machines a (sent_reaped m k) }) (sending_plane s.plane x (change_of s.plane m line) of)
 
 -- no device was called, where no call tells the refusal
 pub refused_quiet : (s : System) (line : Line) (ends : List Ended) (memory : Bool) (x : Refusal) → (line_turn s line ends memory).said ≡ said.Refused x → is_told_late x ≡ false

@@ -35,7 +35,7 @@ abbrev pub opened : List Played
 opened = (w.log a l v, opening 129 (header kind.Log 1 0 0 0)) ∷ []
 
 -- a ring of one block: it is full until the entry is trimmed away and its block is zero
-abbrev zeros : ℕ → List ℕ
+abbrev pub zeros : ℕ → List ℕ
 zeros n = replicate n 0
 
 abbrev first_entry : List ℕ
@@ -71,7 +71,7 @@ one_block-performed = refl
 abbrev long : List ℕ
 long = replicate 600 7
 
-abbrev other : List ℕ
+abbrev pub other : List ℕ
 other = replicate 600 9
 
 abbrev body : ℕ → ℕ → List ℕ → List (List ℕ)
@@ -80,12 +80,12 @@ body number next payload = take 512 (entry_bytes number next payload) ∷ drop 5
 abbrev last_marked : ℕ → ℕ → List ℕ → List ℕ
 last_marked number next payload = drop 512 (marked (entry_bytes number next payload))
 
-abbrev appending_two : ℕ → ℕ → ℕ → ℕ → List ℕ → List Event
+abbrev pub appending_two : ℕ → ℕ → ℕ → ℕ → List ℕ → List Event
 appending_two first second number next payload =
     Write first (take 512 (entry_bytes number next payload)) true true ∷ Write second (drop 512 (entry_bytes number next payload)) true true ∷ Sync true
     ∷ Write second (last_marked number next payload) true true ∷ Sync true ∷ []
 
-abbrev wrapped : List Played
+abbrev pub wrapped : List Played
 wrapped =
     with_log kind.Log 4 ++ opened
     ++ quiet (w.append a l long)
@@ -147,7 +147,7 @@ unfolding step answer
 pushed_and_popped-performed = refl
 
 -- the write of the marker fails and takes effect: the log has failed, and is found with its entry when it is opened again
-abbrev h_entry : List ℕ
+abbrev pub h_entry : List ℕ
 h_entry = entry_bytes 1 1 (104 ∷ [])
 
 abbrev failed_marker : List Played

@@ -212,7 +212,7 @@ follows_is {s = s} {a = a} {line = line} cs (e ∷ es) h =
 
 -- Whole scripts.
 
-abbrev performs_for : System → Line → Turn → List Event → Option (List ℕ) → Bool
+abbrev pub performs_for : System → Line → Turn → List Event → Option (List ℕ) → Bool
 performs_for s line t es (Some a) = follows s a line t.calls es
 performs_for s line t es None = is_none_left es
 

@@ -1,5 +1,5 @@
 -- The refusal that is chosen is the one of least rank whose condition holds.
-use Rattle.std.proofs.Common.{◌≡◌, ◌≤◌, ℕ, zero, suc, ◌+◌, Bool, true, false, List, [], ◌∷◌, refl, sym, ◌∙◌, subst, arith, cond}
+use Rattle.std.proofs.Common.{◌≡◌, ◌≤◌, ℕ, zero, suc, ◌+◌, Bool, true, false, List, [], ◌∷◌, refl, sym, ◌∙◌, ap, subst, arith, cond}
 use Rattle.std.specs.Prelude.{Option, Some, None, option_map}
 use Rattle.std.specs.Option.{option_or}
 use Rattle.ark_base.specs.Conditions.{Conditions, late, first, when, when_some}
@@ -235,3 +235,16 @@ some_first c y so h = none_in (table c) (rank y) (sym (first_is c) ∙ h) (at_ra
     none_in (Some z ∷ ts) i e g = cc
     none_in (None ∷ ts) zero e g = cc
     none_in (None ∷ ts) (suc i) e g = none_in ts i e g
+
+-- one refusal alone is first: whose condition holds, with the least rank
+pub least_first : (c : Conditions) (x : Refusal) → Holds c x → ((y : Refusal) → Holds c y → rank x ≤ rank y) → first c ≡ Some x
+least_first c x h least = by (first c) refl
+  where
+    by : (o : Option Refusal) → first c ≡ o → o ≡ Some x
+    by None is = absurd (some_first c x h is)
+    by (Some y) is =
+        let so : Holds c y = first_holds c y is in
+        let one : rank y ≤ rank x = first_least c y x is h in
+        let two : rank x ≤ rank y = least y so in
+        let same : rank y ≡ rank x = omega (arith, one, two) in
+        sym (at_rank c y so) ∙ (ap (λ n. nth (table c) n) same ∙ at_rank c x h)

@@ -62,10 +62,10 @@ ticked = refl
 
 -- A whole run on events: the script, what was done and put, the parts, and that they are the machines' replies.
 
-abbrev line : List ℕ → List ℕ → List ℕ
+abbrev pub line : List ℕ → List ℕ → List ℕ
 line words rest = words ++ 10 ∷ rest
 
-abbrev script : List ℕ
+abbrev pub script : List ℕ
 script = line (codes "app a") (line (codes "app a") (line (codes "frob") (codes "app b")))
 
 abbrev events : List Event
@@ -73,7 +73,7 @@ events =
     Write 0 [] true true ∷ Sync true ∷ Out (line (codes "ready 200 0") []) ∷ Out (line (codes "ok") []) ∷ Out (line (codes "refused 4 name taken") [])
     ∷ Out (line (codes "refused 2 unknown word") []) ∷ Out (line (codes "ok") []) ∷ Out (line (codes "fault source") []) ∷ []
 
-abbrev whole : List (List Event)
+abbrev pub whole : List (List Event)
 whole =
     (Out (line (codes "ok") []) ∷ []) ∷ (Out (line (codes "refused 4 name taken") []) ∷ []) ∷ (Out (line (codes "refused 2 unknown word") []) ∷ [])
     ∷ (Out (line (codes "ok") []) ∷ []) ∷ []

@@ -24,14 +24,14 @@ n = codes "n"
 abbrev framed : List ℕ → List Played
 framed b = quiet (w.buf a b 400) ∷ quiet (w.fill a b 0 (spelled (codes "02000000000202000000000188b5"))) ∷ []
 
-abbrev sends : List ℕ → ℕ → Played
+abbrev pub sends : List ℕ → ℕ → Played
 sends b len = quiet (w.send a n b len)
 
 abbrev moves : Played
 moves = quiet (w.dev a n)
 
 -- 100 bytes a tick, and 300 of a burst
-abbrev paced : List Played
+abbrev pub paced : List Played
 paced =
     quiet (w.nic (own_at (10 ∷ 0 ∷ 0 ∷ 1 ∷ [])))
     ∷ app a

@@ -105,7 +105,7 @@ text_sent (said.Refused p) bytes frame h = absurd (apart 114 _ _ not_114 h)
 abbrev AllPaced : ℕ → List (List ℕ × Machine) → Type 0
 AllPaced t ms = AllByRecursion (λ p. ListedPacedAt t p) ms
 
-listed_paced : (t : ℕ) (ms : List (List ℕ × Machine)) (a : List ℕ) → AllPaced t ms → MachinePacedAt t (listed_machine ms t a)
+pub listed_paced : (t : ℕ) (ms : List (List ℕ × Machine)) (a : List ℕ) → AllPaced t ms → MachinePacedAt t (listed_machine ms t a)
 listed_paced t [] a h = (refl, tt)
 listed_paced t (p ∷ ps) a h =
     elim (bytes_eq a p.0) as (λ b. MachinePacedAt t (unwrap_or (option_map (λ q. q.1) (cond b (Some p) (find (λ q. bytes_eq a q.0) ps))) (record unmade { now = t }))) [

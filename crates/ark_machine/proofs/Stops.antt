@@ -14,7 +14,7 @@ use Rattle.ark_entry.specs.Header.{header_bytes}
 use Rattle.ark_script.specs.Line as w
 use Rattle.ark_machine.specs.Row.{answer}
 use Rattle.ark_machine.specs.Step.{step}
-use Rattle.ark_machine.specs.Start.{view, start_system}
+use Rattle.ark_machine.specs.Start.{view}
 use Rattle.ark_machine.specs.System.{System, fresh_system}
 use Rattle.ark_machine.specs.Recovers.{Recovers, begun, ContentStands, log_choices}
 use Rattle.ark_machine.proofs.Playing.{Played, played, replies, performed}
@@ -28,7 +28,7 @@ a = codes "a"
 abbrev l : List ℕ
 l = codes "l"
 
-abbrev base : List (List ℕ)
+abbrev pub base : List (List ℕ)
 base = replicate 200 zero_block
 
 abbrev no_slot : Slot
@@ -44,7 +44,7 @@ single t u (suc k, lt, is) = absurd (omega (arith, lt))
 abbrev entry : List ℕ
 entry = entry_bytes 1 1 (104 ∷ [])
 
-abbrev appended : List Played
+abbrev pub appended : List Played
 appended = with_log kind.Log 4 ++ (opened ++ (quiet (w.append a l (104 ∷ [])) ∷ []))
 
 abbrev before_settle : System
@@ -56,10 +56,10 @@ rest = Write 130 entry true true ∷ Sync true ∷ Write 130 (marked entry) true
 abbrev journal : List Event
 journal = onto (history 200 appended ++ rest) []
 
-abbrev without_entry : List (List ℕ)
+abbrev pub without_entry : List (List ℕ)
 without_entry = current base (onto (history 200 appended ++ (Write 130 entry true true ∷ [])) [])
 
-abbrev with_entry : List (List ℕ)
+abbrev pub with_entry : List (List ℕ)
 with_entry = current base journal
 
 pub may_be_without : MayLeave Whole base journal without_entry
@@ -74,7 +74,7 @@ pub begins_no_change : begun before_settle (Some (Ok (w.settle a l))) ≡ None
 unfolding step answer
 begins_no_change = refl
 
-abbrev log_slot : Slot
+abbrev pub log_slot : Slot
 log_slot = area 1 a l kind.Log 129 4
 
 pub found_without : found_of kind.Log (view without_entry log_slot.blocks) ≡ found (record { first = 1; payloads = [] })
@@ -90,7 +90,7 @@ unfolding step answer
 lists_both = refl
 
 -- one log in one slot, which nothing changes: what is left of its list is all that is to be shown
-recovers_log : (s : System) (rest : List Event) (t : Slot) (image : List (List ℕ)) → s.plane.slots ≡ t ∷ [] → t.kind ≡ kind.Log → slots_of image ≡ Ok (t ∷ [])
+pub recovers_log : (s : System) (rest : List Event) (t : Slot) (image : List (List ℕ)) → s.plane.slots ≡ t ∷ [] → t.kind ≡ kind.Log → slots_of image ≡ Ok (t ∷ [])
     → Contains (log_choices s None t) (found_of kind.Log (view image t.blocks)) → Recovers s None rest image
 recovers_log s rest t image held is_log read there = record {
   slots = t ∷ [];
@@ -109,7 +109,7 @@ unfolding step answer superblock
 recovers_with = recovers_log before_settle rest log_slot with_entry refl refl refl (1, omega arith, refl)
 
 -- once the append is acknowledged, a stop leaves the image that stands: the entry is found
-abbrev acknowledged : List Played
+abbrev pub acknowledged : List Played
 acknowledged = appended ++ ((w.settle a l, rest ++ (Sync true ∷ [])) ∷ [])
 
 pub only_with : (image : List (List ℕ)) → MayLeave Whole base (onto (history 200 acknowledged) []) image → (n : ℕ) → n < 200 → block image n ≡ block with_entry n
@@ -124,7 +124,7 @@ r = codes "r"
 abbrev b : List ℕ
 b = codes "b"
 
-abbrev reused : List Played
+abbrev pub reused : List Played
 reused =
     app b
     ∷ (w.vsa b r 4 kind.Raw, granting (area 1 b r kind.Raw 129 4))
@@ -142,21 +142,10 @@ zero_again image left =
 pub nothing_found : (image : List (List ℕ)) → MayLeave Whole base (onto (history 200 reused) []) image → found_of kind.Log (view image log_slot.blocks) ≡ found (record { first = 1; payloads = [] })
 nothing_found image left = ap (λ x. found_of kind.Log x) (zero_again image left)
 
--- The replies of these scripts, and of the openings after the stop.
+-- The replies of this script.
 
 abbrev v : List ℕ
 v = codes "v"
-
-abbrev reopened : List Played
-reopened = app a ∷ quiet (w.vsic a v 2) ∷ quiet (w.log a l v) ∷ []
-
-pub reopened_with-replies : replies (start_system with_entry (log_slot ∷ [])) reopened ≡ codes "ok" ∷ codes "ok" ∷ codes "ok 1 1" ∷ []
-unfolding step answer superblock digits
-reopened_with-replies = refl
-
-pub reopened_without-replies : replies (start_system without_entry (log_slot ∷ [])) reopened ≡ codes "ok" ∷ codes "ok" ∷ codes "ok 1 0" ∷ []
-unfolding step answer superblock digits
-reopened_without-replies = refl
 
 abbrev reused_log : List Played
 reused_log = reused ++ (quiet (w.vsic a v 2) ∷ (w.log a l v, Sync true ∷ Write 129 (header_bytes kind.Log 1 0 0 0) true true ∷ Sync true ∷ []) ∷ [])

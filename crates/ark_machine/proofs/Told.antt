@@ -104,3 +104,18 @@ stored_for image ms (t ∷ ts) a = stored_for image (with_stored image ms t) ts 
 -- an application starts with what its own slots hold
 pub start_private : (image : List (List ℕ)) (slots : List Slot) (a : List ℕ) → machine_of (start_system image slots) a ≡ with_areas unmade (map (area_in image) (own_slots a slots))
 start_private image slots a = stored_for image [] slots a
+
+-- two runs that start with the same areas for it, and bring the same to it
+same_start : (image other : List (List ℕ)) (slots others : List Slot) (a : List ℕ) → map (area_in image) (own_slots a slots) ≡ map (area_in other) (own_slots a others)
+    → machine_of (start_system image slots) a ≡ machine_of (start_system other others) a
+same_start image other slots others a areas = start_private image slots a ∙ (ap (λ (zs : List Area). with_areas unmade zs) areas ∙ sym (start_private other others a))
+
+pub start_alike : (image other : List (List ℕ)) (slots others : List Slot) (a : List ℕ) (xs ys : List Play) → map (area_in image) (own_slots a slots) ≡ map (area_in other) (own_slots a others)
+    → inputs_of a (start_system image slots) xs ≡ inputs_of a (start_system other others) ys → replies_to a (start_system image slots) xs ≡ replies_to a (start_system other others) ys
+start_alike image other slots others a xs ys areas is = replies_alike a (start_system image slots) (start_system other others) xs ys (same_start image other slots others a areas) is
+
+pub start_outputs_alike : (image other : List (List ℕ)) (slots others : List Slot) (a : List ℕ) (ms ns : List Meaning) (ps qs : List (List Event)) → EachAnswers (start_system image slots) ms ps → EachAnswers (start_system other others) ns qs
+    → map (area_in image) (own_slots a slots) ≡ map (area_in other) (own_slots a others) → inputs_of a (start_system image slots) (plays_of ms ps) ≡ inputs_of a (start_system other others) (plays_of ns qs)
+    → outputs_to a (start_system image slots) ms ps ≡ outputs_to a (start_system other others) ns qs
+start_outputs_alike image other slots others a ms ns ps qs h k areas is =
+    outputs_alike a (start_system image slots) (start_system other others) ms ns ps qs h k (same_start image other slots others a areas) is

@@ -28,6 +28,8 @@ pub mod Stopped
 pub mod Paced
 pub mod Refused
 pub mod Asked
+pub mod Left
+pub mod Frames
 pub mod Private
 pub mod Ranks
 pub mod Told

@@ -11,7 +11,7 @@ ghost use Rattle.ark_script.specs.Lines.{Meaning};
 ghost use Rattle.ark_script.specs.declared.said.Said.TheVariants as said;
 ghost use Rattle.ark_machine.specs.Machine.{Machine, unmade, at};
 ghost use Rattle.ark_machine.specs.Row.{Row, Ended, answer, synced_by};
-ghost use Rattle.ark_machine.specs.System.{System, fresh_system, machine_of, owner, line_turn};
+ghost use Rattle.ark_machine.specs.System.{System, fresh_system, machine_of, set_machine, owner, line_turn};
 ghost use Rattle.ark_machine.specs.Sockets.{sent_reaped};
 ghost use Rattle.ark_machine.specs.Start.{start_system};
 ghost use Rattle.ark_machine.specs.Plane.{Plane, blocks_at, granted};
@@ -59,7 +59,8 @@ pub fn grant_laws()
 /// what an application is told is what its own machine answers to what came to it alone: its lines, each with what its word
 /// asks of the plane, how its device calls ended and whether it found no memory, the frames at its cards, and ticks. So two
 /// runs that bring the same to it tell it the same, and put out the same for it. At its start it has what is stored in its own
-/// slots, wherever their blocks are.
+/// slots, wherever their blocks are; so two runs that start with the same stored for it, and bring the same to it, tell it the
+/// same.
 pub fn privacy_laws()
     ensures others { (s : System) (line : Line) (ends : List Ended) (memory : Bool) (a b : List ℕ) → owner line ≡ Some b → bytes_eq a b ≡ false → machine_of (line_turn s line ends memory).after a ≡ machine_of s a }
     ensures replies { (a : List ℕ) (s : System) (plays : List Play) → replies_to a s plays ≡ private_replies a (machine_of s a) (inputs_of a s plays) }
@@ -68,6 +69,8 @@ pub fn privacy_laws()
     ensures outputs { (a : List ℕ) (s : System) (ms : List Meaning) (parts : List (List Event)) → EachAnswers s ms parts → outputs_to a s ms parts ≡ map text_of (private_replies a (machine_of s a) (inputs_of a s (plays_of ms parts))) }
     ensures outputs_alike { (a : List ℕ) (s t : System) (ms ns : List Meaning) (parts others : List (List Event)) → EachAnswers s ms parts → EachAnswers t ns others → machine_of s a ≡ machine_of t a → inputs_of a s (plays_of ms parts) ≡ inputs_of a t (plays_of ns others) → outputs_to a s ms parts ≡ outputs_to a t ns others }
     ensures start { (image : List (List ℕ)) (slots : List Slot) (a : List ℕ) → machine_of (start_system image slots) a ≡ with_areas unmade (map (area_in image) (own_slots a slots)) }
+    ensures start_alike { (image other : List (List ℕ)) (slots others : List Slot) (a : List ℕ) (plays others_plays : List Play) → map (area_in image) (own_slots a slots) ≡ map (area_in other) (own_slots a others) → inputs_of a (start_system image slots) plays ≡ inputs_of a (start_system other others) others_plays → replies_to a (start_system image slots) plays ≡ replies_to a (start_system other others) others_plays }
+    ensures start_outputs { (image other : List (List ℕ)) (slots others : List Slot) (a : List ℕ) (ms ns : List Meaning) (parts other_parts : List (List Event)) → EachAnswers (start_system image slots) ms parts → EachAnswers (start_system other others) ns other_parts → map (area_in image) (own_slots a slots) ≡ map (area_in other) (own_slots a others) → inputs_of a (start_system image slots) (plays_of ms parts) ≡ inputs_of a (start_system other others) (plays_of ns other_parts) → outputs_to a (start_system image slots) ms parts ≡ outputs_to a (start_system other others) ns other_parts }
 {}
 
 /// A refused line leaves the system as it was, but for one whose device call failed, and for `sendto`, which reaps its ring
@@ -76,7 +79,7 @@ pub fn privacy_laws()
 pub fn refusal_laws()
     ensures unchanged { (s : System) (line : Line) (ends : List Ended) (memory : Bool) (x : Refusal) → (line_turn s line ends memory).said ≡ said.Refused x → may_leave line x ≡ false → (line_turn s line ends memory).after ≡ s }
     ensures no_call { (s : System) (line : Line) (ends : List Ended) (memory : Bool) (x : Refusal) → (line_turn s line ends memory).said ≡ said.Refused x → is_told_late x ≡ false → (line_turn s line ends memory).calls ≡ [] }
-    ensures reaped { (s : System) (a k ip : List ℕ) (port : ℕ) (payload : List ℕ) (ends : List Ended) (memory : Bool) (x : Refusal) → (line_turn s (w.sendto a k ip port payload) ends memory).said ≡ said.Refused x → is_of_sending x ≡ true → machine_of (line_turn s (w.sendto a k ip port payload) ends memory).after a ≡ sent_reaped (machine_of s a) k }
+    ensures reaped { (s : System) (a k ip : List ℕ) (port : ℕ) (payload : List ℕ) (ends : List Ended) (memory : Bool) (x : Refusal) → (line_turn s (w.sendto a k ip port payload) ends memory).said ≡ said.Refused x → is_of_sending x ≡ true → (line_turn s (w.sendto a k ip port payload) ends memory).after ≡ record s { machines = set_machine s.machines a (sent_reaped (machine_of s a) k) } }
     ensures no_label { (s : System) (a : List ℕ) (line : Line) (ends : List Ended) (memory : Bool) (x : Refusal) → owner line ≡ Some a → gives_up line ≡ false → (line_turn s line ends memory).said ≡ said.Refused x → labels (machine_of (line_turn s line ends memory).after a) ≡ labels (machine_of s a) }
 {}
 
@@ -93,11 +96,12 @@ pub fn fault_laws()
 {}
 
 /// A line is refused where a condition of its word holds, with the refusal of least rank, in the one order, whose condition
-/// holds; else it has its row.
+/// holds, and with no other; else it has its row.
 pub fn order_laws()
     ensures holds { (c : Conditions) (x : Refusal) → first c ≡ Some x → Holds c x }
     ensures least { (c : Conditions) (x y : Refusal) → first c ≡ Some x → Holds c y → rank x ≤ rank y }
     ensures refuses { (c : Conditions) (x : Refusal) → Holds c x → first c ≡ None → ⊥ }
+    ensures only { (c : Conditions) (x : Refusal) → Holds c x → ((y : Refusal) → Holds c y → rank x ≤ rank y) → first c ≡ Some x }
     ensures first_chosen { (m : Machine) (c : Conditions) (row : Row) (x : Refusal) → first c ≡ Some x → (answer m c row).said ≡ said.Refused x }
     ensures none_chosen { (m : Machine) (c : Conditions) (row : Row) → first c ≡ None → answer m c row ≡ row }
 {}

@@ -1,5 +1,5 @@
 use Rattle.ark_machine.proofs.Privacy.{others_left, replies_private, machine_private, replies_alike}
-use Rattle.ark_machine.proofs.Told.{outputs_private, outputs_alike, start_private}
+use Rattle.ark_machine.proofs.Told.{outputs_private, outputs_alike, start_private, start_alike, start_outputs_alike}
 use Rattle.ark_machine.proofs.laws.privacy_laws.Goals as goal
 
 pub returns : goal.returns
@@ -11,4 +11,6 @@ returns c = record {
   outputs = outputs_private;
   outputs_alike = outputs_alike;
   start = start_private;
+  start_alike = start_alike;
+  start_outputs = start_outputs_alike;
 }
