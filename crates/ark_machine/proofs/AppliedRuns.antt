@@ -14,7 +14,7 @@ use Rattle.ark_machine.specs.Plane.{blocks_at}
 use Rattle.ark_machine.specs.Step.{step}
 use Rattle.ark_machine.specs.System.{System, fresh_system, line_turn}
 use Rattle.ark_machine.specs.Start.{start_system}
-use Rattle.ark_machine.specs.Follow.{Follow, slot_index, ends_of}
+use Rattle.ark_machine.specs.Follow.{Follow, slots_for, ends_of}
 use Rattle.ark_machine.specs.Grants.{GrantsApart}
 use Rattle.ark_machine.specs.Confined.{Confined}
 use Rattle.ark_machine.specs.Private.{Play, replies_to}
@@ -81,12 +81,9 @@ theirs : Contains (blocks_at both.plane b t) 131
 unfolding step answer
 theirs = (0, omega arith, refl)
 
-third_slot : slot_index both.plane a writes ≡ 3
-unfolding step answer
-third_slot = refl
-
-unslotted : 131 ≡ slot_index both.plane a writes → ⊥
-unslotted h = absurd (omega (arith, h, third_slot))
+-- the line writes no slot
+unslotted : Contains (slots_for both.plane a writes) 131 → ⊥
+unslotted h = absurd (omega (arith, h.1))
 
 pub writes-leave : (base : List (List ℕ)) (j : List Event) (c : List ℕ) → 131 < length base → MayHold Whole base (onto written j) 131 c → MayHold Whole base j 131 c
 writes-leave base j c lt h =

@@ -39,8 +39,8 @@ fault_left : (m : Machine) (line : Line) (g : Given) → may_fault line ≡ true
 unfolding step
 fault_left m (w.vsa a s n k) g may h = vsa_left m a s n k g r.DeviceFault h
 fault_left m (w.grow a s n) g may h = grow_left m a s n g r.DeviceFault h
-fault_left m (w.log a s v) g may h = log_left m a s v g r.DeviceFault h
-fault_left m (w.queue a s v) g may h = queue_left m a s v g r.DeviceFault h
+fault_left m (w.log a s v) g may h = log_left m a s v g h.0
+fault_left m (w.queue a s v) g may h = queue_left m a s v g h.0
 fault_left m (w.peek a s off) g may h = look_left m (w.peek a s off) g r.DeviceFault refl h
 fault_left m (w.walk a s n) g may h = look_left m (w.walk a s n) g r.DeviceFault refl h
 fault_left m (w.poke a s off bytes) g may h = (late_machine m _ _ r.DeviceFault refl h.0 h.1).0

@@ -112,13 +112,10 @@ after_poke = played (fresh_system 200) (poked false false)
 abbrev grants : List Event
 grants = granting (area 2 a t kind.Raw 131 1)
 
-not_none : (c : Call) (cs : List Call) → c ∷ cs ≡ [] → ⊥
-not_none c cs h = cc
-
 pub grants-settle : (x : Raw) → raw_at (machine_of (line_turn after_poke (w.vsa a t 1 kind.Raw) (ends_of grants) false).after a) s ≡ Some x → x.maybe ≡ map (λ b. b ∷ []) x.content
 unfolding step answer
 grants-settle x h =
-    synced_line after_poke a (w.vsa a t 1 kind.Raw) (ends_of grants) false (end_of (Sync true)) refl refl (λ none. not_none (zeroes_new 0) (syncs ∷ writes_slot ∷ syncs ∷ []) none) (1, omega arith, refl) refl refl s x h
+    synced_line after_poke a (w.vsa a t 1 kind.Raw) (ends_of grants) false (end_of (Sync true)) refl refl (1, omega arith, refl) (1, omega arith, refl) refl refl s x h
 
 pub grants-raw : raw_at (machine_of (line_turn after_poke (w.vsa a t 1 kind.Raw) (ends_of grants) false).after a) s ≡ Some fresh
 unfolding step answer

@@ -18,7 +18,7 @@ ghost use Rattle.ark_machine.specs.Areas.{raw_written};
 ghost use Rattle.ark_machine.specs.Plane.{blocks_at, slot_of};
 ghost use Rattle.ark_machine.specs.Granting.{change_of, failed_change};
 ghost use Rattle.ark_machine.specs.System.{System, machine_of, set_machine, owner, line_turn};
-ghost use Rattle.ark_machine.specs.Follow.{slot_index};
+ghost use Rattle.ark_machine.specs.Follow.{slots_for};
 ghost use Rattle.ark_machine.specs.Confined.{AllAllowed};
 ghost use Rattle.ark_machine.specs.Grants.{GrantsApart};
 ghost use Rattle.ark_machine.specs.Sending.{IsLetOut};
@@ -48,8 +48,8 @@ pub fn frame_laws()
 /// What a stop may leave of a block of another application's area is no more after the device events of a line than before,
 /// whether a block that was written is left whole or as any bytes.
 pub fn stop_laws()
-    ensures whole { (s : System) (line : Line) (a b l : List ℕ) (es : List Event) (base : List (List ℕ)) (j : List Event) (n : ℕ) (c : List ℕ) → GrantsApart s.plane → owner line ≡ Some a → bytes_eq a b ≡ false → AllAllowed s line es → Contains (blocks_at s.plane b l) n → (n ≡ slot_index s.plane a line → ⊥) → n < length base → MayHold Whole base (onto es j) n c → MayHold Whole base j n c }
-    ensures torn { (s : System) (line : Line) (a b l : List ℕ) (es : List Event) (base : List (List ℕ)) (j : List Event) (n : ℕ) (c : List ℕ) → GrantsApart s.plane → owner line ≡ Some a → bytes_eq a b ≡ false → AllAllowed s line es → Contains (blocks_at s.plane b l) n → (n ≡ slot_index s.plane a line → ⊥) → n < length base → MayHold AnyBytes base (onto es j) n c → MayHold AnyBytes base j n c }
+    ensures whole { (s : System) (line : Line) (a b l : List ℕ) (es : List Event) (base : List (List ℕ)) (j : List Event) (n : ℕ) (c : List ℕ) → GrantsApart s.plane → owner line ≡ Some a → bytes_eq a b ≡ false → AllAllowed s line es → Contains (blocks_at s.plane b l) n → (Contains (slots_for s.plane a line) n → ⊥) → n < length base → MayHold Whole base (onto es j) n c → MayHold Whole base j n c }
+    ensures torn { (s : System) (line : Line) (a b l : List ℕ) (es : List Event) (base : List (List ℕ)) (j : List Event) (n : ℕ) (c : List ℕ) → GrantsApart s.plane → owner line ≡ Some a → bytes_eq a b ≡ false → AllAllowed s line es → Contains (blocks_at s.plane b l) n → (Contains (slots_for s.plane a line) n → ⊥) → n < length base → MayHold AnyBytes base (onto es j) n c → MayHold AnyBytes base j n c }
 {}
 
 /// What a machine knows of its raw areas follows what is done to them. A write that is tried adds its content to what a stop may
@@ -65,6 +65,6 @@ pub fn area_laws()
     ensures synced { (m : Machine) (l : List ℕ) (x : Raw) (ends : List Ended) (e : Ended) → raw_at m l ≡ Some x → Contains ends e → e.ok ≡ true → e.verb ≡ syncing → raw_at (synced_by ends m) l ≡ Some (record x { maybe = map (λ b. b ∷ []) x.content }) }
     ensures poked { (s : System) (a l : List ℕ) (off : ℕ) (bytes : List ℕ) (e : Ended) (memory : Bool) (x : Raw) → raw_at (machine_of s a) l ≡ Some x → ((line_turn s (w.poke a l off bytes) (e ∷ []) memory).said ≡ said.Ok) ⊎ ((line_turn s (w.poke a l off bytes) (e ∷ []) memory).said ≡ said.Refused r.DeviceFault) → raw_at (machine_of (line_turn s (w.poke a l off bytes) (e ∷ []) memory).after a) l ≡ Some (raw_written off (padded bytes) e.took x) }
     ensures flushed { (s : System) (a v l : List ℕ) (ends : List Ended) (memory : Bool) (y : Raw) → (line_turn s (w.dev a v) ends memory).calls ≡ syncs ∷ [] → (line_turn s (w.dev a v) ends memory).said ≡ said.Done outcome.Ok → raw_at (machine_of s a) l ≡ Some y → raw_at (machine_of (line_turn s (w.dev a v) ends memory).after a) l ≡ Some (record y { maybe = map (λ b. b ∷ []) y.content }) }
-    ensures synced_line { (s : System) (a : List ℕ) (line : Line) (ends : List Ended) (memory : Bool) (e : Ended) → owner line ≡ Some a → (is_gain line || gives_up line) ≡ true → ((line_turn s line ends memory).calls ≡ [] → ⊥) → Contains ends e → e.ok ≡ true → e.verb ≡ syncing → (l : List ℕ) (x : Raw) → raw_at (machine_of (line_turn s line ends memory).after a) l ≡ Some x → x.maybe ≡ map (λ b. b ∷ []) x.content }
+    ensures synced_line { (s : System) (a : List ℕ) (line : Line) (ends : List Ended) (memory : Bool) (e : Ended) → owner line ≡ Some a → (is_gain line || gives_up line) ≡ true → Contains (line_turn s line ends memory).calls syncs → Contains ends e → e.ok ≡ true → e.verb ≡ syncing → (l : List ℕ) (x : Raw) → raw_at (machine_of (line_turn s line ends memory).after a) l ≡ Some x → x.maybe ≡ map (λ b. b ∷ []) x.content }
     ensures settled { (x : Raw) (k : ℕ) → k < length x.content → slice_index_or (map (λ b. b ∷ []) x.content) k [] ≡ slice_index_or x.content k [] ∷ [] }
 {}
