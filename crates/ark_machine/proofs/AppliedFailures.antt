@@ -1,6 +1,6 @@
 -- The laws of refused lines, applied to worked scripts.
 use Rattle.std.proofs.Common.{◌≡◌, ℕ, true, false, List, [], ◌∷◌, ◌++◌, codes, refl}
-use Rattle.std.specs.Prelude.{Some}
+use Rattle.std.specs.Prelude.{Some, None}
 use Rattle.ark_base.specs.Conditions.{Conditions, none, first}
 use Rattle.ark_base.specs.declared.kind.Kind.TheVariants as kind
 use Rattle.ark_base.specs.declared.refusal.Refusal.TheVariants as r
@@ -10,6 +10,8 @@ use Rattle.ark_script.specs.Line as w
 use Rattle.ark_script.specs.Line.{Line}
 use Rattle.ark_script.specs.declared.said.Said.TheVariants as said
 use Rattle.ark_machine.specs.Bytes.{padded}
+use Rattle.ark_machine.specs.Objects.{is_vsa}
+use Rattle.ark_machine.specs.Machine.{object_at, is_so}
 use Rattle.ark_machine.specs.Row.{answer, synced_by}
 use Rattle.ark_machine.specs.Areas.{block_written}
 use Rattle.ark_machine.specs.Plane.{makes, slot_of}
@@ -23,6 +25,7 @@ use Rattle.ark_machine.proofs.Areas.{failed_grant}
 use Rattle.ark_machine.proofs.Rules.{own_at}
 use Rattle.ark_machine.proofs.Ranks.{first_least, least_first}
 use Rattle.ark_machine.proofs.Labels.{sendto_refused}
+use Rattle.ark_machine.proofs.TableFailed.{stays_failed, no_new_area, no_more_blocks, no_drop}
 use Rattle.ark_machine.proofs.Leaving.{fault_after, new_fails, more_fails, drop_fails}
 
 abbrev a : List ℕ
@@ -57,6 +60,12 @@ grants-leaves = fault_after made a (w.vsa a s 2 kind.Raw) (ends_of failed_grant)
 pub grants-fails : grants.after.plane.failed ≡ true
 grants-fails = new_fails made a s 2 kind.Raw (ends_of failed_grant) false grants-refused
 
+pub grants-stays : (turned grants.after (w.app (codes "b") None) []).after.plane.failed ≡ true
+grants-stays = stays_failed grants.after (w.app (codes "b") None) [] false grants-fails
+
+pub grants-last : (turned grants.after (w.vsa a (codes "t") 1 kind.Raw) []).said ≡ said.Ok → ⊥
+grants-last h = no_new_area grants.after a (codes "t") 1 kind.Raw [] false grants-fails h
+
 -- More blocks for it, and its end, where the last sync fails; a write that fails and does not take.
 
 abbrev slot : Slot
@@ -88,6 +97,20 @@ drops-refused = refl
 
 pub drops-fails : (turned granted (w.drop a s) fewer).after.plane.failed ≡ true
 drops-fails = drop_fails granted a s slot (ends_of fewer) false has_slot drops-refused
+
+-- after more blocks have failed the area neither grows nor goes
+abbrev stuck : System
+stuck = (turned granted (w.grow a s 1) more).after
+
+pub stuck-grows : (turned stuck (w.grow a s 1) []).said ≡ said.Ok → ⊥
+stuck-grows h = no_more_blocks stuck a s 1 [] false grows-fails h
+
+pub stuck-area : is_so is_vsa (object_at (machine_of stuck a) s) ≡ true
+unfolding step answer
+stuck-area = refl
+
+pub stuck-drops : (turned stuck (w.drop a s) []).said ≡ said.Ok → ⊥
+stuck-drops h = no_drop stuck a s [] false grows-fails stuck-area h
 
 abbrev unwritten : List Event
 unwritten = Write 130 (padded (7 ∷ [])) false false ∷ []

@@ -68,6 +68,7 @@ pub mod Steady
 pub mod Stops
 pub mod Stored
 pub mod Synced
+pub mod TableFailed
 pub mod Told
 pub mod Touching
 pub mod Transfers

@@ -11,8 +11,8 @@ ghost use Rattle.ark_script.specs.Line as w;
 ghost use Rattle.ark_script.specs.Line.{Line};
 ghost use Rattle.ark_script.specs.declared.said.Said.TheVariants as said;
 ghost use Rattle.ark_machine.specs.Bytes.{padded};
-ghost use Rattle.ark_machine.specs.Objects.{Raw, Vnic};
-ghost use Rattle.ark_machine.specs.Machine.{Machine, raw_at, vnic_at};
+ghost use Rattle.ark_machine.specs.Objects.{Raw, Vnic, is_vsa};
+ghost use Rattle.ark_machine.specs.Machine.{Machine, object_at, is_so, raw_at, vnic_at};
 ghost use Rattle.ark_machine.specs.Row.{Ended, syncs, synced_by};
 ghost use Rattle.ark_machine.specs.Areas.{raw_written};
 ghost use Rattle.ark_machine.specs.Plane.{blocks_at, slot_of};
@@ -29,12 +29,16 @@ ghost use Rattle.ark_machine.specs.Frames.{LetsOut, IsCounted};
 
 /// A line that is refused because a device call failed leaves the rest of the system as it was, but for what a failed change of
 /// the table leaves of the plane, and for what the line leaves of its application's machine. Where the line asked for such a
-/// change, no later one is made in this run.
+/// change, the table has failed: that stays so, and no area is granted, grows or is dropped any more in this run.
 pub fn failure_laws()
     ensures whole { (s : System) (a : List ℕ) (line : Line) (ends : List Ended) (memory : Bool) → owner line ≡ Some a → (line_turn s line ends memory).said ≡ said.Refused r.DeviceFault → (line_turn s line ends memory).after ≡ record { plane = failed_change s.plane (change_of s.plane (machine_of s a) line); now = s.now; machines = set_machine s.machines a (left_by line ends (machine_of s a)) } }
     ensures new_area { (s : System) (a l : List ℕ) (n : ℕ) (k : Kind) (ends : List Ended) (memory : Bool) → (line_turn s (w.vsa a l n k) ends memory).said ≡ said.Refused r.DeviceFault → (line_turn s (w.vsa a l n k) ends memory).after.plane.failed ≡ true }
     ensures more_blocks { (s : System) (a l : List ℕ) (n : ℕ) (t : Slot) (ends : List Ended) (memory : Bool) → slot_of s.plane a l ≡ Some t → (line_turn s (w.grow a l n) ends memory).said ≡ said.Refused r.DeviceFault → (line_turn s (w.grow a l n) ends memory).after.plane.failed ≡ true }
     ensures dropped { (s : System) (a l : List ℕ) (t : Slot) (ends : List Ended) (memory : Bool) → slot_of s.plane a l ≡ Some t → (line_turn s (w.drop a l) ends memory).said ≡ said.Refused r.DeviceFault → (line_turn s (w.drop a l) ends memory).after.plane.failed ≡ true }
+    ensures stays { (s : System) (line : Line) (ends : List Ended) (memory : Bool) → s.plane.failed ≡ true → (line_turn s line ends memory).after.plane.failed ≡ true }
+    ensures no_new_area { (s : System) (a l : List ℕ) (n : ℕ) (k : Kind) (ends : List Ended) (memory : Bool) → s.plane.failed ≡ true → (line_turn s (w.vsa a l n k) ends memory).said ≡ said.Ok → ⊥ }
+    ensures no_more_blocks { (s : System) (a l : List ℕ) (n : ℕ) (ends : List Ended) (memory : Bool) → s.plane.failed ≡ true → (line_turn s (w.grow a l n) ends memory).said ≡ said.Ok → ⊥ }
+    ensures no_drop { (s : System) (a l : List ℕ) (ends : List Ended) (memory : Bool) → s.plane.failed ≡ true → is_so is_vsa (object_at (machine_of s a) l) ≡ true → (line_turn s (w.drop a l) ends memory).said ≡ said.Ok → ⊥ }
 {}
 
 /// A frame that goes out is let out by a filter that its application holds. The rate of the card's transmit queue counts it at
@@ -54,8 +58,8 @@ pub fn stop_laws()
 
 /// What a machine knows of its raw areas follows what is done to them. A write that is tried adds its content to what a stop may
 /// leave of its block, and stands where it took effect; every other block is as it was. A sync that succeeds leaves of each
-/// block its content alone. So it is with the write of a `poke`, with a sync
-/// that a move of a card makes, and with one of a line that grants, opens or drops.
+/// block its content alone. So it is with the write of a `poke`, with a sync that a move of a card makes, and with one of a
+/// line that grants, opens or drops.
 pub fn area_laws()
     ensures tried { (off : ℕ) (block : List ℕ) (took : Bool) (r : Raw) → off < length r.maybe → slice_index_or (raw_written off block took r).maybe off [] ≡ slice_index_or r.maybe off [] ++ block ∷ [] }
     ensures others_tried { (off k : ℕ) (block : List ℕ) (took : Bool) (r : Raw) → (k ≡ off → ⊥) → slice_index_or (raw_written off block took r).maybe k [] ≡ slice_index_or r.maybe k [] }
