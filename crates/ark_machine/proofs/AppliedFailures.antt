@@ -109,8 +109,12 @@ pub stuck-area : is_so is_vsa (object_at (machine_of stuck a) s) ≡ true
 unfolding step answer
 stuck-area = refl
 
+stuck-slot : slot_of stuck.plane a s ≡ Some (area 1 a s kind.Raw 129 2)
+unfolding step answer
+stuck-slot = refl
+
 pub stuck-drops : (turned stuck (w.drop a s) []).said ≡ said.Ok → ⊥
-stuck-drops h = no_drop stuck a s [] false grows-fails stuck-area h
+stuck-drops h = no_drop stuck a s (area 1 a s kind.Raw 129 2) [] false stuck-slot grows-fails stuck-area h
 
 abbrev unwritten : List Event
 unwritten = Write 130 (padded (7 ∷ [])) false false ∷ []

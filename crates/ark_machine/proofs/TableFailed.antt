@@ -1,11 +1,12 @@
 -- Once a change of the table has failed, that stays so, and no area is granted, grows or is dropped.
-use Rattle.std.proofs.Common.{◌≡◌, ℕ, Bool, true, List, refl, ◌∙◌}
-use Rattle.std.specs.Prelude.{Option, Some, None, find}
+use Rattle.std.proofs.Common.{◌≡◌, ℕ, Bool, true, ◌&&◌, List, refl, ◌∙◌, ap}
+use Rattle.std.specs.Prelude.{Option, Some, None, find, is_some}
 use Rattle.ark_base.specs.Conditions.{Conditions, first}
 use Rattle.ark_base.specs.declared.kind.Kind.{Kind}
 use Rattle.ark_base.specs.declared.refusal.Refusal.{Refusal}
 use Rattle.ark_base.specs.declared.refusal.Refusal.TheVariants as r
 use Rattle.ark_packet.specs.declared.own.Own.{Own}
+use Rattle.ark_table.specs.Slots.{Slot}
 use Rattle.ark_script.specs.Line as w
 use Rattle.ark_script.specs.Line.{Line}
 use Rattle.ark_script.specs.declared.said.Said.{Said}
@@ -13,7 +14,7 @@ use Rattle.ark_script.specs.declared.said.Said.TheVariants as said
 use Rattle.ark_machine.specs.Objects.{is_vsa}
 use Rattle.ark_machine.specs.Machine.{Machine, unmade, object_at, is_so}
 use Rattle.ark_machine.specs.Row.{Row, Given, Ended, answer}
-use Rattle.ark_machine.specs.Plane.{Plane, LiveFilter, Change, makes, grows, drops, recorded}
+use Rattle.ark_machine.specs.Plane.{Plane, LiveFilter, Change, makes, grows, drops, slot_of, recorded}
 use Rattle.ark_machine.specs.Granting.{changed, with_granted, after_refusal, change_of, plane_after}
 use Rattle.ark_machine.specs.Step.{step}
 use Rattle.ark_machine.specs.System.{System, machine_of, owner, takes, nic_turn, taken_turn, wire_turn, common_turn, owned_turn, line_turn}
@@ -102,5 +103,6 @@ drop_never : (m : Machine) (a l : List ℕ) (g : Given) → g.table_failed ≡ t
 unfolding step
 drop_never m a l g failed is h = never_ok m _ _ (rw (failed, is) refl) h
 
-pub no_drop : (s : System) (a l : List ℕ) (ends : List Ended) (memory : Bool) → s.plane.failed ≡ true → is_so is_vsa (object_at (machine_of s a) l) ≡ true → (line_turn s (w.drop a l) ends memory).said ≡ said.Ok → ⊥
-no_drop s a l ends memory failed is h = drop_never (machine_of s a) a l (recorded s.plane (w.drop a l) ends memory) failed is h
+pub no_drop : (s : System) (a l : List ℕ) (t : Slot) (ends : List Ended) (memory : Bool) → slot_of s.plane a l ≡ Some t → s.plane.failed ≡ true → is_so is_vsa (object_at (machine_of s a) l) ≡ true
+    → (line_turn s (w.drop a l) ends memory).said ≡ said.Ok → ⊥
+no_drop s a l t ends memory slot failed is h = drop_never (machine_of s a) a l (recorded s.plane (w.drop a l) ends memory) (ap (λ o. is_some o && s.plane.failed) slot ∙ failed) is h

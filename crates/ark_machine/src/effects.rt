@@ -38,7 +38,7 @@ pub fn failure_laws()
     ensures stays { (s : System) (line : Line) (ends : List Ended) (memory : Bool) → s.plane.failed ≡ true → (line_turn s line ends memory).after.plane.failed ≡ true }
     ensures no_new_area { (s : System) (a l : List ℕ) (n : ℕ) (k : Kind) (ends : List Ended) (memory : Bool) → s.plane.failed ≡ true → (line_turn s (w.vsa a l n k) ends memory).said ≡ said.Ok → ⊥ }
     ensures no_more_blocks { (s : System) (a l : List ℕ) (n : ℕ) (ends : List Ended) (memory : Bool) → s.plane.failed ≡ true → (line_turn s (w.grow a l n) ends memory).said ≡ said.Ok → ⊥ }
-    ensures no_drop { (s : System) (a l : List ℕ) (ends : List Ended) (memory : Bool) → s.plane.failed ≡ true → is_so is_vsa (object_at (machine_of s a) l) ≡ true → (line_turn s (w.drop a l) ends memory).said ≡ said.Ok → ⊥ }
+    ensures no_drop { (s : System) (a l : List ℕ) (t : Slot) (ends : List Ended) (memory : Bool) → slot_of s.plane a l ≡ Some t → s.plane.failed ≡ true → is_so is_vsa (object_at (machine_of s a) l) ≡ true → (line_turn s (w.drop a l) ends memory).said ≡ said.Ok → ⊥ }
 {}
 
 /// A frame that goes out is let out by a filter that its application holds. The rate of the card's transmit queue counts it at
