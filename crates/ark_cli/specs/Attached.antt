@@ -1,4 +1,4 @@
--- How `run DEVICE` begins on a device that was there, and how it ends. `base` is the device's image as it was attached.
+-- How `run DEVICE` begins on a device that was there, and how it ends. `base` is the device's image as it was attached. Ours.
 use Rattle.std.specs.Prelude.{◌≡◌, ◌⊎◌, ◌≤◌, ◌+◌, ℕ, true, false, List, [], ◌∷◌, ◌++◌, length, Some, Ok, Err}
 use Rattle.ark_base.specs.declared.status.Status.{Status}
 use Rattle.ark_base.specs.declared.status.Status.TheVariants.{Done, Source, Sink, Device, Memory, Damaged, Long}

@@ -1,4 +1,4 @@
--- When the program must come to the end of its script.
+-- When the program must come to the end of its script. Ours.
 use Rattle.std.specs.Prelude.{◌≡◌, ◌≤◌, length, Option, Some}
 use Rattle.ark_media.specs.Calls.{Told, Beside, Script, Rose}
 use Rattle.ark_cli.specs.Line.{limit}

@@ -1,4 +1,4 @@
--- What came of a line whose reply was not put out in whole.
+-- What came of a line whose reply was not put out in whole. Ours.
 use Rattle.std.specs.Prelude.{◌≡◌, ◌⊎◌, ℕ, Bool, List, [], ◌∷◌, ◌++◌, length, drop}
 use Rattle.ark_media.specs.Journal.{Event, output_of, device_events}
 use Rattle.ark_script.specs.Lines.{Meaning, Says}

@@ -1,4 +1,4 @@
--- How a run begins on a device that was made.
+-- How a run begins on a device that was made. Ours.
 use Rattle.std.specs.Prelude.{◌≡◌, ◌⊎◌, ◌≤◌, ℕ, Bool, true, false, List, [], ◌∷◌, ◌++◌, Some, Result, IfErr, OnOk}
 use Rattle.ark_base.specs.declared.status.Status.{Status}
 use Rattle.ark_base.specs.declared.status.Status.TheVariants.{Device, Sink}

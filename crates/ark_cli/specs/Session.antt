@@ -1,4 +1,4 @@
--- A script that is run as it comes: what was fed so far, and what was done for it.
+-- A script that is run as it comes: what was fed so far, and what was done for it. Ours.
 use Rattle.std.specs.Prelude.{◌≡◌, ◌⊎◌, ℕ, ◌+◌, ◌≤◌, Bool, true, false, List, [], ◌++◌, length, Option, Some, Result, IfOk, IfErr, OnErr}
 use Rattle.ark_base.specs.declared.status.Status.{Status}
 use Rattle.ark_base.specs.declared.status.Status.TheVariants.{Done, Source, Sink, Long}

@@ -1,4 +1,4 @@
--- How a view goes on: the laws of a disk, written out for a view.
+-- How a view goes on: the laws of a disk, written out for a view. Ours.
 use Rattle.std.specs.Prelude.{◌≡◌, ℕ, List, [], ◌∷◌, ◌++◌, Option, Some, None, get_or, map, length, option_map, is_some, refl}
 use Rattle.std.proofs.Common.{sym, ◌∙◌, ap, subst, inl, inr, ⊎_elim}
 use Rattle.std.proofs.lemmas.Bool.{false≢true}

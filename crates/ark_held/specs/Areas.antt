@@ -1,4 +1,4 @@
--- What areas of blocks stand for.
+-- What areas of blocks stand for. Ours.
 use Rattle.std.specs.Prelude.{◌≡◌, ℕ, ◌<◌, List, [], ◌∷◌, length, nat_eq, get_or, Option, Some, None, option_and_then, Contains}
 use Rattle.std.specs.Map.{lookup}
 use Rattle.ark_base.specs.declared.kind.Kind.TheVariants as kind

@@ -1,4 +1,4 @@
--- What is looked at to say what an application's labels stand for.
+-- What is looked at to say what an application's labels stand for. Ours.
 use Rattle.std.specs.Prelude.{◌≡◌, ℕ, List, [], ◌∷◌, length, find, Option, Some, None}
 use Rattle.ark_media.specs.Journal.{History}
 use Rattle.ark_table.specs.Slots.{Slot}

@@ -1,4 +1,4 @@
--- What buffers, storage cards, rates and doors stand for.
+-- What buffers, storage cards, rates and doors stand for. Ours.
 use Rattle.std.specs.Prelude.{◌≡◌, ◌⊎◌, ℕ, ◌≤◌, true, List, if◌then◌else◌, slice_get, Option, Some, None, is_some, is_none, option_map}
 use Rattle.ark_base.specs.declared.kind.Outcome.{Outcome}
 use Rattle.ark_caps.specs.declared.capability.CapKind.TheVariants as cap_kind

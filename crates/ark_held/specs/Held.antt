@@ -1,4 +1,4 @@
--- What an application's labels and tables stand for: the objects of its private machine.
+-- What an application's labels and tables stand for: the objects of its private machine. Ours.
 use Rattle.std.specs.Prelude.{◌≡◌, ℕ, Bool, true, false, List, [], ◌∷◌, length, slice_get, slice_index_or, filter as select, Option, Some, None}
 use Rattle.ark_caps.specs.Labels.{value_at}
 use Rattle.ark_caps.specs.declared.capability.CapKind.{CapKind}

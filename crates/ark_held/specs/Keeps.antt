@@ -1,4 +1,4 @@
--- What a change leaves of what an application's labels stand for.
+-- What a change leaves of what an application's labels stand for. Ours.
 use Rattle.std.specs.Prelude.{◌≡◌, ℕ, ◌<◌, ◌≤◌, Bool, true, List, [], ◌∷◌, length, nat_eq, get_or, slice_get, find, Option, Some, None, option_map, option_and_then, Contains}
 use Rattle.std.specs.List.{AllByRecursion}
 use Rattle.std.specs.Map.{lookup}

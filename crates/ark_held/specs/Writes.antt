@@ -1,4 +1,4 @@
--- A write to a block of an application's own.
+-- A write to a block of an application's own. Ours.
 use Rattle.std.specs.Prelude.{◌≡◌, ℕ, ◌<◌, Bool, false, List, [], ◌∷◌, length, get_or, Option, Some, bytes_eq, Contains}
 use Rattle.ark_media.specs.Journal.{Write, History}
 use Rattle.ark_media.specs.Calls.{Adds}

@@ -1,4 +1,4 @@
--- A block of an area, as an application names it, or why there is none.
+-- A block of an area, as an application names it, or why there is none. Ours.
 use Rattle.std.specs.Prelude.{◌≡◌, ◌≤◌, ◌<◌, ℕ, true, false, List, length, get_or, Some, None, Result, Ok, Err}
 use Rattle.ark_base.specs.declared.refusal.Refusal.{Refusal}
 use Rattle.ark_base.specs.declared.refusal.Refusal.TheVariants as r

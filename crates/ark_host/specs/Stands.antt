@@ -1,4 +1,4 @@
--- What the host stands for, and what its functions promise.
+-- What the host stands for, and what its functions promise. Ours.
 use Rattle.std.specs.Prelude.{◌≡◌, ℕ, ◌≤◌, ◌<◌, false, true, List, [], length, map, Option, Some, None, find, slice_get, unwrap_or, nat_eq, bytes_eq, Contains}
 use Rattle.std.specs.Map.{lookup}
 use Rattle.ark_base.specs.declared.kind.Kind.TheVariants as kind

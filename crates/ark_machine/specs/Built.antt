@@ -1,4 +1,5 @@
 -- The words that the program runs so far. This stands beside the rows, which are whole, and goes when every word is built.
+-- Ours.
 use Rattle.std.specs.Prelude.{Bool, true, false, List, [], if◌then◌else◌, Ok, Err}
 use Rattle.ark_base.specs.declared.kind.Kind.TheVariants as kind
 use Rattle.ark_base.specs.declared.refusal.Refusal.TheVariants as r

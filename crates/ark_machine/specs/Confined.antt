@@ -1,4 +1,4 @@
--- Which blocks a line may touch and which frames it may send, by the grants that are held before it.
+-- Which blocks a line may touch and which frames it may send, by the grants that are held before it. Ours.
 use Rattle.std.specs.Prelude.{◌≡◌, ◌⊎◌, ℕ, Bool, true, false, List, [], ◌∷◌, ◌++◌, length, drop, if◌then◌else◌, is_some, option_map, unwrap_or, Ok, Err, Contains, IsTrue}
 use Rattle.std.specs.List.{flat_map}
 use Rattle.ark_media.specs.Journal.{Event, Read, Write, Sync, Out, has_succeeded, device_events, output_of}

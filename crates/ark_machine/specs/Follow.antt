@@ -1,4 +1,4 @@
--- How device events follow a line's calls.
+-- How device events follow a line's calls. Ours.
 use Rattle.std.specs.Prelude.{◌≡◌, ℕ, Bool, true, false, List, [], ◌∷◌, length, take, drop, map, nat_lt, if◌then◌else◌, Option, Some, None, option_map, slice_get, unwrap_or, Ok, Err, Contains}
 use Rattle.ark_media.specs.Journal.{Event, Read, Write, Sync, Out, zero_block, has_succeeded}
 use Rattle.ark_table.specs.Slots.{Slot, slot_bytes}

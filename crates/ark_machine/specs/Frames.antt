@@ -1,4 +1,4 @@
--- A frame that goes out: the filter that lets it out, and how it is counted.
+-- A frame that goes out: the filter that lets it out, and how it is counted. Ours.
 use Rattle.std.specs.Prelude.{◌≡◌, ◌≤◌, ℕ, List, ◌∷◌, length, take, true, Option, Some, option_and_then, Contains}
 use Rattle.ark_filters.specs.In.{is_in}
 use Rattle.ark_filters.specs.declared.filter.Direction.TheVariants as direction

@@ -1,4 +1,4 @@
--- The grants of blocks that are held at one time: no block is in two of them.
+-- The grants of blocks that are held at one time: no block is in two of them. Ours.
 use Rattle.std.specs.Prelude.{◌≡◌, ℕ, Bool, true, false, List, [], ◌∷◌, ◌==◌}
 use Rattle.std.specs.List.{list_any}
 use Rattle.ark_table.specs.Slots.{Slot}

@@ -1,4 +1,4 @@
--- What a stop leaves of every grant: the table, each log and queue, and each block of a raw area.
+-- What a stop leaves of every grant: the table, each log and queue, and each block of a raw area. Ours.
 use Rattle.std.specs.Prelude.{◌≡◌, ◌⊎◌, ℕ, Bool, false, ◌||◌, List, [], ◌∷◌, ◌++◌, slice_get, slice_index_or, ◌==◌, if◌then◌else◌, Option, Some, None, option_map, option_and_then, unwrap_or, Ok, Err, Contains, Any}
 use Rattle.std.specs.List.{list_any}
 use Rattle.ark_base.specs.declared.kind.Kind.{Kind}

@@ -1,4 +1,4 @@
--- Frames that go out, and the rates that queues keep.
+-- Frames that go out, and the rates that queues keep. Ours.
 use Rattle.std.specs.Prelude.{◌≡◌, ℕ, List, [], ◌∷◌, ◌++◌, IsTrue, Option, Some, None, option_and_then, Ok}
 use Rattle.std.specs.List.{AllByRecursion}
 use Rattle.ark_media.specs.Journal.{Event, Read, Write, Sync, Out}

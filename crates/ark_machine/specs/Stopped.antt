@@ -1,4 +1,4 @@
--- What a stop of a run leaves of every grant.
+-- What a stop of a run leaves of every grant. Ours.
 use Rattle.std.specs.Prelude.{ℕ, List, [], ◌∷◌, length, slice_get, Option, None}
 use Rattle.ark_media.specs.Journal.{Event, device_events}
 use Rattle.ark_script.specs.Lines.{Meaning}

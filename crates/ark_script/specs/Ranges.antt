@@ -1,4 +1,4 @@
--- The ranges of what a line asks for.
+-- The ranges of what a line asks for. Ours.
 use Rattle.std.specs.Prelude.{◌≡◌, ℕ, ◌-◌, ◌^◌, ◌≤◌, true, length, Some, None}
 use Rattle.ark_filters.specs.Filter.{Counted}
 use Rattle.ark_script.specs.Arguments.{fewest_blocks, is_size}

@@ -1,4 +1,4 @@
--- What contracts see of a reply.
+-- What contracts see of a reply. Ours.
 use Rattle.std.specs.Prelude.{ℕ, List, take}
 use Rattle.ark_script.specs.declared.said.Said.{Said}
 
