@@ -1,6 +1,7 @@
 -- The frame law: what an object's label stands for stays, where what the object names and has stays.
 use Rattle.std.proofs.Common.{◌≡◌, ℕ, zero, suc, ◌+◌, ◌<◌, ◌≤◌, Bool, true, List, [], ◌∷◌, length, get_or, refl, sym, ◌∙◌, ap, subst, arith}
-use Rattle.std.specs.Prelude.{Option, Some, None, option_map, option_and_then, slice_get}
+use Rattle.std.specs.Prelude.{Option, Some, None, option_map, option_and_then, slice_get, slice_range}
+use Rattle.std.specs.List.{AllByRecursion}
 use Rattle.ark_base.specs.declared.kind.Outcome.{Outcome}
 use Rattle.ark_media.specs.Journal.{History, block, current}
 use Rattle.ark_entry.specs.Found.{found_of}
@@ -11,18 +12,19 @@ use Rattle.ark_caps.specs.declared.capability.Capability.{Capability}
 use Rattle.ark_region.specs.Frames.{Piece, Lies, frames_of}
 use Rattle.ark_vic.specs.declared.descriptor.Descriptor.{Descriptor}
 use Rattle.ark_vic.specs.declared.descriptor.Completion.{Completion}
-use Rattle.ark_caladan.specs.Chain.{Log, Opened, Waiting}
+use Rattle.ark_caladan.specs.Chain.{Log, Opened, Waiting, Command, append, trim, pop}
+use Rattle.ark_machine.specs.Bytes.{Frames}
 use Rattle.ark_machine.specs.Objects
 use Rattle.ark_machine.specs.Objects.{Object, Raw, Vsic, Vnic, Job, transfer, flush, phase, Place, named as in_buffer, taken, Paced, Buffer}
 use Rattle.ark_machine.specs.Machine.{Held}
 use Rattle.ark_machine.specs.Start.{view}
-use Rattle.ark_held.specs.Kept.{BufferKept, PaceKept, CardKept, ChainKept, WaitingKept}
+use Rattle.ark_held.specs.Kept.{BufferKept, PaceKept, CardKept, ChainKept, CommandKept, appends, trims, pops, WaitingKept}
 use Rattle.ark_held.specs.Around.{Around, Names, IsGranted, Both, piece_of}
-use Rattle.ark_held.specs.Areas.{IsRaw, IsListed, IsOpened, IsWaiting}
+use Rattle.ark_held.specs.Areas.{frames_piece, IsRoom, IsRooms, entry_head, HoldsPayload, IsCommand, IsRaw, IsListed, IsOpened, IsWaiting}
 use Rattle.ark_held.specs.Cards.{HasBuffer, IsPaced, IsWatched, IsJob, IsEnded}
 use Rattle.ark_held.specs.Network.{IsPlace, IsReceiving, IsReceived, IsSending, IsSent}
 use Rattle.ark_held.specs.Held.{Fits, Matches}
-use Rattle.ark_held.specs.Keeps.{SameAt, Keeps, JobWithin, PlaceWithin, PacedWithin, LabelWithin, OpenedWithin, Within}
+use Rattle.ark_held.specs.Keeps.{SameAt, Keeps, JobWithin, PlaceWithin, PacedWithin, LabelWithin, RoomWithin, OpenedWithin, Within}
 use Rattle.ark_held.proofs.Lists.{each_kept, each_all}
 
 -- Areas.
@@ -134,20 +136,44 @@ module _ (same named : List ℕ → Bool) (rests : Piece → Bool) (x y : Around
 
   -- Open logs.
 
-  waiting_kept : (a : WaitingKept) (b : Waiting) → IsWaiting x a b → IsWaiting y a b
-  waiting_kept a b is = record { command = is.command; room = is.room; lies = λ e there. lies_kept e.piece (is.lies e there) }
+  room_kept : (b : BufferKept) (f : Frames) → IsRoom x b f → IsRoom y b f
+  room_kept b f is = record { piece = is.piece; lies = lies_kept (frames_piece f) is.lies }
+
+  rooms_kept : (b : Option BufferKept) (fs : List Frames) → IsRooms x b fs → IsRooms y b fs
+  rooms_kept None [] is = tt
+  rooms_kept (Some b) (f ∷ []) is = room_kept b f is
+  rooms_kept None (f ∷ fs) is = absurd is
+  rooms_kept (Some b) [] is = absurd is
+  rooms_kept (Some b) (f ∷ g ∷ fs) is = absurd is
+
+  payload_kept : (fs : List Frames) (payload : List ℕ) → AllByRecursion (RoomWithin named rests) fs → HoldsPayload x fs payload → HoldsPayload y fs payload
+  payload_kept [] payload w is = absurd is
+  payload_kept (f ∷ fs) payload w is = ap (λ (bs : List ℕ). slice_range bs entry_head (entry_head + length payload)) (k.bytes (frames_piece f) w.0) ∙ is
+
+  command_kept : (fs : List Frames) (a : CommandKept) (b : Command) → AllByRecursion (RoomWithin named rests) fs → IsCommand x fs a b → IsCommand y fs a b
+  command_kept fs (appends n) (append m payload) w is = (is.0, payload_kept fs payload w is.1)
+  command_kept fs (trims n) (trim m) w is = is
+  command_kept fs (pops n) (pop m) w is = is
+  command_kept fs (appends n) (trim m) w is = absurd is
+  command_kept fs (appends n) (pop m) w is = absurd is
+  command_kept fs (trims n) (append m payload) w is = absurd is
+  command_kept fs (trims n) (pop m) w is = absurd is
+  command_kept fs (pops n) (append m payload) w is = absurd is
+  command_kept fs (pops n) (trim m) w is = absurd is
+
+  waiting_kept : (a : WaitingKept) (b : Waiting) → AllByRecursion (RoomWithin named rests) b.room → IsWaiting x a b → IsWaiting y a b
+  waiting_kept a b w is = record { room = rooms_kept a.room b.room is.room; command = command_kept b.room a.command b.command w is.command }
 
   opened_kept : (grant : ℕ) (a : Option ChainKept) (o : Option Opened) → OpenedWithin named rests o → Both (IsOpened x grant) a o → Both (IsOpened y grant) a o
   opened_kept grant None None w b = tt
   opened_kept grant (Some a) (Some o) w b = record {
-    card = names_kept o.card cap_kind.Vsic a.card w b.card;
+    card = names_kept o.card cap_kind.Vsic a.card w.0 b.card;
     on = subst (λ (t : ℕ). option_and_then (λ (c : CardKept). c.log) (y.tables.cards t) ≡ Some grant) b.card.its_key
-        (k.logs o.card b.card.cap w b.card.there b.card.its_kind
+        (k.logs o.card b.card.cap w.0 b.card.there b.card.its_kind
         ∙ subst (λ (t : ℕ). option_and_then (λ (c : CardKept). c.log) (x.tables.cards t) ≡ Some grant) (sym b.card.its_key) b.on);
     failed = b.failed;
-    header = b.header;
-    lies = lies_kept a.header.piece b.lies;
-    waiting = each_all (IsWaiting x) (IsWaiting y) waiting_kept a.waiting o.waiting b.waiting;
+    header = room_kept a.header (o.header, 1) b.header;
+    waiting = each_kept (IsWaiting x) (IsWaiting y) (λ (e : Waiting). AllByRecursion (RoomWithin named rests) e.room) waiting_kept a.waiting o.waiting w.1 b.waiting;
     done = b.done;
   }
   opened_kept grant None (Some o) w b = absurd b

@@ -5,18 +5,22 @@ use Rattle.std.specs.List.{AllByRecursion}
 use Rattle.ark_caps.specs.Labels.{value_at}
 use Rattle.ark_caps.specs.declared.capability.Capability.{Capability}
 use Rattle.ark_region.specs.Frames.{Piece}
-use Rattle.ark_caladan.specs.Chain.{Opened}
+use Rattle.ark_caladan.specs.Chain.{Opened, Waiting}
 use Rattle.ark_machine.specs.Objects
 use Rattle.ark_machine.specs.Objects.{Object, Job, transfer, flush, phase, Place, named as in_buffer, taken, Paced}
 use Rattle.ark_machine.specs.Machine.{Held}
 use Rattle.ark_held.specs.Words.{Labels}
 use Rattle.ark_held.specs.Around.{Around}
 use Rattle.ark_held.specs.Held.{AllMatch, AreApart}
-use Rattle.ark_held.specs.Keeps.{Keeps, JobWithin, PlaceWithin, PacedWithin, LabelWithin, OpenedWithin, Within, AllStay, any_label, any_piece}
+use Rattle.ark_held.specs.Keeps.{Keeps, JobWithin, PlaceWithin, PacedWithin, LabelWithin, RoomWithin, OpenedWithin, Within, AllStay, any_label, any_piece}
 use Rattle.ark_held.proofs.Lists.{value_first, value_behind}
 use Rattle.ark_held.proofs.Keeping.{matches_kept}
 
 -- Where every label and every place passes, all that an object names and has does.
+
+all_of : {X : Type 0} (P : X → Type 0) → ((x : X) → P x) → (xs : List X) → AllByRecursion P xs
+all_of P f [] = tt
+all_of P f (x ∷ xs) = (f x, all_of P f xs)
 
 job_within : (j : Job) → JobWithin any_label any_piece j
 job_within (transfer t) = refl
@@ -37,11 +41,7 @@ label_within (Some l) = refl
 
 opened_within : (o : Option Opened) → OpenedWithin any_label any_piece o
 opened_within None = tt
-opened_within (Some o) = refl
-
-all_of : {X : Type 0} (P : X → Type 0) → ((x : X) → P x) → (xs : List X) → AllByRecursion P xs
-all_of P f [] = tt
-all_of P f (x ∷ xs) = (f x, all_of P f xs)
+opened_within (Some o) = (refl, all_of (λ (w : Waiting). AllByRecursion (RoomWithin any_label any_piece) w.room) (λ w. all_of (RoomWithin any_label any_piece) (λ f. refl) w.room) o.waiting)
 
 pub within : (o : Object) → Within any_label any_piece o
 within (Objects.raw r) = tt

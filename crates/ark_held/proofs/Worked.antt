@@ -1,7 +1,7 @@
 -- Objects of every kind that labels stand for: an application with a raw area, a buffer that a descriptor of its storage card has,
 -- a rate and a door for that card, an open log on another card, and a network card with a filter and a socket.
-use Rattle.std.proofs.Common.{◌≡◌, ℕ, zero, suc, true, false, List, [], ◌∷◌, map, replicate, refl, subst, arith, lit≤, inl}
-use Rattle.std.specs.Prelude.{Option, Some, None, unwrap_or}
+use Rattle.std.proofs.Common.{◌≡◌, ℕ, zero, suc, true, false, List, [], ◌∷◌, map, replicate, refl, arith, lit≤, inl}
+use Rattle.std.specs.Prelude.{Option, Some, None}
 use Rattle.std.specs.List.{range_with_len}
 use Rattle.ark_base.specs.declared.kind.Kind.TheVariants as kind
 use Rattle.ark_media.specs.Journal.{History, zero_block}
@@ -13,7 +13,7 @@ use Rattle.ark_filters.specs.declared.filter.Proto.TheVariants as proto
 use Rattle.ark_caps.specs.declared.capability.CapKind.{CapKind}
 use Rattle.ark_caps.specs.declared.capability.CapKind.TheVariants as cap_kind
 use Rattle.ark_caps.specs.declared.capability.Capability.{Capability}
-use Rattle.ark_region.specs.Frames.{Piece, Lies}
+use Rattle.ark_region.specs.Frames.{Piece}
 use Rattle.ark_vic.specs.Pace.{Pace, StandsFor}
 use Rattle.ark_vic.specs.declared.descriptor.Descriptor.{Descriptor}
 use Rattle.ark_vic.specs.declared.descriptor.Job.TheVariants as vic
@@ -23,7 +23,7 @@ use Rattle.ark_machine.specs.Objects.{Object, Raw, Vsic, Vnic, Buffer, Socket, t
 use Rattle.ark_machine.specs.Machine.{Machine, Held}
 use Rattle.ark_held.specs.Words.{Labels, area_in}
 use Rattle.ark_held.specs.Totals.{cover_count}
-use Rattle.ark_held.specs.Kept.{BufferKept, CardKept, NetKept, ChainKept, Tables}
+use Rattle.ark_held.specs.Kept.{CardKept, NetKept, ChainKept, appends, Tables}
 use Rattle.ark_held.specs.Around.{Around}
 use Rattle.ark_held.specs.Cards.{IsBuffer, IsCard, IsRate, IsDoor}
 use Rattle.ark_held.specs.Network.{IsNet, IsRule, IsSocket}
@@ -132,7 +132,7 @@ chain_kept = record {
   card = 1;
   failed = false;
   header = record { piece = piece 1 512; buf = Some (piece 1 512) };
-  waiting = (record { command = append 1 []; room = Some (record { piece = piece 2 512; buf = None }) }) ∷ [];
+  waiting = (record { command = appends 1; room = Some (record { piece = piece 2 512; buf = None }) }) ∷ [];
   done = 2;
 }
 
@@ -293,16 +293,12 @@ a_log = record {
     card = record { cap = cap cap_kind.Vsic 6 1; there = refl; its_kind = refl; its_key = refl };
     on = refl;
     failed = refl;
-    header = refl;
-    lies = lit≤ tt;
-    waiting = (record { command = refl; room = refl; lies = λ b is. inside b is }, tt);
+    header = record { piece = refl; lies = lit≤ tt };
+    waiting = (record { room = record { piece = refl; lies = lit≤ tt }; command = (refl, refl) }, tt);
     done = refl;
   };
   listed = record { now = λ h told. none_told h told; left = λ h told. none_told h told };
 }
-  where
-    inside : (b : BufferKept) → Some (record { piece = piece 2 512; buf = None }) ≡ Some b → Lies tables.memory.taken b.piece
-    inside b is = subst (λ (o : Option BufferKept). Lies tables.memory.taken (unwrap_or o (record { piece = piece 2 512; buf = None })).piece) is (lit≤ tt)
 
 a_log_card : IsCard x log_card (cap cap_kind.Vsic 6 1) log_vsic
 a_log_card = record {

@@ -1,5 +1,5 @@
 -- What areas of blocks stand for. Ours.
-use Rattle.std.specs.Prelude.{◌≡◌, ℕ, ◌<◌, List, [], ◌∷◌, length, nat_eq, get_or, Option, Some, None, option_and_then, Contains}
+use Rattle.std.specs.Prelude.{◌≡◌, ℕ, ◌+◌, ◌*◌, ◌<◌, List, [], ◌∷◌, length, nat_eq, get_or, slice_range, Option, Some, None, option_and_then, Contains}
 use Rattle.std.specs.Map.{lookup}
 use Rattle.ark_base.specs.declared.kind.Kind.TheVariants as kind
 use Rattle.ark_media.specs.Journal.{History, block, current}
@@ -8,12 +8,13 @@ use Rattle.ark_table.specs.Slots.{Slot}
 use Rattle.ark_entry.specs.Found.{found_of}
 use Rattle.ark_caps.specs.declared.capability.CapKind.TheVariants as cap_kind
 use Rattle.ark_caps.specs.declared.capability.Capability.{Capability}
-use Rattle.ark_region.specs.Frames.{Lies, frames_of}
-use Rattle.ark_caladan.specs.Chain.{Log, Opened, Waiting, stored, lists}
+use Rattle.ark_region.specs.Frames.{Piece, Lies, bytes_of}
+use Rattle.ark_caladan.specs.Chain.{Log, Opened, Waiting, Command, append, trim, pop, stored, lists}
 use Rattle.ark_machine.specs.Objects.{Raw}
+use Rattle.ark_machine.specs.Bytes.{Frames}
 use Rattle.ark_machine.specs.Start.{view}
 use Rattle.ark_held.specs.Words.{area_in}
-use Rattle.ark_held.specs.Kept.{BufferKept, ChainKept, WaitingKept}
+use Rattle.ark_held.specs.Kept.{BufferKept, ChainKept, CommandKept, appends, trims, pops, WaitingKept}
 use Rattle.ark_held.specs.Around.{Around, slot_at, Names, Each, Both}
 
 -- a stop may leave this of a block
@@ -48,24 +49,47 @@ pub record IsListed (told : Option History) (blocks : List ℕ) (g : Log) : Type
   pub now : (h : History) → told ≡ Some h → found_of g.kind (view (current h.base h.journal) blocks) ≡ stored g
   pub left : (h : History) → told ≡ Some h → (contents : List (List ℕ)) → MayShow h blocks contents → Contains (lists g) (found_of g.kind contents)
 
--- the frames of a command's buffer, if it has one
-abbrev pub room_of : Option BufferKept → List (ℕ × ℕ)
-room_of None = []
-room_of (Some b) = (b.piece.start, frames_of b.piece.len) ∷ []
+-- the bytes of so many frames
+abbrev pub frames_piece : Frames → Piece
+frames_piece f = record { start = f.0; len = 512 * f.1 }
+
+-- a buffer has these frames of the region
+pub record IsRoom (x : Around) (b : BufferKept) (f : Frames) : Type 0 where
+  pub piece : b.piece ≡ frames_piece f
+  pub lies : Lies x.tables.memory.taken (frames_piece f)
+
+-- the buffer of a command, as the frames that it takes
+abbrev pub IsRooms : Around → Option BufferKept → List Frames → Type 0
+IsRooms x None [] = Unit {0}
+IsRooms x (Some b) (f ∷ []) = IsRoom x b f
+IsRooms x _ _ = ⊥
+
+-- an entry has so many bytes before its payload
+abbrev pub entry_head : ℕ
+entry_head = 20
+
+-- the payload of an entry stands in these frames, behind the entry's head
+abbrev pub HoldsPayload : Around → List Frames → List ℕ → Type 0
+HoldsPayload x [] payload = ⊥
+HoldsPayload x (f ∷ fs) payload = slice_range (bytes_of x.tables.memory (frames_piece f)) entry_head (entry_head + length payload) ≡ payload
+
+abbrev pub IsCommand : Around → List Frames → CommandKept → Command → Type 0
+IsCommand x room (appends n) (append m payload) = (n ≡ m) × HoldsPayload x room payload
+IsCommand x room (trims n) (trim m) = n ≡ m
+IsCommand x room (pops n) (pop m) = n ≡ m
+IsCommand x room _ _ = ⊥
 
 -- a command that waits
 pub record IsWaiting (x : Around) (k : WaitingKept) (w : Waiting) : Type 0 where
-  pub command : k.command ≡ w.command
-  pub room : room_of k.room ≡ w.room
-  pub lies : (b : BufferKept) → k.room ≡ Some b → Lies x.tables.memory.taken b.piece
+  pub room : IsRooms x k.room w.room
+  pub command : IsCommand x w.room k.command w.command
 
 -- the log of this grant as it is open on its card
 pub record IsOpened (x : Around) (grant : ℕ) (k : ChainKept) (o : Opened) : Type 0 where
   pub card : Names x o.card cap_kind.Vsic k.card
   pub on : option_and_then (λ card. card.log) (x.tables.cards k.card) ≡ Some grant
   pub failed : k.failed ≡ o.failed
-  pub header : k.header.piece ≡ record { start = o.header; len = 512 }
-  pub lies : Lies x.tables.memory.taken k.header.piece
+  pub header : IsRoom x k.header (o.header, 1)
   pub waiting : Each (IsWaiting x) k.waiting o.waiting
   pub done : k.done ≡ o.done
 

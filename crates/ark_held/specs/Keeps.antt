@@ -10,13 +10,14 @@ use Rattle.ark_caps.specs.declared.capability.CapKind.TheVariants as cap_kind
 use Rattle.ark_caps.specs.declared.capability.Capability.{Capability}
 use Rattle.ark_region.specs.Frames.{Piece, bytes_of}
 use Rattle.ark_caladan.specs.Chain.{Opened}
+use Rattle.ark_machine.specs.Bytes.{Frames}
 use Rattle.ark_machine.specs.Objects
 use Rattle.ark_machine.specs.Objects.{Object, Job, transfer, flush, phase, Place, named, taken, Paced}
 use Rattle.ark_machine.specs.Machine.{Held}
 use Rattle.ark_held.specs.Words.{Labels}
 use Rattle.ark_held.specs.Totals.{lent_count, open_count, socket_count}
 use Rattle.ark_held.specs.Around.{Around, slot_at, piece_of}
-use Rattle.ark_held.specs.Areas.{MayStand}
+use Rattle.ark_held.specs.Areas.{MayStand, frames_piece}
 use Rattle.ark_held.specs.Beside.{AreBeside}
 
 -- where the image is told after, it was told before: these blocks are the same, and a stop may leave no more of them
@@ -74,9 +75,12 @@ module _ (named : List ℕ → Bool) (rests : Piece → Bool) where
   LabelWithin None = Unit {0}
   LabelWithin (Some l) = named l ≡ true
 
+  abbrev pub RoomWithin : Frames → Type 0
+  RoomWithin f = rests (frames_piece f) ≡ true
+
   abbrev pub OpenedWithin : Option Opened → Type 0
   OpenedWithin None = Unit {0}
-  OpenedWithin (Some o) = named o.card ≡ true
+  OpenedWithin (Some o) = (named o.card ≡ true) × AllByRecursion (λ w. AllByRecursion RoomWithin w.room) o.waiting
 
   abbrev pub Within : Object → Type 0
   Within (Objects.raw r) = Unit {0}

@@ -5,7 +5,6 @@ use Rattle.ark_region.specs.Frames.{Piece, Space}
 use Rattle.ark_vic.specs.Pace.{Pace}
 use Rattle.ark_vic.specs.Queue.{Queue}
 use Rattle.ark_vic.specs.declared.door.Counts.{Counts}
-use Rattle.ark_caladan.specs.Chain.{Command}
 use Rattle.ark_machine.specs.Objects.{Datagram}
 
 -- a buffer: where it lies, and the right to it unless a descriptor has that
@@ -43,9 +42,15 @@ pub record SocketKept : Type 0 where
   pub port : ℕ
   pub datagrams : List Datagram
 
--- a command that waits, and its buffer if it takes one
+-- a command by its number: of the entry that it adds, the first that stays, or the entry that it drops
+pub data CommandKept : Type 0 where
+  appends : ℕ → CommandKept
+  trims : ℕ → CommandKept
+  pops : ℕ → CommandKept
+
+-- a command that waits, and its buffer if it takes one; an entry to be added stands in the buffer
 pub record WaitingKept : Type 0 where
-  pub command : Command
+  pub command : CommandKept
   pub room : Option BufferKept
 
 -- an open log: the key of its card, whether it has failed, its header's buffer, the commands that wait, and how many phases

@@ -70,7 +70,7 @@ free_after p t n is =
     ∙ ap (λ (taken : List ℕ). without taken (free_blocks p)) is
     ∙ without_first n (free_blocks p) 129 (rising (λ k. not (is_granted p.slots k)) 129 (p.size - 129))
 
-eq_same : (n : ℕ) → (n == n) ≡ true
+pub eq_same : (n : ℕ) → (n == n) ≡ true
 eq_same n = grind (arith, nat_tests)
 
 -- a block of a slot is not free

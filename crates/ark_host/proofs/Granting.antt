@@ -25,6 +25,8 @@ use Rattle.ark_machine.specs.Areas as areas
 use Rattle.ark_machine.specs.Row.{answer}
 use Rattle.ark_machine.specs.Plane.{Plane, free_blocks, max_slots, max_runs}
 use Rattle.ark_machine.specs.Granting.{new_slot}
+use Rattle.ark_machine.specs.Grants.{GrantsApart}
+use Rattle.ark_machine.proofs.Grants.{apart_more, free_index, lowest_free}
 use Rattle.ark_machine.specs.System.{System, machine_of}
 use Rattle.ark_machine.specs.Follow.{ended}
 use Rattle.ark_caps.specs.declared.capability.Capability.{Capability}
@@ -39,10 +41,10 @@ use Rattle.ark_held.proofs.Granted.{granted, slot_other}
 use Rattle.ark_held.specs.declared.app.App.{App}
 use Rattle.ark_held.specs.declared.areas.Area.{Area}
 use Rattle.ark_host.specs.declared.host.Host.{Host}
-use Rattle.ark_host.specs.Stands.{Stands, Turned, IsHeld, AreApart, AreInside, around, tables_of, app_of, vsa_row}
+use Rattle.ark_host.specs.Stands.{Stands, Turned, IsHeld, AreInside, around, tables_of, app_of, vsa_row}
 use Rattle.ark_host.proofs.Machines.{by_test}
 use Rattle.ark_host.proofs.Lists.{get_there, found_set, map_set, contains_in, in_contains, in_take, in_drop}
-use Rattle.ark_host.proofs.Freeing.{free_after, granted_not_free, free_inside}
+use Rattle.ark_host.proofs.Freeing.{free_after, free_inside}
 use Rattle.ark_host.proofs.Standing.{refused}
 use Rattle.ark_host.proofs.Setting.{with_set, set_apps, set_now, set_here}
 use Rattle.ark_host.proofs.Apps.{held_there}
@@ -191,12 +193,8 @@ module _ (host : Host) (told : Told) (s : System) (a l : List ℕ) (n : ℕ) (st
                   (subst (λ (z : List ℕ). Contains (zero_block ∷ []) z) (sym ((st.zero h is (get_or slot.blocks k 0) (block_free k lt)).1 c left)) (in_contains (zero_block ∷ []) zero_block (inl refl)));
             }
 
-            all_apart : AreApart plane.slots
-            all_apart = λ t u k a b c d. ⊎_elim
-                (λ old_t. ⊎_elim (λ old_u. st.apart t u k old_t old_u c d)
-                (λ new_u. absurd (granted_not_free s.plane t k old_t c (is_free k (subst (λ (v : Slot). Contains v.blocks k) (sym new_u) d)))) (Contains-push_cases s.plane.slots slot u b))
-                (λ new_t. ⊎_elim (λ old_u. absurd (granted_not_free s.plane u k old_u d (is_free k (subst (λ (v : Slot). Contains v.blocks k) (sym new_t) c))))
-                (λ new_u. sym new_t ∙ new_u) (Contains-push_cases s.plane.slots slot u b)) (Contains-push_cases s.plane.slots slot t a)
+            all_apart : GrantsApart plane
+            all_apart = apart_more s.plane.slots slot st.apart (free_index s.plane max_slots refl (subst (λ (k : ℕ). k < max_slots) (sym st.slots) few)) (λ k has. lowest_free s.plane n k has)
 
             all_inside : AreInside told.blocks plane.slots
             all_inside = λ t k has block. ⊎_elim (λ old. st.inside t k old block)

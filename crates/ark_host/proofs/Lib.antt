@@ -1,6 +1,7 @@
 pub mod Machines
 pub mod Lists
 pub mod Freeing
+pub mod Sharing
 pub mod Standing
 pub mod Setting
 pub mod Ticking

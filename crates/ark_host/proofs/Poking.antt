@@ -31,6 +31,7 @@ use Rattle.ark_host.specs.declared.host.Host.{Host}
 use Rattle.ark_host.specs.Stands.{Stands, Turned, AtApp, IsHeld, around, app_of, poke_row, given_of}
 use Rattle.ark_host.specs.Finds.{IsBlock, HasNone}
 use Rattle.ark_host.proofs.Freeing.{granted_not_free}
+use Rattle.ark_host.proofs.Sharing.{one_slot}
 use Rattle.ark_host.proofs.Peeking.{le_true, at_block, off_inside}
 use Rattle.ark_host.proofs.Standing.{refused, slot_names, slot_based, free_based, based_then, zero_then}
 use Rattle.ark_host.proofs.Setting.{with_set, set_apps, set_now, set_here}
@@ -105,7 +106,7 @@ module _ (host : Host) (old new : Told) (s : System) (a l : List ℕ) (off n : �
       let its = slot_names s.plane.slots e k u found in
       same_beside old.history new.history (Write n c took ok ∷ []) u.blocks adds
       (λ h told m has. let was = adds.told h told in slot_based host old s st (record { base = h.base; journal = was.0 }) was.1 u m its.0 has) (
-        λ has. let same = st.apart b.area.slot u n mine.0 its.0 block_in has in
+        λ has. let same = one_slot s.plane.slots b.area.slot u n st.apart mine.0 its.0 block_in has in
             apart (its.1 ∙ ap (λ (v : Slot). v.app) (sym same) ∙ sym mine.1) (its.2 ∙ ap (λ (v : Slot). v.label) (sym same) ∙ sym mine.2),
         tt,
       )

@@ -16,6 +16,7 @@ use Rattle.ark_machine.specs.Control as control
 use Rattle.ark_machine.specs.Areas as areas
 use Rattle.ark_machine.specs.Step.{usual_frames}
 use Rattle.ark_machine.specs.Plane.{recorded, slot_of, free_blocks}
+use Rattle.ark_machine.specs.Grants.{GrantsApart}
 use Rattle.ark_machine.specs.System.{System, Turn, machine_of, own_turn}
 use Rattle.ark_machine.specs.Built.{turn, calls_so_far}
 use Rattle.ark_machine.specs.Follow.{Follow, Performs, ends_of}
@@ -36,10 +37,6 @@ IsZero told blocks = (h : History) → told.history ≡ Some h → (n : ℕ) →
 -- where the history is told, its base has the blocks of the device
 abbrev pub IsBased : Told → Type 0
 IsBased told = (h : History) → told.history ≡ Some h → length h.base ≡ told.blocks
-
--- a block has one slot
-abbrev pub AreApart : List Slot → Type 0
-AreApart slots = (t u : Slot) (n : ℕ) → Contains slots t → Contains slots u → Contains t.blocks n → Contains u.blocks n → t ≡ u
 
 -- the device has each block of a slot
 abbrev pub AreInside : ℕ → List Slot → Type 0
@@ -106,7 +103,7 @@ pub record Stands (host : Host) (told : Told) (s : System) : Type 0 where
   pub free : free_blocks s.plane ≡ host.free
   pub settled : s.plane.failed ≡ false
   pub unsettled : s.plane.unsettled ≡ None
-  pub apart : AreApart s.plane.slots
+  pub apart : GrantsApart s.plane
   pub inside : AreInside told.blocks s.plane.slots
   pub zero : IsZero told host.free
   pub now : s.now ≡ host.clock

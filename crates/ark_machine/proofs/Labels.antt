@@ -20,7 +20,7 @@ use Rattle.ark_machine.specs.Plane.{Plane, Change, recorded}
 use Rattle.ark_machine.specs.Granting.{after_refusal, change_of}
 use Rattle.ark_machine.specs.Step.{step}
 use Rattle.ark_machine.specs.System.{System, machine_of, set_machine, owner, line_turn}
-use Rattle.ark_machine.specs.Refused.{is_told_late, is_of_sending, reaps_first, may_leave, may_fault, gives_up, labels}
+use Rattle.ark_machine.specs.Refused.{is_told_late, is_of_sending, reaps_first, may_fault, gives_up, labels}
 use Rattle.ark_machine.proofs.Answering.{may_begin}
 use Rattle.ark_machine.proofs.Damaged.{damaged_left}
 use Rattle.ark_machine.proofs.Early.{same_refusal}

@@ -8,7 +8,7 @@ use Rattle.ark_script.specs.Line as w
 use Rattle.ark_machine.specs.Bytes.{padded}
 use Rattle.ark_machine.specs.Objects.{Raw}
 use Rattle.ark_machine.specs.Machine.{object_at, raw_at}
-use Rattle.ark_machine.specs.Row.{Ended, Call, syncs, zeroes_new, writes_slot, answer}
+use Rattle.ark_machine.specs.Row.{Ended, answer}
 use Rattle.ark_machine.specs.Areas.{raw_written}
 use Rattle.ark_machine.specs.Step.{step}
 use Rattle.ark_machine.specs.System.{System, fresh_system, machine_of, line_turn}
