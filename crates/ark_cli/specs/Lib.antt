@@ -4,7 +4,5 @@ pub mod Cut
 pub mod Session
 pub mod Opening
 pub mod Ending
-pub mod Work
-pub mod Report
 pub mod Attached
 pub mod Complete

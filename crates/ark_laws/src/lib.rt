@@ -1,0 +1,10 @@
+//! Laws of what the control plane means: each is the contract of a function that does nothing.
+#![tactic(auto)]
+
+mod effects;
+mod laws;
+
+pub use effects::{area_laws, failure_laws, frame_laws, stop_laws};
+pub use laws::{
+    confinement_laws, fault_laws, grant_laws, order_laws, privacy_laws, refusal_laws, run_laws,
+};

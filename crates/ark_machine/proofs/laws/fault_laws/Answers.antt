@@ -1,6 +1,0 @@
-use Rattle.ark_machine.proofs.Damaged.{damaged_unchanged}
-use Rattle.ark_machine.proofs.Faults.{gain_refused, gain_no_slot, drop_refused, look_refused}
-use Rattle.ark_machine.proofs.laws.fault_laws.Goals as goal
-
-pub returns : goal.returns
-returns c = record { no_gain = gain_refused; damaged = damaged_unchanged; no_slot = gain_no_slot; given_up = drop_refused; looked = look_refused }

@@ -1,0 +1,5 @@
+pub mod WorkedReport
+pub mod WorkedRuns
+pub mod WorkedScript
+pub mod WorkedUsage
+pub mod WorkedWork

@@ -1,0 +1,211 @@
+-- Whole runs on a new device, worked out: words, script, events, output and status.
+use Rattle.std.specs.Fmt.{digits}
+use Rattle.std.proofs.Common.{◌≡◌, ℕ, ◌≤◌, true, false, List, [], ◌∷◌, ◌++◌, length, codes, refl, sym, ◌∙◌, ap, append-nil, inl, inr, arith, lit≤, Ok}
+use Rattle.std.specs.Prelude.{Some, None}
+use Rattle.ark_base.specs.declared.status.Status.{Status}
+use Rattle.ark_base.specs.declared.status.Status.TheVariants.{Done, Source, Sink, Long}
+use Rattle.ark_base.specs.Status.{code_of}
+use Rattle.ark_media.specs.Journal.{Event, Write, Sync, Out, fresh, onto, output_of, device_events}
+use Rattle.ark_media.specs.Calls.{Told, Beside, Script}
+use Rattle.ark_media.specs.Parts.{parts, joined, IsWhole, IsUnfinished}
+use Rattle.ark_script.specs.Line as w
+use Rattle.ark_script.specs.Lines.{Meaning, Says, lines_of}
+use Rattle.ark_table.specs.Superblock.{superblock}
+use Rattle.ark_machine.specs.Row.{answer}
+use Rattle.ark_machine.specs.Step.{step}
+use Rattle.ark_machine.specs.System.{fresh_system}
+use Rattle.ark_machine.specs.Follow.{ended}
+use Rattle.ark_machine.specs.Replies.{Replies, system_after}
+use Rattle.ark_machine.proofs.Fronts.{recovers_of}
+use Rattle.ark_laws.proofs.Confining.{confined_of}
+use Rattle.ark_cli.proofs.Stops.{no_slots, none_each, open_fronts}
+use Rattle.ark_cli.specs.Words.{IsRun}
+use Rattle.ark_cli.specs.Line.{limit}
+use Rattle.ark_cli.specs.Opening.{SinceMake, IsOpening}
+use Rattle.ark_cli.specs.Cut.{CutReplies}
+use Rattle.ark_cli.specs.Ending.{RecoversAtFronts, PutsLine, Closes, HasRun, Ends, IsClosed, Does, runs}
+
+abbrev pub line : List ℕ → List ℕ
+line words = words ++ 10 ∷ []
+
+-- what is told after these events on a new device of 200 blocks
+abbrev pub told_of : List Event → Told
+told_of events = record { history = Some (record { base = (fresh 200).base; journal = onto events [] }); blocks = 200; faults = 0 }
+
+-- and beside it: bytes of the script, how often a fetch failed, and how often a put
+abbrev pub beside_of : List ℕ → List ℕ → ℕ → ℕ → Beside
+beside_of taken left source sink = record { script = Some (record { taken = taken; left = left }); attach_faults = 0; source_faults = source; sink_faults = sink }
+
+pub some_is : {A : Type 0} (x y : A) → Some x ≡ Some y → x ≡ y
+some_is x y e = cc
+
+since_run : (events : List Event) (taken left : List ℕ) (source sink : ℕ) → SinceMake 200 events taken (told_of events) (beside_of [] (taken ++ left) 0 0) (beside_of taken left source sink)
+since_run events taken left source sink = record {
+  begins = λ h is. sym (some_is (record { base = (fresh 200).base; journal = onto events [] }) h is);
+  blocks = refl;
+  takes = record {
+    told = λ s is.
+        let same : ◌≡◌ {A = Script} (record { taken = taken; left = left }) s = some_is (record { taken = taken; left = left }) s is in
+        (record { taken = []; left = taken ++ left }, refl, ap (λ (x : Script). x.taken) (sym same), ap (λ (x : Script). taken ++ x.left) same);
+  };
+  source = omega arith;
+  sink = omega arith;
+}
+
+-- a run that was closed, but for a script that was too long
+pub closed_run : (status : Status) (events : List Event) (taken left : List ℕ) (source sink : ℕ) (rest closing : List Event) → RecoversAtFronts 200 (lines_of taken) events →
+    HasRun 200 (lines_of taken) (parts events).whole (parts events).unfinished → (parts events).unfinished ≡ rest ++ closing → Closes status 0 sink closing →
+    Ends 200 (told_of events) status taken (parts events).whole rest → (status ≡ Done → left ≡ []) → (status ≡ Long → ⊥) → length taken ≤ limit →
+    IsClosed 200 (told_of events) (beside_of [] (taken ++ left) 0 0) (beside_of taken left source sink) status
+closed_run status events taken left source sink rest closing recovers run unfinished closes ends at_end not_long fits = record {
+  script = taken;
+  events = events;
+  since = since_run events taken left source sink;
+  run = λ h is. run;
+  recovers = λ h is. recovers;
+  rest = rest;
+  closing = closing;
+  unfinished = unfinished;
+  closes = closes;
+  ends = ends;
+  at_end = λ e. record { none = λ x is. ap (λ (s : Script). s.left) (sym (some_is (record { taken = taken; left = left }) x is)) ∙ at_end e };
+  long = λ e. absurd (not_long e);
+  short = λ e. fits;
+}
+
+-- the words `run --new 200 d`
+abbrev pub run_words : List (List ℕ)
+run_words = codes "run" ∷ codes "--new" ∷ codes "200" ∷ codes "d" ∷ []
+
+pub is_run : IsRun run_words 200 (codes "d")
+unfolding digits
+is_run = ((codes "--new" ∷ codes "200" ∷ codes "d" ∷ [], refl, refl), (lit≤ tt, lit≤ tt), λ e. cc)
+
+-- the events of the opening
+abbrev pub opened : List Event
+opened = Write 0 (superblock 200) true true ∷ Sync true ∷ Out (line (codes "ready 200 0")) ∷ []
+
+pub is_opening : IsOpening 200 opened
+unfolding digits
+is_opening = record { calls = inl ((true, (λ e. refl), refl), inl (refl, refl)); output = refl }
+
+-- the closing line came out in whole
+pub whole_line : (words : List ℕ) (before now : ℕ) → PutsLine (line words) before now (Out (line words) ∷ [])
+whole_line words before now = record { part = line words; more = []; prefix = sym (append-nil (line words)); only = refl; whole = inl refl }
+
+-- The opening is whole. No slot is held in these runs.
+
+pub is_whole : IsWhole opened
+unfolding digits
+is_whole = (refl, (refl, refl))
+
+-- An empty script.
+
+nothing_asked : Replies (fresh_system 200) [] [] []
+nothing_asked = record { meanings = []; say = tt; each = tt; begins = refl }
+
+opened_fronts : RecoversAtFronts 200 (lines_of []) opened
+opened_fronts = open_fronts 200 opened [] [] is_whole (recovers_of (fresh 200).base (onto opened []) (fresh_system 200) [] [] [] [] [] [] tt tt tt tt (no_slots (fresh 200).base (onto opened []) (fresh_system 200) None [] refl))
+
+empty_run : (told : Told) → Does run_words told (told_of opened) (beside_of [] [] 0 0) (beside_of [] [] 0 0) Done
+empty_run told = runs 200 (codes "d") is_run
+    (closed_run Done opened [] [] 0 0 [] [] opened_fronts (is_opening, nothing_asked, confined_of (fresh_system 200) [] [] [] tt nothing_asked) refl refl (refl, refl) (λ e. refl) (λ e. cc) (lit≤ tt))
+
+empty_output : output_of opened ≡ line (codes "ready 200 0")
+empty_output = refl
+
+-- A script of one line, behind which the fetch fails.
+
+abbrev one_line : List ℕ
+one_line = line (codes "app a")
+
+abbrev app_a : Meaning
+app_a = Ok (w.app (codes "a") None)
+
+app_a_says : Says (codes "app a") app_a
+app_a_says = (lit≤ tt, (refl, (refl, refl)))
+
+abbrev answered : List Event
+answered = opened ++ Out (line (codes "ok")) ∷ []
+
+one_reply : (rest : List Event) → device_events rest ≡ [] → Replies (fresh_system 200) (lines_of one_line) ((Out (line (codes "ok")) ∷ []) ∷ []) rest
+unfolding step answer
+one_reply rest none = record { meanings = app_a ∷ []; say = (app_a_says, tt); each = (record { output = refl; calls = ended; memory = tt }, tt); begins = none }
+
+-- a run of this line, with what stands behind its reply
+one_run : (rest : List Event) → device_events rest ≡ [] → HasRun 200 (lines_of one_line) (opened ∷ (Out (line (codes "ok")) ∷ []) ∷ []) rest
+one_run rest none = (
+  is_opening,
+  one_reply rest none,
+  confined_of (fresh_system 200) (lines_of one_line) ((Out (line (codes "ok")) ∷ []) ∷ []) rest tt (one_reply rest none),
+)
+
+answered_fronts : (rest : List Event) → IsUnfinished rest → RecoversAtFronts 200 (lines_of one_line) (opened ++ (Out (line (codes "ok")) ∷ rest))
+unfolding step answer
+answered_fronts rest unended =
+    open_fronts 200 opened (Out (line (codes "ok")) ∷ rest) (lines_of one_line) is_whole
+    (recovers_of (fresh 200).base (onto opened []) (fresh_system 200) (lines_of one_line) [] (app_a ∷ []) [] ((Out (line (codes "ok")) ∷ []) ∷ []) rest (app_a_says, tt) (refl, tt) unended
+    (none_each (fresh 200).base (onto opened []) (fresh_system 200) (app_a ∷ []) ((Out (line (codes "ok")) ∷ []) ∷ []) (refl, tt))
+    (no_slots (fresh 200).base (onto (joined ((Out (line (codes "ok")) ∷ []) ∷ [])) (onto opened [])) (system_after (fresh_system 200) (app_a ∷ []) ((Out (line (codes "ok")) ∷ []) ∷ [])) None rest refl))
+
+abbrev source_closed : List Event
+source_closed = answered ++ Out (line (codes "fault source")) ∷ []
+
+source_run : (told : Told) → Does run_words told (told_of source_closed) (beside_of [] one_line 0 0) (beside_of one_line [] 1 0) Source
+source_run told = runs 200 (codes "d") is_run
+    (closed_run Source source_closed one_line [] 1 0 [] (Out (line (codes "fault source")) ∷ []) (answered_fronts (Out (line (codes "fault source")) ∷ []) (refl, tt)) (one_run (Out (line (codes "fault source")) ∷ []) refl) refl
+    (whole_line (codes "fault source") 0 0) (refl, refl) (λ e. cc) (λ e. cc) (lit≤ tt))
+
+source_output : output_of source_closed ≡ line (codes "ready 200 0") ++ line (codes "ok") ++ line (codes "fault source")
+source_output = refl
+
+source_code : code_of Source ≡ 2
+source_code = refl
+
+-- the same where the put of the closing line failed after five bytes
+abbrev source_cut : List Event
+source_cut = answered ++ Out (codes "fault") ∷ []
+
+source_cut_run : (told : Told) → Does run_words told (told_of source_cut) (beside_of [] one_line 0 0) (beside_of one_line [] 1 1) Source
+source_cut_run told = runs 200 (codes "d") is_run
+    (closed_run Source source_cut one_line [] 1 1 [] (Out (codes "fault") ∷ []) (answered_fronts (Out (codes "fault") ∷ []) (refl, tt)) (one_run (Out (codes "fault") ∷ []) refl) refl
+    (record { part = codes "fault"; more = line (codes " source"); prefix = refl; only = refl; whole = inr (lit≤ tt) }) (refl, refl) (λ e. cc) (λ e. cc) (lit≤ tt))
+
+-- where no put failed, that is no closing line
+never_short : Closes Source 0 0 (Out (codes "fault") ∷ []) → ⊥
+never_short c =
+    elim c.whole [
+      | inl all ↦
+          let part : codes "fault" ≡ c.part = cc (c.only) in
+          let same : line (codes "fault source") ≡ codes "fault" = c.prefix ∙ ap (λ (m : List ℕ). c.part ++ m) all ∙ append-nil c.part ∙ sym part in
+          cc
+      | inr rose ↦ absurd (omega (arith, rose))
+    ]
+
+-- A put that fails after two bytes of the first reply.
+
+abbrev cut_reply : List Event
+cut_reply = opened ++ Out (codes "ok") ∷ []
+
+abbrev no_reply : Replies (fresh_system 200) (lines_of one_line) [] (Out (codes "ok") ∷ [])
+no_reply = record { meanings = []; say = tt; each = tt; begins = inl refl }
+
+cut_shows : CutReplies (fresh_system 200) (lines_of one_line) [] (Out (codes "ok") ∷ [])
+unfolding step answer
+cut_shows = record { replies = no_reply; shows = inr (app_a, app_a_says, record { lacked = false; memory = tt; calls = ended; more = 10 ∷ []; front = refl }) }
+
+cut_fronts : RecoversAtFronts 200 (lines_of one_line) cut_reply
+cut_fronts = open_fronts 200 opened (Out (codes "ok") ∷ []) (lines_of one_line) is_whole
+    (recovers_of (fresh 200).base (onto opened []) (fresh_system 200) (lines_of one_line) [] [] (app_a ∷ []) [] (Out (codes "ok") ∷ []) (app_a_says, tt) tt (refl, tt) tt
+    (no_slots (fresh 200).base (onto opened []) (fresh_system 200) (Some app_a) (Out (codes "ok") ∷ []) refl))
+
+sink_run : (told : Told) → Does run_words told (told_of cut_reply) (beside_of [] one_line 0 0) (beside_of one_line [] 0 1) Sink
+sink_run told = runs 200 (codes "d") is_run
+    (closed_run Sink cut_reply one_line [] 0 1 (Out (codes "ok") ∷ []) [] cut_fronts
+    (is_opening, no_reply, confined_of (fresh_system 200) (lines_of one_line) [] (Out (codes "ok") ∷ []) tt no_reply) refl refl (λ h is. cut_shows) (λ e. cc) (λ e. cc) (lit≤ tt))
+
+sink_output : output_of cut_reply ≡ line (codes "ready 200 0") ++ codes "ok"
+sink_output = refl
+
+sink_code : code_of Sink ≡ 3
+sink_code = refl
