@@ -18,7 +18,6 @@ ghost use Rattle.ark_machine.specs.Areas.{raw_written};
 ghost use Rattle.ark_machine.specs.Plane.{blocks_at, slot_of};
 ghost use Rattle.ark_machine.specs.Granting.{change_of, failed_change};
 ghost use Rattle.ark_machine.specs.System.{System, machine_of, set_machine, owner, line_turn};
-ghost use Rattle.ark_machine.specs.Follow.{slots_for};
 ghost use Rattle.ark_machine.specs.Confined.{AllAllowed};
 ghost use Rattle.ark_machine.specs.Grants.{GrantsApart};
 ghost use Rattle.ark_machine.specs.Sending.{IsLetOut};
@@ -52,8 +51,8 @@ pub fn frame_laws()
 /// What a stop may leave of a block of another application's area is no more after the device events of a line than before,
 /// whether a block that was written is left whole or as any bytes.
 pub fn stop_laws()
-    ensures whole { (s : System) (line : Line) (a b l : List ℕ) (es : List Event) (base : List (List ℕ)) (j : List Event) (n : ℕ) (c : List ℕ) → GrantsApart s.plane → owner line ≡ Some a → bytes_eq a b ≡ false → AllAllowed s line es → Contains (blocks_at s.plane b l) n → (Contains (slots_for s.plane a line) n → ⊥) → n < length base → MayHold Whole base (onto es j) n c → MayHold Whole base j n c }
-    ensures torn { (s : System) (line : Line) (a b l : List ℕ) (es : List Event) (base : List (List ℕ)) (j : List Event) (n : ℕ) (c : List ℕ) → GrantsApart s.plane → owner line ≡ Some a → bytes_eq a b ≡ false → AllAllowed s line es → Contains (blocks_at s.plane b l) n → (Contains (slots_for s.plane a line) n → ⊥) → n < length base → MayHold AnyBytes base (onto es j) n c → MayHold AnyBytes base j n c }
+    ensures whole { (s : System) (line : Line) (a b l : List ℕ) (es : List Event) (base : List (List ℕ)) (j : List Event) (n : ℕ) (c : List ℕ) → GrantsApart s.plane → owner line ≡ Some a → bytes_eq a b ≡ false → AllAllowed s line es → Contains (blocks_at s.plane b l) n → n < length base → MayHold Whole base (onto es j) n c → MayHold Whole base j n c }
+    ensures torn { (s : System) (line : Line) (a b l : List ℕ) (es : List Event) (base : List (List ℕ)) (j : List Event) (n : ℕ) (c : List ℕ) → GrantsApart s.plane → owner line ≡ Some a → bytes_eq a b ≡ false → AllAllowed s line es → Contains (blocks_at s.plane b l) n → n < length base → MayHold AnyBytes base (onto es j) n c → MayHold AnyBytes base j n c }
 {}
 
 /// What a machine knows of its raw areas follows what is done to them. A write that is tried adds its content to what a stop may
