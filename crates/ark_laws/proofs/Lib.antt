@@ -6,6 +6,7 @@ pub mod Early
 pub mod Faults
 pub mod Flushing
 pub mod Following
+pub mod FramesWithin
 pub mod Framing
 pub mod Granted
 pub mod Labels
@@ -31,5 +32,6 @@ pub mod Steady
 pub mod Stored
 pub mod Synced
 pub mod TableFailed
+pub mod Texts
 pub mod Told
 pub mod Touching
