@@ -18,7 +18,7 @@ use Rattle.ark_machine.specs.Machine.{Machine, object_at, is_full, count_of}
 use Rattle.ark_machine.specs.Areas.{max_areas}
 use Rattle.ark_machine.specs.Row.{Row, Given, Ended, answer, unless_refused}
 use Rattle.ark_machine.specs.Plane.{Plane, LiveFilter, Change, makes, grows, drops, is_granted, max_slots, lowest, is_slot_of, slot_of, blocks_at, asked, granted, recorded}
-use Rattle.ark_machine.specs.Granting.{without_slot, changed, failed_change, change_of, with_granted, after_refusal, plane_after}
+use Rattle.ark_machine.specs.Granting.{changed, failed_change, change_of, with_granted, after_refusal, plane_after}
 use Rattle.ark_machine.specs.Step.{step}
 use Rattle.ark_machine.specs.System.{System, machine_of, owner, takes, nic_turn, taken_turn, wire_turn, common_turn, owned_turn, line_turn}
 use Rattle.ark_machine.specs.Grants.{has_block, SlotsApart, GrantsApart}
@@ -48,16 +48,16 @@ changed_apart p m _ h room = h
 
 failed_apart : (p : Plane) (c : Option Change) → GrantsApart p → GrantsApart (failed_change p c)
 failed_apart p None h = h
-failed_apart p (Some (makes t)) h = record { fit = h.fit; apart = h.apart }
-failed_apart p (Some (grows t more)) h = record { fit = h.fit; apart = h.apart }
-failed_apart p (Some (drops t o)) h = let d : GrantsApart (record p { slots = without_slot t p.slots }) = dropped_apart p t h in record { fit = d.fit; apart = d.apart }
+failed_apart p (Some (makes t)) h = h
+failed_apart p (Some (grows t more)) h = h
+failed_apart p (Some (drops t o)) h = dropped_apart p t h
 
 granted_apart : (p : Plane) (line : Line) → GrantsApart p → GrantsApart (with_granted p line)
-granted_apart p (w.nic own) h = record { fit = h.fit; apart = h.apart }
-granted_apart p (w.app a frames) h = record { fit = h.fit; apart = h.apart }
-granted_apart p (w.filter a f rule) h = record { fit = h.fit; apart = h.apart }
-granted_apart p (w.assign a v f) h = record { fit = h.fit; apart = h.apart }
-granted_apart p (w.drop a x) h = record { fit = h.fit; apart = h.apart }
+granted_apart p (w.nic own) h = h
+granted_apart p (w.app a frames) h = h
+granted_apart p (w.filter a f rule) h = h
+granted_apart p (w.assign a v f) h = h
+granted_apart p (w.drop a x) h = h
 granted_apart p _ h = h
 
 refused_apart : (p : Plane) (x : Refusal) (c : Option Change) → GrantsApart p → GrantsApart (after_refusal p x c)
@@ -115,7 +115,7 @@ has_room p m _ ends memory h = tt
 -- Lines.
 
 nic_apart : (s : System) (own : Own) (o : Option Own) → GrantsApart s.plane → GrantsApart (nic_turn s own o).after.plane
-nic_apart s own None h = record { fit = h.fit; apart = h.apart }
+nic_apart s own None h = h
 nic_apart s own (Some old) h = h
 
 taken_apart : (s : System) (frame : List ℕ) (o : Option LiveFilter) → GrantsApart s.plane → GrantsApart (taken_turn s frame o).after.plane

@@ -26,6 +26,10 @@ abbrev pub SlotsApart : List Slot → Type 0
 SlotsApart [] = Unit {0}
 SlotsApart (s ∷ ss) = ((has_index ss s.index ≡ false) × ((n : ℕ) → has_block s.blocks n ≡ true → is_granted ss n ≡ false)) × SlotsApart ss
 
-pub record GrantsApart (p : Plane) : Type 0 where
-  pub fit : SlotsFit p.size p.slots
-  pub apart : SlotsApart p.slots
+-- the slots of a device of so many blocks, each by itself and each beside the others
+pub record SlotsAgree (size : ℕ) (slots : List Slot) : Type 0 where
+  pub fit : SlotsFit size slots
+  pub apart : SlotsApart slots
+
+abbrev pub GrantsApart : Plane → Type 0
+GrantsApart p = SlotsAgree p.size p.slots
