@@ -28,6 +28,7 @@ may_begin line x = is_told_late x || (reaps_first line && is_of_sending x)
 
 pub record IsRow (line : Line) (m : Machine) (own : Option Own) (row : Row) : Type 0 where
   pub sent : row.said ≡ said.Sent → MaySend m own line row.bytes
+  pub undelivered : (b u : List ℕ) → row.said ≡ said.Delivered b u → ⊥
   pub refused : (x : Refusal) → row.said ≡ said.Refused x → may_begin line x ≡ false → row ≡ says m (said.Refused x)
   pub paced : Leads m row.machine
   -- only the words that are refused for a call that failed
@@ -42,6 +43,9 @@ plain_not_sent x h e = false≢true (subst (λ y. is_plain y ≡ true) e h)
 
 pub plain_not_refused : (x : Said) (y : Refusal) → is_plain x ≡ true → x ≡ said.Refused y → ⊥
 plain_not_refused x y h e = false≢true (subst (λ z. is_plain z ≡ true) e h)
+
+pub plain_not_delivered : (x : Said) (b u : List ℕ) → is_plain x ≡ true → x ≡ said.Delivered b u → ⊥
+plain_not_delivered x b u h e = false≢true (subst (λ y. is_plain y ≡ true) e h)
 
 -- The conditions of a row.
 
@@ -87,6 +91,7 @@ of_answer line m own c row faults plain lead un = by (early c) (late c) refl ref
     by : (first then : Option Refusal) → early c ≡ first → late c ≡ then → IsRow line m own (unless_refused first then m row)
     by (Some x) then is also = record {
       sent = λ h. absurd cc;
+      undelivered = λ b u h. absurd cc;
       refused = λ y h no. ap (λ z. says m z) h;
       told = λ y h late_one. absurd (early_not_told c x is (subst (λ z. is_told_late z ≡ true) (sym (same_refusal x y h)) late_one));
       paced = λ t h. h;
@@ -94,6 +99,7 @@ of_answer line m own c row faults plain lead un = by (early c) (late c) refl ref
     }
     by None (Some x) is also = record {
       sent = λ h. absurd cc;
+      undelivered = λ b u h. absurd cc;
       refused = λ y h no. absurd (told_begins line y (subst (λ z. is_told_late z ≡ true) (same_refusal x y h) (told_late c x also)) no);
       told = λ y h late_one. may faults also;
       paced = lead;
@@ -101,6 +107,7 @@ of_answer line m own c row faults plain lead un = by (early c) (late c) refl ref
     }
     by None None is also = record {
       sent = λ h. absurd (plain_not_sent row.said plain h);
+      undelivered = λ b u h. plain_not_delivered row.said b u plain h;
       refused = λ y h no. absurd (plain_not_refused row.said y plain h);
       told = λ y h late_one. absurd (plain_not_refused row.said y plain h);
       paced = lead;

@@ -29,7 +29,8 @@ use Rattle.ark_machine.specs.Paced.{StandsPaced}
 use Rattle.ark_machine.specs.Sending.{pace_by, PassesWithin}
 use Rattle.ark_laws.proofs.Moving.{none_within, line_passes}
 use Rattle.ark_laws.proofs.Passing.{events_front}
-use Rattle.ark_laws.proofs.Sent.{sends_within, rates_kept, paced_keep}
+use Rattle.ark_laws.proofs.FramesWithin.{sends_within, delivers_within}
+use Rattle.ark_laws.proofs.Sent.{rates_kept, paced_keep}
 use Rattle.ark_laws.proofs.Touching.{settles, call_quiet, devices, reaped_quiet, taken_quiet, given_quiet, quiet_all}
 
 grow_confined : (s : System) (a l : List ℕ) (n : ℕ) (g : Given) (es : List Event) → Follow s a (w.grow a l n) (step (machine_of s a) (w.grow a l n) g).calls es
@@ -127,7 +128,8 @@ each_confined s (m ∷ ms) [] k h = tt
 each_confined s (m ∷ ms) (p ∷ ps) k h = (
   record {
     device = performs_confined s m (ends_of (device_events p)) (has_lacked p) (device_events p) k h.0.calls;
-    sends = sends_within s m p h.0;
+    sends = sends_within s m p k h.0;
+    delivers = delivers_within s m p k h.0;
     rates = paced_keep (turn_for s m p).after (rates_kept s m p k);
   },
   each_confined (turn_for s m p).after ms ps (rates_kept s m p k) h.1,

@@ -1,5 +1,5 @@
 -- Every line keeps it that no block is granted twice.
-use Rattle.std.proofs.Common.{◌≡◌, ◌<◌, ℕ, zero, suc, Bool, true, false, not, List, [], ◌∷◌, ◌||◌, length, refl, sym, ◌∙◌, subst, arith, cond, ◌==◌}
+use Rattle.std.proofs.Common.{◌≡◌, ◌<◌, ℕ, Bool, true, false, List, [], ◌∷◌, ◌||◌, length, refl, sym, ◌∙◌, subst, arith, cond}
 use Rattle.std.proofs.lemmas.Bool.{false≢true, and_parts}
 use Rattle.std.proofs.lemmas.Bool.Decides.{nat_tests}
 use Rattle.std.specs.Prelude.{Option, Some, None, option_map, find, unwrap_or, bytes_eq, nat_le, Contains}
@@ -18,23 +18,14 @@ use Rattle.ark_machine.specs.Machine.{Machine, object_at, is_full, count_of}
 use Rattle.ark_machine.specs.Areas.{max_areas}
 use Rattle.ark_machine.specs.Row.{Row, Given, Ended, answer, unless_refused}
 use Rattle.ark_machine.specs.Plane.{Plane, LiveFilter, Change, makes, grows, drops, is_granted, max_slots, lowest, is_slot_of, slot_of, blocks_at, asked, granted, recorded}
-use Rattle.ark_machine.specs.Granting.{new_slot, without_slot, with_change, changed, failed_change, change_of, with_granted, after_refusal, plane_after}
+use Rattle.ark_machine.specs.Granting.{changed, failed_change, change_of, with_granted, after_refusal, plane_after}
 use Rattle.ark_machine.specs.Step.{step}
 use Rattle.ark_machine.specs.System.{System, machine_of, owner, takes, nic_turn, taken_turn, wire_turn, common_turn, owned_turn, line_turn}
 use Rattle.ark_machine.specs.Grants.{has_block, SlotsApart, GrantsApart}
 use Rattle.ark_laws.proofs.Listed.{same_bytes, bytes_eq-same}
-use Rattle.ark_machine.proofs.Grants.{or_false, clash, lowest_free, free_index, apart_more, apart_selected, apart_grown}
+use Rattle.ark_machine.proofs.Grants.{or_false, clash, lowest_free, has_of, makes_apart, grows_apart, dropped_apart}
 
 -- The changes of a plane.
-
-makes_apart : (p : Plane) (a s : List ℕ) (k : Kind) (n : ℕ) → GrantsApart p → length p.slots < max_slots → GrantsApart (with_change p (makes (new_slot p a s k n)))
-makes_apart p a s k n h room = apart_more p.slots (new_slot p a s k n) h (free_index p max_slots refl room) (λ b e. lowest_free p n b e)
-
-grows_apart : (p : Plane) (n : ℕ) (t : Slot) → GrantsApart p → GrantsApart (with_change p (grows t (lowest p n)))
-grows_apart p n t h = apart_grown t.index (lowest p n) p.slots h (λ b e. lowest_free p n b e)
-
-drops_apart : (t : Slot) (ss : List Slot) → SlotsApart ss → SlotsApart (without_slot t ss)
-drops_apart t ss h = apart_selected (λ x. not (x.index == t.index)) ss h
 
 -- a new slot has room
 abbrev HasRoom : Plane → Line → Type 0
@@ -52,14 +43,14 @@ changed_apart p m (w.drop a x) h room = by (slot_of p a x)
   where
     by : (o : Option Slot) → GrantsApart (changed p (option_map (λ t. drops t (object_at m x)) o))
     by None = h
-    by (Some t) = drops_apart t p.slots h
+    by (Some t) = dropped_apart p t h
 changed_apart p m _ h room = h
 
 failed_apart : (p : Plane) (c : Option Change) → GrantsApart p → GrantsApart (failed_change p c)
 failed_apart p None h = h
 failed_apart p (Some (makes t)) h = h
 failed_apart p (Some (grows t more)) h = h
-failed_apart p (Some (drops t o)) h = drops_apart t p.slots h
+failed_apart p (Some (drops t o)) h = dropped_apart p t h
 
 granted_apart : (p : Plane) (line : Line) → GrantsApart p → GrantsApart (with_granted p line)
 granted_apart p (w.nic own) h = h
@@ -193,24 +184,9 @@ two_apart (s ∷ ss) a b l k n h apart one two = by (is_slot_of a l s) (is_slot_
 
 -- no block is in areas of two applications
 pub others_apart : (p : Plane) (a b l k : List ℕ) (n : ℕ) → GrantsApart p → bytes_eq a b ≡ false → has_block (blocks_at p a l) n ≡ true → has_block (blocks_at p b k) n ≡ true → ⊥
-others_apart p a b l k n h apart one two = two_apart p.slots a b l k n h apart one two
+others_apart p a b l k n h apart one two = two_apart p.slots a b l k n h.apart apart one two
 
 -- In the words of lists.
-
-pub has_of : (xs : List ℕ) (n : ℕ) → Contains xs n → has_block xs n ≡ true
-has_of [] n (i, lt, e) = absurd (omega (arith, lt))
-has_of (x ∷ xs) n (zero, lt, e) = rw e (here n (has_block xs n))
-  where
-    same : (k : ℕ) → (k == k) ≡ true
-    same k = grind (arith, nat_tests)
-
-    here : (k : ℕ) (b : Bool) → ((k == k) || b) ≡ true
-    here k b = rw (same k) refl
-has_of (x ∷ xs) n (suc i, lt, e) = back (x == n) (has_block xs n) (has_of xs n (i, omega (arith, lt), e))
-  where
-    back : (a b : Bool) → b ≡ true → (a || b) ≡ true
-    back true b h = refl
-    back false b h = h
 
 pub areas_apart : (p : Plane) (a b l k : List ℕ) (n : ℕ) → GrantsApart p → bytes_eq a b ≡ false → Contains (blocks_at p a l) n → Contains (blocks_at p b k) n → ⊥
 areas_apart p a b l k n h apart one two = others_apart p a b l k n h apart (has_of (blocks_at p a l) n one) (has_of (blocks_at p b k) n two)

@@ -20,16 +20,18 @@ use Rattle.ark_machine.specs.Machine.{Machine, Held, vnic_at, with_vnic}
 use Rattle.ark_machine.specs.Row.{Row, Given, Ended, answer, unless_refused}
 use Rattle.ark_machine.specs.Rates.{is_over_burst, may_pass, passed}
 use Rattle.ark_machine.specs.Network.{is_transmit, lets_out, is_let_out, bytes_in, tx_ended, tx_ending, tx_passed, frame_moves, tx_moves}
-use Rattle.ark_machine.specs.Moves.{Move, moves, row_of}
+use Rattle.ark_machine.specs.Moves.{Move, moves, move, first_end, row_of}
 use Rattle.ark_machine.specs.Devices.{card_moves}
 use Rattle.ark_machine.specs.Plane.{recorded}
 use Rattle.ark_machine.specs.Step.{step}
 use Rattle.ark_machine.specs.System.{System, machine_of, line_turn}
-use Rattle.ark_machine.specs.Sending.{IsLetOut}
-use Rattle.ark_machine.specs.Frames.{LetsOut, tx_pace_at, IsCounted}
+use Rattle.ark_machine.specs.Sending.{IsLetOut, tx_pace_at}
+use Rattle.ark_machine.specs.Frames.{LetsOut, IsCounted}
 use Rattle.ark_laws.proofs.Listed.{same_bytes}
 use Rattle.ark_laws.proofs.Privacy.{own_machine}
 use Rattle.ark_laws.proofs.Setting.{vnic_set, rung_left}
+use Rattle.ark_laws.proofs.Steady.{move_steady}
+use Rattle.ark_laws.proofs.Answering.{plain_not_sent}
 
 -- The filter.
 
@@ -117,6 +119,18 @@ answered m c row = by (early c) (late c)
     by (Some y) two h = absurd cc
     by None (Some y) h = absurd cc
     by None None h = refl
+
+-- only a network card sends
+pub sends_by_card : (a v : List ℕ) (m : Machine) (g : Given) → (step m (w.dev a v) g).said ≡ said.Sent → (x : Vnic) × (vnic_at m v ≡ Some x)
+unfolding step
+sends_by_card a v m g h =
+    let row : Row = row_of (card_moves m v g (vnic_at m v)) in
+    let sent : row.said ≡ said.Sent = subst (λ (y : Row). y.said ≡ said.Sent) (answered m _ row h) h in
+    by (vnic_at m v) refl sent
+  where
+    by : (o : Option Vnic) → vnic_at m v ≡ o → (card_moves m v g o).said ≡ said.Sent → (x : Vnic) × (vnic_at m v ≡ Some x)
+    by None is e = absurd (plain_not_sent (move m v (first_end g.ended)).said (move_steady m v (first_end g.ended)).plain e)
+    by (Some x) is e = (x, is)
 
 dev_counted : (a v : List ℕ) (m : Machine) (g : Given) (x : Vnic) → vnic_at m v ≡ Some x → (step m (w.dev a v) g).said ≡ said.Sent → IsCounted m v x (step m (w.dev a v) g).bytes (step m (w.dev a v) g).machine
 unfolding step

@@ -6,6 +6,7 @@ pub mod Early
 pub mod Faults
 pub mod Flushing
 pub mod Following
+pub mod FramesWithin
 pub mod Framing
 pub mod Granted
 pub mod Labels
@@ -19,6 +20,7 @@ pub mod Owned
 pub mod Paced
 pub mod Passing
 pub mod Privacy
+pub mod PutWritten
 pub mod Ranks
 pub mod Reaching
 pub mod Refusing
@@ -26,10 +28,12 @@ pub mod Rows
 pub mod SendRows
 pub mod Sent
 pub mod Setting
+pub mod SettleSynced
 pub mod Settling
 pub mod Steady
 pub mod Stored
 pub mod Synced
 pub mod TableFailed
+pub mod Texts
 pub mod Told
 pub mod Touching

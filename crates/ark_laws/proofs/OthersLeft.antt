@@ -7,15 +7,9 @@ use Rattle.ark_media.proofs.Stopping.{other_write, sync_narrows, any_same}
 use Rattle.ark_script.specs.Line.{Line}
 use Rattle.ark_machine.specs.Plane.{blocks_at}
 use Rattle.ark_machine.specs.System.{System, owner}
-use Rattle.ark_machine.specs.Follow.{slots_for}
 use Rattle.ark_machine.specs.Confined.{writable, IsAllowed, AllAllowed}
 use Rattle.ark_machine.specs.Grants.{GrantsApart}
 use Rattle.ark_laws.proofs.Owned.{no_other_written}
-
--- none of the line's writes is of the block
-spared : (s : System) (line : Line) (a b l : List ℕ) (n : ℕ) → GrantsApart s.plane → owner line ≡ Some a → bytes_eq a b ≡ false → Contains (blocks_at s.plane b l) n → (Contains (slots_for s.plane a line) n → ⊥)
-    → Contains (writable s line) n → ⊥
-spared s line a b l n apart is other theirs unslotted may = unslotted (no_other_written s line a b l n apart is other may theirs)
 
 event_left : (Torn : List ℕ → List ℕ → Type 0) → ((c : List ℕ) → Torn c c) → (s : System) (line : Line) (e : Event) (base : List (List ℕ)) (j : List Event) (n : ℕ) (c : List ℕ) → (Contains (writable s line) n → ⊥) → n < length base
     → IsAllowed s line e → MayHold Torn base (e ∷ j) n c → MayHold Torn base j n c
@@ -31,12 +25,12 @@ events_left Torn whole s line (e ∷ es) base j n c free lt may h = event_left T
 
 -- where a stop leaves what was written whole
 pub others_whole : (s : System) (line : Line) (a b l : List ℕ) (es : List Event) (base : List (List ℕ)) (j : List Event) (n : ℕ) (c : List ℕ) → GrantsApart s.plane → owner line ≡ Some a → bytes_eq a b ≡ false → AllAllowed s line es
-    → Contains (blocks_at s.plane b l) n → (Contains (slots_for s.plane a line) n → ⊥) → n < length base → MayHold Whole base (onto es j) n c → MayHold Whole base j n c
-others_whole s line a b l es base j n c apart is other may theirs unslotted lt h =
-    events_left Whole (λ x. refl) s line es base j n c (spared s line a b l n apart is other theirs unslotted) lt may h
+    → Contains (blocks_at s.plane b l) n → n < length base → MayHold Whole base (onto es j) n c → MayHold Whole base j n c
+others_whole s line a b l es base j n c apart is other may theirs lt h =
+    events_left Whole (λ x. refl) s line es base j n c (λ it. no_other_written s line a b l n apart is other it theirs) lt may h
 
 -- where it may leave any bytes
 pub others_torn : (s : System) (line : Line) (a b l : List ℕ) (es : List Event) (base : List (List ℕ)) (j : List Event) (n : ℕ) (c : List ℕ) → GrantsApart s.plane → owner line ≡ Some a → bytes_eq a b ≡ false → AllAllowed s line es
-    → Contains (blocks_at s.plane b l) n → (Contains (slots_for s.plane a line) n → ⊥) → n < length base → MayHold AnyBytes base (onto es j) n c → MayHold AnyBytes base j n c
-others_torn s line a b l es base j n c apart is other may theirs unslotted lt h =
-    events_left AnyBytes any_same s line es base j n c (spared s line a b l n apart is other theirs unslotted) lt may h
+    → Contains (blocks_at s.plane b l) n → n < length base → MayHold AnyBytes base (onto es j) n c → MayHold AnyBytes base j n c
+others_torn s line a b l es base j n c apart is other may theirs lt h =
+    events_left AnyBytes any_same s line es base j n c (λ it. no_other_written s line a b l n apart is other it theirs) lt may h

@@ -12,6 +12,7 @@ use Rattle.ark_machine.specs.System.{System, machine_of, owner}
 use Rattle.ark_machine.specs.Follow.{slots_for}
 use Rattle.ark_machine.specs.Confined.{bound_to, blocks_numbered, open_blocks, reach, readable, writable}
 use Rattle.ark_machine.specs.Grants.{GrantsApart}
+use Rattle.ark_machine.proofs.Grants.{no_table_block}
 use Rattle.ark_laws.proofs.Granted.{areas_apart, new_apart}
 
 -- a block of an area of the application
@@ -95,12 +96,11 @@ no_other_read s line a b l n h is apart may theirs =
     let own = reads_own s line a n is may in
     areas_apart s.plane a b own.0 l n h apart own.1 theirs
 
--- nor writes one, but where its slot stands
-pub no_other_written : (s : System) (line : Line) (a b l : List ℕ) (n : ℕ) → GrantsApart s.plane → owner line ≡ Some a → bytes_eq a b ≡ false → Contains (writable s line) n → Contains (blocks_at s.plane b l) n
-    → Contains (slots_for s.plane a line) n
+-- nor writes one
+pub no_other_written : (s : System) (line : Line) (a b l : List ℕ) (n : ℕ) → GrantsApart s.plane → owner line ≡ Some a → bytes_eq a b ≡ false → Contains (writable s line) n → Contains (blocks_at s.plane b l) n → ⊥
 no_other_written s line a b l n h is apart may theirs = by (writes_own s line a n is may)
   where
-    by : IsWritten s line a n → Contains (slots_for s.plane a line) n
-    by (inl own) = absurd (areas_apart s.plane a b own.0 l n h apart own.1 theirs)
-    by (inr (inl new)) = absurd (new_apart s.plane line b l n new theirs)
-    by (inr (inr slot)) = slot
+    by : IsWritten s line a n → ⊥
+    by (inl own) = areas_apart s.plane a b own.0 l n h apart own.1 theirs
+    by (inr (inl new)) = new_apart s.plane line b l n new theirs
+    by (inr (inr slot)) = no_table_block s.plane a line b l n h slot theirs

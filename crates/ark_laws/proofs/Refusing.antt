@@ -17,8 +17,8 @@ use Rattle.ark_machine.specs.Granting.{after_refusal, change_of}
 use Rattle.ark_machine.specs.Step.{step}
 use Rattle.ark_machine.specs.System.{System, Turn, machine_of, owner, takes, own_turn, nic_turn, taken_turn, wire_turn, common_turn, owned_turn, line_turn}
 use Rattle.ark_machine.specs.Refused.{is_told_late, is_of_sending, reaps_first}
-use Rattle.ark_laws.proofs.Answering.{plain_not_refused, may_begin}
-use Rattle.ark_laws.proofs.Rows.{row_is, arrive_steady}
+use Rattle.ark_laws.proofs.Answering.{may_begin}
+use Rattle.ark_laws.proofs.Rows.{row_is, arrive_is}
 use Rattle.ark_laws.proofs.Listed.{set_same}
 
 -- the system is as it was, and no device was called
@@ -53,7 +53,7 @@ nic_spared s own (Some old) x h = (refl, refl)
 
 taken_spared : (s : System) (frame : List ℕ) (o : Option LiveFilter) (x : Refusal) → (taken_turn s frame o).said ≡ said.Refused x → IsSpared s (taken_turn s frame o)
 taken_spared s frame None x h = (refl, refl)
-taken_spared s frame (Some f) x h = absurd (plain_not_refused _ x (arrive_steady f.owner (machine_of s f.owner) (unwrap_or f.card []) frame).plain h)
+taken_spared s frame (Some f) x h = absurd ((arrive_is f.owner (machine_of s f.owner) (unwrap_or f.card []) frame).unrefused x h)
 
 wire_spared : (s : System) (frame : List ℕ) (o : Option Own) (x : Refusal) → (wire_turn s frame o).said ≡ said.Refused x → IsSpared s (wire_turn s frame o)
 wire_spared s frame None x h = (refl, refl)

@@ -1,14 +1,16 @@
 -- What is so of the row of every word, and of a frame that arrives.
-use Rattle.std.proofs.Common.{◌≡◌, inl, inr, ℕ, Bool, true, false, not, List, [], ◌∷◌, length, refl, cond}
-use Rattle.std.specs.Prelude.{Option, Some, None, option_map, unwrap_or, nat_lt}
+use Rattle.std.proofs.Common.{◌≡◌, inl, inr, ℕ, Bool, true, false, not, List, [], ◌∷◌, length, refl, sym, ap, subst, cond}
+use Rattle.std.specs.Prelude.{Option, Some, None, option_map, option_and_then, unwrap_or, nat_lt}
+use Rattle.ark_base.specs.declared.refusal.Refusal.{Refusal}
 use Rattle.ark_vic.specs.declared.door.Bell.TheVariants as bell
 use Rattle.ark_script.specs.Line as w
 use Rattle.ark_script.specs.Line.{Line}
+use Rattle.ark_script.specs.declared.said.Said.{Said}
 use Rattle.ark_script.specs.declared.said.Said.TheVariants as said
 use Rattle.ark_machine.specs.Objects
 use Rattle.ark_machine.specs.Objects.{Object, Paced, Vsic, Vnic, Job, Place, Datagram, transfer, flush, phase}
 use Rattle.ark_machine.specs.Machine.{Machine, vnic_at, filter_at, serial_at, without, with_vnic, with_log}
-use Rattle.ark_machine.specs.Row.{Given, says, has_fault}
+use Rattle.ark_machine.specs.Row.{Row, Given, says, has_fault}
 use Rattle.ark_machine.specs.Control.{lets_go}
 use Rattle.ark_machine.specs.Areas.{new_area, grown}
 use Rattle.ark_machine.specs.Bytes.{padded}
@@ -20,10 +22,11 @@ use Rattle.ark_machine.specs.Logs.{closing, card_of}
 use Rattle.ark_machine.specs.Polls.{next_call, settling}
 use Rattle.ark_machine.specs.Devices.{card_moves}
 use Rattle.ark_machine.specs.Step.{step}
+use Rattle.ark_machine.specs.Sending.{KeepsWith, rx_pace_at, FrameWithin}
 use Rattle.ark_machine.specs.Paced.{IsPacedAt, MachinePacedAt}
 use Rattle.ark_laws.proofs.Paced.{VnicPaced, passed_paced, new_paced, object_paced, each_paced, without_paced, vnic_at_paced, vsic_paced, vnic_paced, log_paced, buffer_paced, raw_paced, rung_paced}
-use Rattle.ark_laws.proofs.Steady.{Leads, RowSteady, behind, polled_steady, settling_steady, next_call_steady}
-use Rattle.ark_laws.proofs.Answering.{of_answer, of_made, IsRow}
+use Rattle.ark_laws.proofs.Steady.{is_plain, Leads, RowSteady, behind, polled_steady, settling_steady, next_call_steady}
+use Rattle.ark_laws.proofs.Answering.{plain_not_sent, plain_not_refused, plain_not_delivered, of_answer, of_made, IsRow}
 use Rattle.ark_laws.proofs.Leading.{synced_leads, unless_leads, area_paced, lets_go_paced, assigned_leads, pace_of_paced, with_pace_leads, with_door_leads, new_buffer_leads, block_written_leads, reap_steady, oldest_steady, socket_card_leads, pulled_leads, give_steady, opened_leads, with_opened_leads}
 use Rattle.ark_laws.proofs.SendRows.{sendto_row, IsTxOf, card_is, dev_row, quiet_row, IsMove}
 
@@ -82,7 +85,7 @@ row_is m (w.settle a x1) g =
 row_is m (w.close a x1) g = of_made (w.close a x1) m g.own _ _ refl (inl refl) refl (λ t h. vsic_paced t (with_log m x1 closing) (card_of m x1) _ (λ y q. q) (log_paced t m x1 closing h))
 row_is m (w.dev a x1) g =
     let s : IsMove m g.own x1 (card_moves m x1 g (vnic_at m x1)) = card_is m x1 g (vnic_at m x1) (λ t h. vnic_at_paced t m x1 h) in
-    dev_row a x1 m g.own _ _ refl refl s.sent s.unrefused s.paced
+    dev_row a x1 m g.own _ _ refl refl s.sent s.undelivered s.unrefused s.paced
 row_is m (w.nic own) g = quiet_row (w.nic own) m g.own
 row_is m (w.wire frame) g = quiet_row (w.wire frame) m g.own
 row_is m (w.tick n) g = quiet_row (w.tick n) m g.own
@@ -101,19 +104,51 @@ received_leads m v x p ps frame of t h =
     rung_paced t (with_vnic one v (rx_ending (filled p frame) ps (length frame))) x.rx_door bell.Rx
     (vnic_paced t one v (rx_ending (filled p frame) ps (length frame)) (λ y q. q) (vnic_paced t (with_frame m p frame) v (rx_passed pace) (λ y q. (of t h, q.1)) (frame_leads m p frame t h)))
 
-arrival_steady : (a : List ℕ) (m : Machine) (v : List ℕ) (x : Vnic) (ps : List Place) (frame : List ℕ) → IsTxOf m x.rx_pace → RowSteady m (arrival a m v x ps frame)
-arrival_steady a m v x [] frame of = record { plain = refl; paced = λ t h. h }
-arrival_steady a m v x (p ∷ ps) frame of = by (nat_lt (length (bytes_in m p)) (length frame)) (may_pass x.rx_pace m.now (length frame)) refl
+-- What is so of the row of a frame that arrives.
+pub record IsArrival (a : List ℕ) (m : Machine) (v frame : List ℕ) (row : Row) : Type 0 where
+  pub unsent : row.said ≡ said.Sent → ⊥
+  pub unrefused : (x : Refusal) → row.said ≡ said.Refused x → ⊥
+  pub delivered : (t : ℕ) (b u : List ℕ) → MachinePacedAt t m → row.said ≡ said.Delivered b u → (b ≡ a) × (u ≡ v) × FrameWithin (rx_pace_at m v) t frame
+  pub paced : Leads m row.machine
+
+plain_arrival : (a : List ℕ) (m : Machine) (v frame : List ℕ) (x : Said) → is_plain x ≡ true → IsArrival a m v frame (says m x)
+plain_arrival a m v frame x plain = record {
+  unsent = plain_not_sent x plain;
+  unrefused = λ y h. plain_not_refused x y plain h;
+  delivered = λ t b u paced h. absurd (plain_not_delivered x b u plain h);
+  paced = λ t h. h;
+}
+
+-- what may pass is within the rate
+pub within_of : (t n : ℕ) (p : Option Paced) → IsPacedAt t (passed t n p) → KeepsWith p ((t, n) ∷ [])
+within_of t n None h = tt
+within_of t n (Some p) h = h.0
+
+the_same : (a v b u : List ℕ) → said.Delivered a v ≡ said.Delivered b u → (b ≡ a) × (u ≡ v)
+the_same a v b u h = (cc, cc)
+
+arrival_is : (a : List ℕ) (m : Machine) (v : List ℕ) (x : Vnic) (ps : List Place) (frame : List ℕ) → rx_pace_at m v ≡ x.rx_pace → IsTxOf m x.rx_pace → IsArrival a m v frame (arrival a m v x ps frame)
+arrival_is a m v x [] frame at of = plain_arrival a m v frame (said.DroppedNoBuffer a v) refl
+arrival_is a m v x (p ∷ ps) frame at of = by (nat_lt (length (bytes_in m p)) (length frame)) (may_pass x.rx_pace m.now (length frame)) refl
   where
     by : (b c : Bool) → may_pass x.rx_pace m.now (length frame) ≡ c
-        → RowSteady m (cond b (says m (said.DroppedTooLong a v)) (cond (not c) (says m (said.DroppedThrottled a v)) (says (received m v x p ps frame) (said.Delivered a v))))
-    by true c is = record { plain = refl; paced = λ t h. h }
-    by false false is = record { plain = refl; paced = λ t h. h }
-    by false true is = record { plain = refl; paced = received_leads m v x p ps frame (λ t h. passed_paced t m.now (length frame) x.rx_pace h.0 (of t h) is) }
+        → IsArrival a m v frame (cond b (says m (said.DroppedTooLong a v)) (cond (not c) (says m (said.DroppedThrottled a v)) (says (received m v x p ps frame) (said.Delivered a v))))
+    by true c is = plain_arrival a m v frame (said.DroppedTooLong a v) refl
+    by false false is = plain_arrival a m v frame (said.DroppedThrottled a v) refl
+    by false true is =
+        let fits : (t : ℕ) → MachinePacedAt t m → IsPacedAt t (passed m.now (length frame) x.rx_pace) = λ t h. passed_paced t m.now (length frame) x.rx_pace h.0 (of t h) is in
+        record {
+          unsent = λ h. absurd cc;
+          unrefused = λ y h. absurd cc;
+          delivered = λ t b u h e.
+              let same = the_same a v b u e in
+              (same.0, same.1, subst (λ q. KeepsWith q ((t, length frame) ∷ [])) (sym at) (within_of t (length frame) x.rx_pace (subst (λ n. IsPacedAt t (passed n (length frame) x.rx_pace)) h.0 (fits t h))));
+          paced = received_leads m v x p ps frame fits;
+        }
 
-pub arrive_steady : (a : List ℕ) (m : Machine) (v frame : List ℕ) → RowSteady m (arrive a m v frame)
-arrive_steady a m v frame = by (vnic_at m v) (λ t h. vnic_at_paced t m v h)
+pub arrive_is : (a : List ℕ) (m : Machine) (v frame : List ℕ) → IsArrival a m v frame (arrive a m v frame)
+arrive_is a m v frame = by (vnic_at m v) refl (λ t h. vnic_at_paced t m v h)
   where
-    by : (o : Option Vnic) → ((t : ℕ) → MachinePacedAt t m → VnicPaced t o) → RowSteady m (unwrap_or (option_map (λ x. arrival a m v x x.rx.posted frame) o) (says m said.DroppedNoFilter))
-    by None of = record { plain = refl; paced = λ t h. h }
-    by (Some x) of = arrival_steady a m v x x.rx.posted frame (λ t h. (of t h).0)
+    by : (o : Option Vnic) → vnic_at m v ≡ o → ((t : ℕ) → MachinePacedAt t m → VnicPaced t o) → IsArrival a m v frame (unwrap_or (option_map (λ x. arrival a m v x x.rx.posted frame) o) (says m said.DroppedNoFilter))
+    by None is of = plain_arrival a m v frame said.DroppedNoFilter refl
+    by (Some x) is of = arrival_is a m v x x.rx.posted frame (ap (λ o. option_and_then (λ (y : Vnic). y.rx_pace) o) is) (λ t h. (of t h).0)

@@ -25,7 +25,7 @@ use Rattle.ark_machine.specs.Paced.{IsPacedAt, MachinePacedAt}
 use Rattle.ark_laws.proofs.Paced.{VnicPaced, passed_paced, vnic_paced, rung_paced}
 use Rattle.ark_laws.proofs.Early.{some_refusal, same_refusal, early_not_told, told_not_sending}
 use Rattle.ark_laws.proofs.Steady.{Leads, move_steady}
-use Rattle.ark_laws.proofs.Answering.{plain_not_sent, plain_not_refused, needs_application, IsRow}
+use Rattle.ark_laws.proofs.Answering.{plain_not_sent, plain_not_refused, plain_not_delivered, needs_application, IsRow}
 use Rattle.ark_laws.proofs.Leading.{sent_reaped_leads, posted_leads}
 
 -- `sendto`: reaped first, and then refused or posted
@@ -58,6 +58,7 @@ sendto_row a m own k ip port payload c g asks none_late =
         → IsRow (w.sendto a k ip port payload) m own (unless_refused first (late c) m (unless_refused (when full r.RingFull (when lacks r.NoBuffer None)) None n row))
     by (Some x) full lacks is = record {
       sent = λ h. absurd cc;
+      undelivered = λ b u h. absurd cc;
       refused = λ y h no. ap (λ z. says m z) h;
       told = λ y h late_one. absurd (early_not_told c x is (subst (λ z. is_told_late z ≡ true) (sym (same_refusal x y h)) late_one));
       paced = λ t h. h;
@@ -68,6 +69,7 @@ sendto_row a m own k ip port payload c g asks none_late =
         then : (next : Option Refusal) → when full r.RingFull (when lacks r.NoBuffer None) ≡ next → IsRow (w.sendto a k ip port payload) m own (unless_refused next None n row)
         then (Some x) also = record {
           sent = λ h. absurd cc;
+          undelivered = λ b u h. absurd cc;
           told = λ y h late_one. absurd (told_not_sending y late_one (subst (λ z. is_of_sending z ≡ true) (same_refusal x y h) (of_sending full lacks x also)));
           refused = λ y h no. absurd (sending_leaves y (subst (λ z. is_of_sending z ≡ true) (same_refusal x y h) (of_sending full lacks x also)) no);
           paced = sent_reaped_leads m k;
@@ -75,6 +77,7 @@ sendto_row a m own k ip port payload c g asks none_late =
         }
         then None also = record {
           sent = λ h. absurd cc;
+          undelivered = λ b u h. absurd cc;
           refused = λ y h no. absurd cc;
           told = λ y h late_one. absurd cc;
           paced = λ t h. posted_leads n (card_at n k) (framed n k g.own ip port payload) (room_for n (frame_frames payload)) t (sent_reaped_leads m k t h);
@@ -85,6 +88,7 @@ sendto_row a m own k ip port payload c g asks none_late =
 
 pub record IsMove (m : Machine) (own : Option Own) (v : List ℕ) (x : Move) : Type 0 where
   pub sent : x.said ≡ said.Sent → IsTrue (is_let_out m v own x.bytes)
+  pub undelivered : (b u : List ℕ) → x.said ≡ said.Delivered b u → ⊥
   pub unrefused : (y : Refusal) → x.said ≡ said.Refused y → ⊥
   pub paced : Leads m x.machine
 
@@ -113,34 +117,36 @@ frame_is m v x own p len ps frame of = by (is_let_out m v own frame) (is_over_bu
     gone = record { machine = tx_ended (with_vnic m v (tx_passed pace)) v x p ps outcome.Ok; said = said.Sent; bytes = frame; calls = [] }
 
     by : (a b c : Bool) → is_let_out m v own frame ≡ a → may_pass x.tx_pace m.now len ≡ c → IsMove m own v (cond (not a) unfit (cond b over (cond (not c) held gone)))
-    by false b c is fits = record { sent = λ h. absurd cc; unrefused = λ y h. cc; paced = tx_ended_leads m m v x p ps outcome.NoFilter (λ t h. h) }
-    by true true c is fits = record { sent = λ h. absurd cc; unrefused = λ y h. cc; paced = tx_ended_leads m m v x p ps outcome.OverBurst (λ t h. h) }
-    by true false false is fits = record { sent = λ h. absurd cc; unrefused = λ y h. cc; paced = λ t h. h }
+    by false b c is fits = record { sent = λ h. absurd cc; undelivered = λ b u h. absurd cc; unrefused = λ y h. cc; paced = tx_ended_leads m m v x p ps outcome.NoFilter (λ t h. h) }
+    by true true c is fits = record { sent = λ h. absurd cc; undelivered = λ b u h. absurd cc; unrefused = λ y h. cc; paced = tx_ended_leads m m v x p ps outcome.OverBurst (λ t h. h) }
+    by true false false is fits = record { sent = λ h. absurd cc; undelivered = λ b u h. absurd cc; unrefused = λ y h. cc; paced = λ t h. h }
     by true false true is fits = record {
       sent = λ h. is;
+      undelivered = λ b u h. absurd cc;
       unrefused = λ y h. cc;
       paced = tx_ended_leads m (with_vnic m v (tx_passed pace)) v x p ps outcome.Ok (λ t h. vnic_paced t m v (tx_passed pace) (λ y q. (q.0, passed_paced t m.now len x.tx_pace h.0 (of t h) fits)) h);
     }
 
 tx_is : (m : Machine) (v : List ℕ) (x : Vnic) (own : Option Own) (ps : List (Place × ℕ)) → IsTxOf m x.tx_pace → IsMove m own v (tx_moves m v x own ps)
-tx_is m v x own [] of = record { sent = λ h. absurd cc; unrefused = λ y h. cc; paced = λ t h. h }
+tx_is m v x own [] of = record { sent = λ h. absurd cc; undelivered = λ b u h. absurd cc; unrefused = λ y h. cc; paced = λ t h. h }
 tx_is m v x own (p ∷ ps) of = frame_is m v x own p.0 p.1 ps (take p.1 (bytes_in m p.0)) of
 
 pub card_is : (m : Machine) (v : List ℕ) (g : Given) (o : Option Vnic) → ((t : ℕ) → MachinePacedAt t m → VnicPaced t o) → IsMove m g.own v (card_moves m v g o)
 card_is m v g None of =
     let s = move_steady m v (first_end g.ended) in
-    record { sent = λ h. absurd (plain_not_sent (move m v (first_end g.ended)).said s.plain h); unrefused = λ y h. plain_not_refused (move m v (first_end g.ended)).said y s.plain h; paced = s.paced }
+    record { sent = λ h. absurd (plain_not_sent (move m v (first_end g.ended)).said s.plain h); undelivered = λ b u h. plain_not_delivered (move m v (first_end g.ended)).said b u s.plain h; unrefused = λ y h. plain_not_refused (move m v (first_end g.ended)).said y s.plain h; paced = s.paced }
 card_is m v g (Some x) of = tx_is m v x g.own x.tx.posted (λ t h. (of t h).1)
 
 pub dev_row : (a v : List ℕ) (m : Machine) (own : Option Own) (c : Conditions) (row : Row) → c.no_application ≡ not m.made → late c ≡ None
-    → (row.said ≡ said.Sent → IsTrue (is_let_out m v own row.bytes)) → ((y : Refusal) → row.said ≡ said.Refused y → ⊥) → Leads m row.machine
+    → (row.said ≡ said.Sent → IsTrue (is_let_out m v own row.bytes)) → ((b u : List ℕ) → row.said ≡ said.Delivered b u → ⊥) → ((y : Refusal) → row.said ≡ said.Refused y → ⊥) → Leads m row.machine
     → IsRow (w.dev a v) m own (answer m c row)
 unfolding answer
-dev_row a v m own c row asks none_late sent unrefused lead = by (early c) refl
+dev_row a v m own c row asks none_late sent undelivered unrefused lead = by (early c) refl
   where
     by : (first : Option Refusal) → early c ≡ first → IsRow (w.dev a v) m own (unless_refused first (late c) m row)
     by (Some x) is = record {
       sent = λ h. absurd cc;
+      undelivered = λ b u h. absurd cc;
       refused = λ y h no. ap (λ z. says m z) h;
       told = λ y h late_one. absurd (early_not_told c x is (subst (λ z. is_told_late z ≡ true) (sym (same_refusal x y h)) late_one));
       paced = λ t h. h;
@@ -148,6 +154,7 @@ dev_row a v m own c row asks none_late sent unrefused lead = by (early c) refl
     }
     by None is = rw none_late (record {
       sent = sent;
+      undelivered = undelivered;
       refused = λ y h no. absurd (unrefused y h);
       told = λ y h late_one. absurd (unrefused y h);
       paced = lead;
@@ -155,4 +162,4 @@ dev_row a v m own c row asks none_late sent unrefused lead = by (early c) refl
     })
 
 pub quiet_row : (line : Line) (m : Machine) (own : Option Own) → IsRow line m own (says m said.Ok)
-quiet_row line m own = record { sent = λ h. absurd cc; refused = λ y h no. absurd cc; told = λ y h late_one. absurd cc; paced = λ t h. h; unmade = λ no. inr refl }
+quiet_row line m own = record { sent = λ h. absurd cc; undelivered = λ b u h. absurd cc; refused = λ y h no. absurd cc; told = λ y h late_one. absurd cc; paced = λ t h. h; unmade = λ no. inr refl }

@@ -1,19 +1,17 @@
 -- A line sends only what a filter lets out, and leaves every queue at its rate.
-use Rattle.std.proofs.Common.{◌≡◌, ℕ, ◌+◌, Bool, true, false, List, [], ◌∷◌, map, refl, sym, ◌∙◌, ap, subst, arith, cond, get_or}
+use Rattle.std.proofs.Common.{◌≡◌, ℕ, ◌+◌, Bool, true, false, List, [], ◌∷◌, map, refl, sym, ap, subst, arith, cond}
 use Rattle.std.specs.Prelude.{Option, Some, None, Ok, Err, IsTrue, option_map, find, unwrap_or, bytes_eq}
 use Rattle.std.specs.List.{AllByRecursion}
 use Rattle.ark_base.specs.declared.kind.Kind.{Kind}
 use Rattle.ark_base.specs.declared.kind.Kind.TheVariants as kind
 use Rattle.ark_base.specs.declared.refusal.Refusal.{Refusal}
 use Rattle.ark_base.specs.declared.refusal.Refusal.TheVariants as r
-use Rattle.ark_media.specs.Journal.{Event, output_of, device_events}
+use Rattle.ark_media.specs.Journal.{Event, device_events}
 use Rattle.ark_packet.specs.declared.own.Own.{Own}
 use Rattle.ark_table.specs.Slots.{Slot}
 use Rattle.ark_script.specs.Line as w
 use Rattle.ark_script.specs.Line.{Line}
 use Rattle.ark_script.specs.Lines.{Meaning}
-use Rattle.ark_script.specs.Text.{text}
-use Rattle.ark_script.specs.declared.said.Said.{Said}
 use Rattle.ark_script.specs.declared.said.Said.TheVariants as said
 use Rattle.ark_machine.specs.Objects
 use Rattle.ark_machine.specs.Objects.{Object, Paced}
@@ -25,80 +23,14 @@ use Rattle.ark_machine.specs.Step.{step, ticked}
 use Rattle.ark_machine.specs.System.{System, Turn, listed_machine, machine_of, set_machine, owner, takes, quiet_turn, own_turn, nic_turn, taken_turn, wire_turn, common_turn, owned_turn, line_turn}
 use Rattle.ark_machine.specs.Start.{view, stored_area, with_slot, with_stored, all_stored, start_system}
 use Rattle.ark_machine.specs.Built.{turn, is_built, so_far}
-use Rattle.ark_machine.specs.Replies.{turn_for, Answers, has_lacked}
+use Rattle.ark_machine.specs.Replies.{turn_for, has_lacked}
 use Rattle.ark_machine.specs.Follow.{ends_of}
-use Rattle.ark_machine.specs.Sending.{IsLetOut, SendsWithin, KeepsRate, KeepsRates, HeldKeeps, ListedKeeps, AllKeep}
+use Rattle.ark_machine.specs.Sending.{IsLetOut, KeepsRate, KeepsRates, HeldKeeps, ListedKeeps, AllKeep}
 use Rattle.ark_machine.specs.Paced.{IsPacedAt, ArePacedAt, HeldPacedAt, MachinePacedAt, ListedPacedAt, StandsPaced}
 use Rattle.ark_laws.proofs.Paced.{later_held, new_paced}
 use Rattle.ark_laws.proofs.Steady.{is_plain}
 use Rattle.ark_laws.proofs.Answering.{MaySend, plain_not_sent}
-use Rattle.ark_laws.proofs.Rows.{row_is, arrive_steady}
-
--- Texts.
-
-starts : (c : ℕ) (xs ys : List ℕ) (d : ℕ) → c ∷ xs ≡ d ∷ ys → c ≡ d
-starts c xs ys d h = ap (λ l. get_or l 0 0) h
-
-apart : (c : ℕ) (xs ys : List ℕ) → (c ≡ 115 → ⊥) → c ∷ xs ≡ 115 ∷ ys → ⊥
-apart c xs ys ne h = ne (starts c xs ys 115 h)
-
-not_97 : ◌≡◌ {A = ℕ} 97 115 → ⊥
-not_97 h = absurd (omega (arith, h))
-
-not_100 : ◌≡◌ {A = ℕ} 100 115 → ⊥
-not_100 h = absurd (omega (arith, h))
-
-not_102 : ◌≡◌ {A = ℕ} 102 115 → ⊥
-not_102 h = absurd (omega (arith, h))
-
-not_104 : ◌≡◌ {A = ℕ} 104 115 → ⊥
-not_104 h = absurd (omega (arith, h))
-
-not_105 : ◌≡◌ {A = ℕ} 105 115 → ⊥
-not_105 h = absurd (omega (arith, h))
-
-not_109 : ◌≡◌ {A = ℕ} 109 115 → ⊥
-not_109 h = absurd (omega (arith, h))
-
-not_111 : ◌≡◌ {A = ℕ} 111 115 → ⊥
-not_111 h = absurd (omega (arith, h))
-
-not_114 : ◌≡◌ {A = ℕ} 114 115 → ⊥
-not_114 h = absurd (omega (arith, h))
-
--- only a reply that shows a sent frame has such a text
-pub text_sent : (x : Said) (bytes frame : List ℕ) → text x bytes ≡ text said.Sent frame → x ≡ said.Sent
-text_sent said.Sent bytes frame h = refl
-text_sent (said.Ready p q) bytes frame h = absurd (apart 114 _ _ not_114 h)
-text_sent said.Ok bytes frame h = absurd (apart 111 _ _ not_111 h)
-text_sent (said.Num p) bytes frame h = absurd (apart 111 _ _ not_111 h)
-text_sent (said.Pair p q) bytes frame h = absurd (apart 111 _ _ not_111 h)
-text_sent (said.Rings p q o) bytes frame h = absurd (apart 111 _ _ not_111 h)
-text_sent said.Bytes bytes frame h = absurd (apart 111 _ _ not_111 h)
-text_sent said.Nothing bytes frame h = absurd (apart 111 _ _ not_111 h)
-text_sent said.Posted bytes frame h = absurd (apart 111 _ _ not_111 h)
-text_sent said.OkHeld bytes frame h = absurd (apart 111 _ _ not_111 h)
-text_sent (said.Got p q) bytes frame h = absurd (apart 111 _ _ not_111 h)
-text_sent (said.Put p q) bytes frame h = absurd (apart 111 _ _ not_111 h)
-text_sent (said.Flushed p) bytes frame h = absurd (apart 111 _ _ not_111 h)
-text_sent (said.TakenRx p q) bytes frame h = absurd (apart 111 _ _ not_111 h)
-text_sent (said.TakenTx p q) bytes frame h = absurd (apart 111 _ _ not_111 h)
-text_sent (said.Datagram p q) bytes frame h = absurd (apart 111 _ _ not_111 h)
-text_sent said.Idle bytes frame h = absurd (apart 105 _ _ not_105 h)
-text_sent said.Held bytes frame h = absurd (apart 104 _ _ not_104 h)
-text_sent said.Moved bytes frame h = absurd (apart 109 _ _ not_109 h)
-text_sent (said.Done p) bytes frame h = absurd (apart 100 _ _ not_100 h)
-text_sent (said.Delivered p q) bytes frame h = absurd (apart 100 _ _ not_100 h)
-text_sent said.DroppedNoFilter bytes frame h = absurd (apart 100 _ _ not_100 h)
-text_sent (said.DroppedNoBuffer p q) bytes frame h = absurd (apart 100 _ _ not_100 h)
-text_sent (said.DroppedTooLong p q) bytes frame h = absurd (apart 100 _ _ not_100 h)
-text_sent (said.DroppedThrottled p q) bytes frame h = absurd (apart 100 _ _ not_100 h)
-text_sent (said.AckedAppend p) bytes frame h = absurd (apart 97 _ _ not_97 h)
-text_sent (said.AckedPush p) bytes frame h = absurd (apart 97 _ _ not_97 h)
-text_sent (said.AckedTrim p) bytes frame h = absurd (apart 97 _ _ not_97 h)
-text_sent (said.AckedPop p) bytes frame h = absurd (apart 97 _ _ not_97 h)
-text_sent (said.Failed p) bytes frame h = absurd (apart 102 _ _ not_102 h)
-text_sent (said.Refused p) bytes frame h = absurd (apart 114 _ _ not_114 h)
+use Rattle.ark_laws.proofs.Rows.{row_is, arrive_is}
 
 -- Systems.
 
@@ -163,8 +95,8 @@ nic_mild s own (Some old) = refused_mild s (w.nic own) r.NameTaken
 taken_mild : (s : System) (frame : List ℕ) (o : Option LiveFilter) → IsMild s (w.wire frame) (taken_turn s frame o)
 taken_mild s frame None = plain_mild s (w.wire frame) (taken_turn s frame None) refl (λ k. k)
 taken_mild s frame (Some f) =
-    let steady = arrive_steady f.owner (machine_of s f.owner) (unwrap_or f.card []) frame in
-    plain_mild s (w.wire frame) (taken_turn s frame (Some f)) steady.plain (λ k. set_paced s.now s.machines f.owner _ k (steady.paced s.now (listed_paced s.now s.machines f.owner k)))
+    let row = arrive_is f.owner (machine_of s f.owner) (unwrap_or f.card []) frame in
+    record { sent = λ h. absurd (row.unsent h); rates = λ k. set_paced s.now s.machines f.owner _ k (row.paced s.now (listed_paced s.now s.machines f.owner k)) }
 
 wire_mild : (s : System) (frame : List ℕ) (o : Option Own) → IsMild s (w.wire frame) (wire_turn s frame o)
 wire_mild s frame None = refused_mild s (w.wire frame) r.NoNic
@@ -241,28 +173,10 @@ paced_keep s h = machines_keep s.now s.machines h
 
 -- The program's turns.
 
-sent_of : (s : System) (m : Meaning) (x : Said) (bytes output : List ℕ) → (x ≡ said.Sent → IsLetOut s m bytes) → output ≡ text x bytes → SendsWithin s m output
-sent_of s m x bytes output lets is frame h =
-    let sent : x ≡ said.Sent = text_sent x bytes frame (sym is ∙ h) in
-    (bytes, is ∙ ap (λ (y : Said). text y bytes) sent, lets sent)
-
-turn_sends : (s : System) (m : Meaning) (ends : List Ended) (memory : Bool) → (turn s m ends memory).said ≡ said.Sent → IsLetOut s m (turn s m ends memory).bytes
-turn_sends s (Err x) ends memory h = absurd cc
-turn_sends s (Ok line) ends memory h = by (is_built line) h
-  where
-    by : (b : Bool) → (cond b (so_far line (line_turn s line ends memory)) (quiet_turn s (said.Refused r.UnknownWord))).said ≡ said.Sent
-        → IsLetOut s (Ok line) (cond b (so_far line (line_turn s line ends memory)) (quiet_turn s (said.Refused r.UnknownWord))).bytes
-    by true g = line_sends s line ends memory g
-    by false g = absurd cc
-
 pub turn_paced : (s : System) (m : Meaning) (ends : List Ended) (memory : Bool) → StandsPaced s → StandsPaced (turn s m ends memory).after
 turn_paced s (Err x) ends memory k = k
 turn_paced s (Ok line) ends memory k =
     elim (is_built line) as (λ b. StandsPaced (cond b (so_far line (line_turn s line ends memory)) (quiet_turn s (said.Refused r.UnknownWord))).after) [ true ↦ line_paced s line ends memory k | false ↦ k ]
-
-pub sends_within : (s : System) (m : Meaning) (part : List Event) → Answers s m part → SendsWithin s m (output_of part)
-sends_within s m part h =
-    sent_of s m (turn_for s m part).said (turn_for s m part).bytes (output_of part) (turn_sends s m (ends_of (device_events part)) (has_lacked part)) h.output
 
 pub rates_kept : (s : System) (m : Meaning) (part : List Event) → StandsPaced s → StandsPaced (turn_for s m part).after
 rates_kept s m part k = turn_paced s m (ends_of (device_events part)) (has_lacked part) k

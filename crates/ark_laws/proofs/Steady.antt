@@ -1,4 +1,4 @@
--- Moves, polls and settling leave the queues paced, and answer with no refusal and no sent frame.
+-- Moves, polls and settling leave the queues paced, and answer with no refusal and no frame.
 use Rattle.std.proofs.Common.{◌≡◌, ℕ, ◌+◌, Bool, true, false, not, List, [], ◌∷◌, ◌&&◌, refl, cond}
 use Rattle.std.specs.Prelude.{◌*◌, Option, Some, None, option_map, unwrap_or, nat_lt, slice_index_or}
 use Rattle.ark_base.specs.declared.kind.Kind.{Kind}
@@ -24,10 +24,11 @@ use Rattle.ark_machine.specs.Polls.{Polled, acked, next_phase, phases_left, empt
 use Rattle.ark_machine.specs.Paced.{IsPacedAt, ArePacedAt, MachinePacedAt}
 use Rattle.ark_laws.proofs.Paced.{VsicPaced, passed_paced, object_paced, each_paced, synced_paced, vsic_at_paced, vsic_paced, log_paced, buffer_paced, raw_paced, rung_paced}
 
--- neither a refusal nor a frame that was sent
+-- neither a refusal nor a frame that was sent or delivered
 abbrev pub is_plain : Said → Bool
 is_plain said.Sent = false
 is_plain (said.Refused x) = false
+is_plain (said.Delivered app card) = false
 is_plain _ = true
 
 -- a machine's queues stay paced

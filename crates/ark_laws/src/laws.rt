@@ -15,7 +15,7 @@ ghost use Rattle.ark_machine.specs.System.{System, fresh_system, machine_of, set
 ghost use Rattle.ark_machine.specs.Sockets.{sent_reaped};
 ghost use Rattle.ark_machine.specs.Start.{start_system};
 ghost use Rattle.ark_machine.specs.Plane.{Plane, blocks_at, granted};
-ghost use Rattle.ark_machine.specs.Follow.{PerformsFor, slots_for};
+ghost use Rattle.ark_machine.specs.Follow.{PerformsFor};
 ghost use Rattle.ark_machine.specs.Grants.{GrantsApart};
 ghost use Rattle.ark_machine.specs.Replies.{Answers, EachAnswers, turn_for, system_after, Replies};
 ghost use Rattle.ark_machine.specs.Sending.{IsLetOut, AllKeep, PassesWithin};
@@ -43,8 +43,8 @@ pub fn confinement_laws()
     ensures confined { (s : System) (lines : List (List ℕ)) (whole : List (List Event)) (unfinished : List Event) → StandsPaced s → Replies s lines whole unfinished → Confined s lines whole unfinished }
 {}
 
-/// No block is granted twice: not in the slots that are read from an image, nor after a line if not before it, and a new block
-/// is in no area. So a line reads no block of another application's area, and writes none but at a slot that it may write.
+/// No block is granted twice, and each that is granted is a data block: so it is of the slots that are read from an image, and
+/// after a line if before it, and a new block is in no area. So a line reads and writes no block of another application's area.
 pub fn grant_laws()
     ensures fresh { (size : ℕ) → GrantsApart (fresh_system size).plane }
     ensures stored { (image : List (List ℕ)) (slots : List Slot) → slots_of image ≡ Ok slots → GrantsApart (start_system image slots).plane }
@@ -52,7 +52,7 @@ pub fn grant_laws()
     ensures apart { (p : Plane) (a b l k : List ℕ) (n : ℕ) → GrantsApart p → bytes_eq a b ≡ false → Contains (blocks_at p a l) n → Contains (blocks_at p b k) n → ⊥ }
     ensures new_blocks { (p : Plane) (line : Line) (b k : List ℕ) (n : ℕ) → Contains (granted p line) n → Contains (blocks_at p b k) n → ⊥ }
     ensures reads { (s : System) (line : Line) (a b l : List ℕ) (n : ℕ) → GrantsApart s.plane → owner line ≡ Some a → bytes_eq a b ≡ false → Contains (readable s line) n → Contains (blocks_at s.plane b l) n → ⊥ }
-    ensures writes { (s : System) (line : Line) (a b l : List ℕ) (n : ℕ) → GrantsApart s.plane → owner line ≡ Some a → bytes_eq a b ≡ false → Contains (writable s line) n → Contains (blocks_at s.plane b l) n → Contains (slots_for s.plane a line) n }
+    ensures writes { (s : System) (line : Line) (a b l : List ℕ) (n : ℕ) → GrantsApart s.plane → owner line ≡ Some a → bytes_eq a b ≡ false → Contains (writable s line) n → Contains (blocks_at s.plane b l) n → ⊥ }
 {}
 
 /// Applications are apart. A line of one leaves the machine of each other as it is. In a run, whatever other lines stand in it,

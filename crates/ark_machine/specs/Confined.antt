@@ -1,4 +1,4 @@
--- Which blocks a line may touch and which frames it may send, by the grants that are held before it. Ours.
+-- Which blocks a line may touch and which frames it may send, by the grants that are held before it.
 use Rattle.std.specs.Prelude.{◌≡◌, ◌⊎◌, ℕ, Bool, true, false, List, [], ◌∷◌, ◌++◌, length, drop, if◌then◌else◌, is_some, option_map, unwrap_or, Ok, Err, Contains, IsTrue}
 use Rattle.std.specs.List.{flat_map}
 use Rattle.ark_media.specs.Journal.{Event, Read, Write, Sync, Out, has_succeeded, device_events, output_of}
@@ -10,7 +10,7 @@ use Rattle.ark_machine.specs.Control.{is_open_on}
 use Rattle.ark_machine.specs.Plane.{blocks_at, slot_of, granted}
 use Rattle.ark_machine.specs.System.{System, machine_of}
 use Rattle.ark_machine.specs.Follow.{slots_for}
-use Rattle.ark_machine.specs.Sending.{SendsWithin, AllKeep, PassesWithin}
+use Rattle.ark_machine.specs.Sending.{SendsWithin, DeliversWithin, AllKeep, PassesWithin}
 use Rattle.ark_machine.specs.Replies.{turn_for, system_after}
 
 -- what a card reaches: the areas that are bound to it, by the numbers of their objects, and the log that is open on it
@@ -82,10 +82,12 @@ abbrev pub IsConfined : System → Meaning → List Event → Type 0
 IsConfined s (Ok line) es = AllAllowed s line es × EndsAtFailure es × PassesWithin s line es
 IsConfined s (Err refusal) es = es ≡ []
 
--- each whole part: what was done to the device, the frame that went out, and the rates of all queues afterwards
+-- Each whole part: what was done to the device, the frame that the output shows to have gone out or come in, and the rates that
+-- the machines keep for all queues afterwards.
 pub record IsPartConfined (s : System) (m : Meaning) (part : List Event) : Type 0 where
   pub device : IsConfined s m (device_events part)
   pub sends : SendsWithin s m (output_of part)
+  pub delivers : DeliversWithin s m (output_of part)
   pub rates : AllKeep (turn_for s m part).after
 
 abbrev pub EachConfined : System → List Meaning → List (List Event) → Type 0
@@ -98,8 +100,8 @@ abbrev pub BeginsConfined : System → List (List ℕ) → List Event → Type 0
 BeginsConfined s [] es = es ≡ []
 BeginsConfined s (line ∷ lines) es = (es ≡ []) ⊎ ((m : Meaning) × Says line m × IsConfined s m es)
 
--- From a system on, every part touches only what its line may touch and sends only what a filter lets out, with the system as
--- it is before the line, and no queue goes past its rate.
+-- From a system on, every part touches only what its line may touch, and shows no frame that no filter lets out or in or that
+-- goes past the rate of its card's queue, with the system as it is before the line.
 pub record Confined (s : System) (lines : List (List ℕ)) (whole : List (List Event)) (unfinished : List Event) : Type 0 where
   pub meanings : List Meaning
   pub say : FirstSay lines meanings

@@ -1,14 +1,15 @@
--- A frame that goes out: the filter that lets it out, and how it is counted. Ours.
-use Rattle.std.specs.Prelude.{◌≡◌, ◌≤◌, ℕ, List, ◌∷◌, length, take, true, Option, Some, option_and_then, Contains}
+-- A frame that goes out: the filter that lets it out, and how it is counted.
+use Rattle.std.specs.Prelude.{◌≡◌, ◌≤◌, ℕ, List, ◌∷◌, length, take, true, Some, Contains}
 use Rattle.ark_filters.specs.In.{is_in}
 use Rattle.ark_filters.specs.declared.filter.Direction.TheVariants as direction
 use Rattle.ark_filters.specs.declared.filter.Filter.{Filter}
 use Rattle.ark_packet.specs.declared.own.Own.{Own}
 use Rattle.ark_machine.specs.Objects
-use Rattle.ark_machine.specs.Objects.{Paced, Place, Vnic}
-use Rattle.ark_machine.specs.Machine.{Machine, Held, vnic_at}
+use Rattle.ark_machine.specs.Objects.{Place, Vnic}
+use Rattle.ark_machine.specs.Machine.{Machine, Held}
 use Rattle.ark_machine.specs.Network.{bytes_in}
 use Rattle.ark_machine.specs.Rates.{passed}
+use Rattle.ark_machine.specs.Sending.{tx_pace_at}
 use Rattle.ark_machine.specs.System.{System, machine_of}
 
 -- application a holds a transmit filter that is assigned to its card v, and the frame matches it
@@ -21,10 +22,6 @@ pub record LetsOut (s : System) (a v frame : List ℕ) : Type 0 where
   pub is_assigned : filter.object ≡ Objects.filter rule (Some v)
   pub transmits : rule.direction ≡ direction.Tx
   pub matches : is_in rule frame own ≡ true
-
--- the pace of a network card's transmit queue, if it has one
-abbrev pub tx_pace_at : Machine → List ℕ → Option Paced
-tx_pace_at m v = option_and_then (λ x. x.tx_pace) (vnic_at m v)
 
 -- The frame is that of the oldest posted descriptor of card x. So many bytes as were posted have passed the card's transmit
 -- queue at the machine's tick: as many as went out where the frame's buffer has them all, and never fewer.

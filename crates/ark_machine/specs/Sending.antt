@@ -1,5 +1,5 @@
--- Frames that go out, and the rates that queues keep. Ours.
-use Rattle.std.specs.Prelude.{◌≡◌, ℕ, List, [], ◌∷◌, ◌++◌, IsTrue, Option, Some, None, option_and_then, Ok}
+-- The rates that queues keep, what passes them in a line, and the frames that go out and come in.
+use Rattle.std.specs.Prelude.{◌≡◌, ℕ, List, [], ◌∷◌, ◌++◌, length, IsTrue, Option, Some, None, option_and_then, find, Ok}
 use Rattle.std.specs.List.{AllByRecursion}
 use Rattle.ark_media.specs.Journal.{Event, Read, Write, Sync, Out}
 use Rattle.ark_vic.specs.Pace.{Pass, Keeps}
@@ -10,19 +10,11 @@ use Rattle.ark_script.specs.Text.{text}
 use Rattle.ark_script.specs.declared.said.Said.TheVariants as said
 use Rattle.ark_machine.specs.Objects
 use Rattle.ark_machine.specs.Objects.{Object, Paced}
-use Rattle.ark_machine.specs.Machine.{Machine, Held, vsic_at}
+use Rattle.ark_machine.specs.Machine.{Machine, Held, vsic_at, vnic_at}
 use Rattle.ark_machine.specs.Network.{is_let_out}
 use Rattle.ark_machine.specs.Logs.{card_of}
-use Rattle.ark_machine.specs.System.{System, machine_of}
-
--- the line moves a card, and a transmit filter that is assigned to the card takes the frame
-abbrev pub IsLetOut : System → Meaning → List ℕ → Type 0
-IsLetOut s (Ok (w.dev a v)) frame = IsTrue (is_let_out (machine_of s a) v s.plane.own frame)
-IsLetOut s _ frame = ⊥
-
--- what was put out for a line: where it shows a frame that went out, that frame was let out
-abbrev pub SendsWithin : System → Meaning → List ℕ → Type 0
-SendsWithin s m output = (frame : List ℕ) → output ≡ text said.Sent frame → (sent : List ℕ) × (output ≡ text said.Sent sent) × IsLetOut s m sent
+use Rattle.ark_machine.specs.Plane.{LiveFilter}
+use Rattle.ark_machine.specs.System.{System, machine_of, takes}
 
 -- the passes of a queue keep the law of its rate
 abbrev pub KeepsRate : Option Paced → Type 0
@@ -76,3 +68,51 @@ KeepsWith (Some p) more = Keeps p.q p.burst (p.passes ++ more)
 -- the blocks of a line's device events are within the rate of the card that it moves
 abbrev pub PassesWithin : System → Line → List Event → Type 0
 PassesWithin s line es = KeepsWith (pace_by s line) (blocks_passed s.now es)
+
+-- Frames.
+
+-- the line moves a card, and a transmit filter that is assigned to the card takes the frame
+abbrev pub IsLetOut : System → Meaning → List ℕ → Type 0
+IsLetOut s (Ok (w.dev a v)) frame = IsTrue (is_let_out (machine_of s a) v s.plane.own frame)
+IsLetOut s _ frame = ⊥
+
+-- the paces of a network card's queues
+abbrev pub tx_pace_at : Machine → List ℕ → Option Paced
+tx_pace_at m v = option_and_then (λ x. x.tx_pace) (vnic_at m v)
+
+abbrev pub rx_pace_at : Machine → List ℕ → Option Paced
+rx_pace_at m v = option_and_then (λ x. x.rx_pace) (vnic_at m v)
+
+-- the frame's bytes may pass the queue at this tick, with all that passed before
+abbrev pub FrameWithin : Option Paced → ℕ → List ℕ → Type 0
+FrameWithin pace now frame = KeepsWith pace ((now, length frame) ∷ [])
+
+-- the frame is within the rate of the transmit queue of the card that the line moves
+abbrev pub IsPacedOut : System → Meaning → List ℕ → Type 0
+IsPacedOut s (Ok (w.dev a v)) frame = FrameWithin (tx_pace_at (machine_of s a) v) s.now frame
+IsPacedOut s _ frame = ⊥
+
+-- what was put out for a line: where it shows a frame that went out, that frame was let out, and is within the rate
+abbrev pub SendsWithin : System → Meaning → List ℕ → Type 0
+SendsWithin s m output = (frame : List ℕ) → output ≡ text said.Sent frame → (sent : List ℕ) × (output ≡ text said.Sent sent) × IsLetOut s m sent × IsPacedOut s m sent
+
+-- the receive filter that takes a frame, where this end has its addresses
+abbrev pub taker : System → List ℕ → Option LiveFilter
+taker s frame = option_and_then (λ own. find (λ f. takes own frame f) s.plane.filters) s.plane.own
+
+-- A frame comes to card v of application a: a receive filter that is assigned to the card takes it, and it is within the rate
+-- of the card's receive queue.
+pub record IsLetIn (s : System) (a v frame : List ℕ) : Type 0 where
+  pub filter : LiveFilter
+  pub takes : taker s frame ≡ Some filter
+  pub owner : filter.owner ≡ a
+  pub card : filter.card ≡ Some v
+  pub paced : FrameWithin (rx_pace_at (machine_of s a) v) s.now frame
+
+abbrev pub IsDelivered : System → Meaning → List ℕ → List ℕ → Type 0
+IsDelivered s (Ok (w.wire frame)) a v = IsLetIn s a v frame
+IsDelivered s _ a v = ⊥
+
+-- what was put out for a line: where it shows that a frame was delivered, the frame was let in there
+abbrev pub DeliversWithin : System → Meaning → List ℕ → Type 0
+DeliversWithin s m output = (a v : List ℕ) → output ≡ text (said.Delivered a v) [] → (b u : List ℕ) × (output ≡ text (said.Delivered b u) []) × IsDelivered s m b u

@@ -8,7 +8,8 @@ use Rattle.ark_machine.specs.Machine.{vnic_at}
 use Rattle.ark_machine.specs.Row.{answer}
 use Rattle.ark_machine.specs.Step.{step}
 use Rattle.ark_machine.specs.System.{System, Turn, fresh_system, machine_of, line_turn}
-use Rattle.ark_machine.specs.Frames.{LetsOut, tx_pace_at, IsCounted}
+use Rattle.ark_machine.specs.Sending.{tx_pace_at}
+use Rattle.ark_machine.specs.Frames.{LetsOut, IsCounted}
 use Rattle.ark_worked.proofs.Playing.{played}
 use Rattle.ark_worked.proofs.Sending.{paced, sends}
 use Rattle.ark_laws.proofs.Sent.{line_sends}

@@ -14,7 +14,7 @@ use Rattle.ark_machine.specs.Plane.{blocks_at}
 use Rattle.ark_machine.specs.Step.{step}
 use Rattle.ark_machine.specs.System.{System, fresh_system, line_turn}
 use Rattle.ark_machine.specs.Start.{start_system}
-use Rattle.ark_machine.specs.Follow.{Follow, slots_for, ends_of}
+use Rattle.ark_machine.specs.Follow.{Follow, ends_of}
 use Rattle.ark_machine.specs.Grants.{GrantsApart}
 use Rattle.ark_machine.specs.Confined.{Confined}
 use Rattle.ark_machine.specs.Private.{Play, replies_to}
@@ -81,17 +81,13 @@ theirs : Contains (blocks_at both.plane b t) 131
 unfolding step answer
 theirs = (0, omega arith, refl)
 
--- the line writes no slot
-unslotted : Contains (slots_for both.plane a writes) 131 → ⊥
-unslotted h = absurd (omega (arith, h.1))
-
 pub writes-leave : (base : List (List ℕ)) (j : List Event) (c : List ℕ) → 131 < length base → MayHold Whole base (onto written j) 131 c → MayHold Whole base j 131 c
 writes-leave base j c lt h =
-    others_whole both writes a b t written base j 131 c (played_apart (fresh_system 200) two tt) refl refl (line_confined both writes (ends_of written) false written writes-follow).0 theirs unslotted lt h
+    others_whole both writes a b t written base j 131 c (played_apart (fresh_system 200) two (record { fit = tt; apart = tt })) refl refl (line_confined both writes (ends_of written) false written writes-follow).0 theirs lt h
 
 pub writes-leave_torn : (base : List (List ℕ)) (j : List Event) (c : List ℕ) → 131 < length base → MayHold AnyBytes base (onto written j) 131 c → MayHold AnyBytes base j 131 c
 writes-leave_torn base j c lt h =
-    others_torn both writes a b t written base j 131 c (played_apart (fresh_system 200) two tt) refl refl (line_confined both writes (ends_of written) false written writes-follow).0 theirs unslotted lt h
+    others_torn both writes a b t written base j 131 c (played_apart (fresh_system 200) two (record { fit = tt; apart = tt })) refl refl (line_confined both writes (ends_of written) false written writes-follow).0 theirs lt h
 
 -- Two images that hold the same for an application, at other blocks: what it is told in runs on them is the same.
 

@@ -70,14 +70,14 @@ abbrev every : Direction → Filter
 every d = record { direction = d; proto = proto.Eth; peers = record { count = 0; items = [] }; services = record { count = 0; items = [] } }
 
 -- to the gateway, of a type of its own, with one byte
-abbrev frame : List ℕ
+abbrev pub frame : List ℕ
 frame = own.gateway ++ (own.mac ++ (136 ∷ 181 ∷ 7 ∷ []))
 
 -- Frames and rates.
 
 -- two frames of 15 bytes, at 10 bytes a tick and 20 of a burst: the second one is held until a tick has passed
-abbrev two_frames : List Played
-two_frames =
+abbrev pub two_posted : List Played
+two_posted =
     quiet (w.nic own)
     ∷ app a
     ∷ quiet (w.vnic a v 4 4)
@@ -91,10 +91,10 @@ two_frames =
     ∷ quiet (w.fill a n 0 frame)
     ∷ quiet (w.send a v m 15)
     ∷ quiet (w.send a v n 15)
-    ∷ quiet (w.dev a v)
-    ∷ quiet (w.dev a v)
-    ∷ quiet (w.tick 1)
     ∷ []
+
+abbrev two_frames : List Played
+two_frames = two_posted ++ quiet (w.dev a v) ∷ quiet (w.dev a v) ∷ quiet (w.tick 1) ∷ []
 
 pub two_frames-replies : replies (fresh_system 200) (two_frames ++ quiet (w.dev a v) ∷ [])
     ≡ codes "ok" ∷ codes "ok" ∷ codes "ok" ∷ codes "ok" ∷ codes "ok" ∷ codes "ok" ∷ codes "ok" ∷ codes "ok" ∷ codes "ok" ∷ codes "ok" ∷ codes "ok" ∷ codes "ok" ∷ codes "ok"
@@ -145,7 +145,7 @@ both_granted = (refl, refl)
 
 -- a look at the one reads nothing of the other
 pub not_read : (k : ℕ) → Contains (readable shared (w.peek a s 0)) k → Contains (blocks_at shared.plane b s) k → ⊥
-not_read k = no_other_read shared (w.peek a s 0) a b s k (played_apart (fresh_system 200) two_areas tt) refl refl
+not_read k = no_other_read shared (w.peek a s 0) a b s k (played_apart (fresh_system 200) two_areas (record { fit = tt; apart = tt })) refl refl
 
 -- Privacy.
 

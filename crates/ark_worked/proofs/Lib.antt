@@ -30,6 +30,7 @@ pub mod Rules
 pub mod RunStops
 pub mod Script
 pub mod Scripts
+pub mod SecondFrame
 pub mod Sending
 pub mod SoFar
 pub mod Sockets

@@ -5,7 +5,7 @@ use Rattle.ark_laws.proofs.laws.grant_laws.Goals as goal
 
 pub returns : goal.returns
 returns c = record {
-  fresh = λ size. tt;
+  fresh = λ size. record { fit = tt; apart = tt };
   stored = stored_apart;
   kept = line_apart;
   apart = areas_apart;
