@@ -1,4 +1,4 @@
-ghost use Rattle.std.specs.Prelude.{◌≡◌, [], ◌∷◌, ◌++◌, length, ◌≤◌, IfOk};
+ghost use Rattle.std.specs.Prelude.{◌≡◌, [], ◌++◌, length, ◌≤◌, IfOk};
 ghost use Rattle.ark_cli.specs.Line.{kept};
 
 use std::alloc::{AllocError, Global};
@@ -50,13 +50,20 @@ impl LineBuffer {
         self.len = 0;
     }
 
-    /// Adds a byte, where it is not known yet that the line is too long.
-    pub fn push(&mut self, b: u8)
-        ensures { self.new ≡ kept (self.old ++ b ∷ []) }
+    /// Adds bytes, until it is known that the line is too long.
+    pub fn extend(&mut self, bytes: &[u8])
+        ensures { self.new ≡ kept (self.old ++ bytes.now) }
     {
-        if self.len < ROOM {
-            self.bytes[self.len] = b;
-            self.len += 1;
-        }
+        let count = bytes.len().min(ROOM - self.len);
+        let end = self.len + count;
+        self.bytes[self.len..end].copy_from_slice(&bytes[..count]);
+        self.len = end;
     }
+}
+
+/// The bytes that are kept of a line that lies whole.
+pub fn kept_of(line: &[u8]) -> &[u8]
+    ensures { result.now ≡ kept line.now }
+{
+    &line[..line.len().min(ROOM)]
 }
