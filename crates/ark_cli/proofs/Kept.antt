@@ -1,8 +1,10 @@
 -- What is kept of a line.
-use Rattle.std.proofs.Common.{◌≡◌, ℕ, suc, ◌+◌, ◌-◌, ◌<◌, ◌≤◌, List, [], ◌∷◌, ◌++◌, take, length, inl, inr, refl, sym, ◌∙◌, ap, arith, length-append}
+use Rattle.std.proofs.Common.{◌≡◌, ℕ, suc, ◌+◌, ◌-◌, ◌<◌, ◌≤◌, List, [], ◌∷◌, ◌++◌, take, drop, length, Vec, inl, inr, refl, sym, ◌∙◌, ap, arith, length-append}
 use Rattle.std.specs.Prelude.{◌⊎◌, min}
+use Rattle.std.specs.Vec.{with_items}
 use Rattle.std.proofs.lemmas.Bool.{cases_lt}
-use Rattle.std.proofs.lemmas.List.{take_all, take-take, length-take, take-append-le, take-append-add}
+use Rattle.std.proofs.lemmas.List.{take_all, take-take, length-take, length-drop, take-append-le, with_items_is}
+use Rattle.std.proofs.Math.Seq.{take-append-add}
 use Rattle.ark_cli.specs.Line.{kept, limit, within_limit}
 
 joined_by : (now bytes : List ℕ) (n : ℕ) → length now ≤ 66001 → n ≡ min (length bytes) (66001 - length now) → (length bytes < 66001 - length now) ⊎ (66001 - length now ≤ length bytes) → now ++ take n bytes ≡ take 66001 (now ++ bytes)
@@ -19,6 +21,24 @@ pub kept_joined : (now bytes : List ℕ) (n : ℕ) → length now ≤ 66001 → 
 unfolding kept
 kept_joined now bytes n room is = joined_by now bytes n room is (cases_lt (length bytes) (66001 - length now))
 
+-- the same, where they are written behind those that are kept
+pub kept_extended : (items now bytes rest : List ℕ) (len n : ℕ) → length items ≡ 66001 → len ≤ 66001 → take len items ≡ now → n ≡ min (length bytes) (66001 - len) → take (len + n) (take len items ++ (take n bytes ++ rest)) ≡ kept (now ++ bytes)
+kept_extended items now bytes rest len n full fits e is =
+    let front : length (take len items) ≡ len = length-take len items ∙ omega arith in
+    let size : length now ≡ len = ap length (sym e) ∙ front in
+    let count : length (take n bytes) ≡ n = length-take n bytes ∙ omega arith in
+    let some : take n (take n bytes ++ rest) ≡ take n bytes = take-append-le n (take n bytes) rest (omega arith) ∙ take_all n (take n bytes) (omega arith) in
+    ap (λ k. take (k + n) (take len items ++ (take n bytes ++ rest))) (sym front)
+    ∙ take-append-add (take len items) (take n bytes ++ rest) n
+    ∙ ap (λ t. take len items ++ t) some ∙ ap (λ t. t ++ take n bytes) e
+    ∙ kept_joined now bytes n (omega arith) (omega arith)
+
+pub kept_written : {Z : Type 0} (v : Vec ℕ Z) (now bytes written : List ℕ) (len n : ℕ) → length v.items ≡ 66001 → len ≤ 66001 → take len v.items ≡ now → n ≡ min (length bytes) (66001 - len)
+    → written ≡ take len v.items ++ (take n bytes ++ drop (len + n) v.items) → take (len + n) (with_items v written).items ≡ kept (now ++ bytes)
+kept_written v now bytes written len n full fits e is w =
+    let size : length written ≡ v.len = ap length w ∙ length-append (take len v.items) (take n bytes ++ drop (len + n) v.items) ∙ omega (arith, length-append (take n bytes) (drop (len + n) v.items), length-take len v.items, length-take n bytes, length-drop (len + n) v.items, v.ok.0) in
+    ap (take (len + n)) (with_items_is v written size ∙ w) ∙ kept_extended v.items now bytes (drop (len + n) v.items) len n full fits e is
+
 -- what is kept of a line that lies whole
 pub kept_front : (line : List ℕ) → take (min (length line) 66001) line ≡ kept line
 unfolding kept
@@ -26,7 +46,7 @@ kept_front line = by (cases_lt (length line) 66001)
   where
     by : (length line < 66001) ⊎ (66001 ≤ length line) → take (min (length line) 66001) line ≡ take 66001 line
     by (inl short) = take_all (min (length line) 66001) line (omega arith) ∙ sym (take_all 66001 line (omega arith))
-    by (inr long) = ap (λ n. take n line) (omega arith)
+    by (inr long) = let most : min (length line) 66001 ≡ 66001 = omega arith in ap (λ n. take n line) most
 
 kept_by : (n : ℕ) (line more : List ℕ) → (length line < n) ⊎ (n ≤ length line) → take n (take n line ++ more) ≡ take n (line ++ more)
 kept_by n line more (inr h) =

@@ -1,4 +1,4 @@
-ghost use Rattle.std.specs.Prelude.{◌≡◌, [], ◌++◌, length, ◌≤◌, IfOk};
+ghost use Rattle.std.specs.Prelude.{◌≡◌, [], ◌+◌, ◌++◌, take, drop, length, ◌≤◌, IfOk};
 ghost use Rattle.ark_cli.specs.Line.{kept};
 
 use std::alloc::{AllocError, Global};
@@ -12,6 +12,14 @@ const ROOM: usize = 66_001;
 pub struct LineBuffer {
     bytes: Vec<u8>,
     len: usize,
+}
+
+// Writes a piece at a place, over what was there.
+fn put_at(bytes: &mut [u8], at: usize, piece: &[u8])
+    requires fits { at + length piece.now ≤ length bytes.old }
+    ensures { bytes.new ≡ take at bytes.old ++ (piece.now ++ drop (at + length piece.now) bytes.old) }
+{
+    bytes[at..at + piece.len()].copy_from_slice(piece);
 }
 
 impl Model for LineBuffer {
@@ -55,9 +63,8 @@ impl LineBuffer {
         ensures { self.new ≡ kept (self.old ++ bytes.now) }
     {
         let count = bytes.len().min(ROOM - self.len);
-        let end = self.len + count;
-        self.bytes[self.len..end].copy_from_slice(&bytes[..count]);
-        self.len = end;
+        put_at(&mut self.bytes, self.len, &bytes[..count]);
+        self.len += count;
     }
 }
 
