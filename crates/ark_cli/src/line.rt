@@ -1,4 +1,4 @@
-ghost use Rattle.std.specs.Prelude.{◌≡◌, [], ◌∷◌, ◌++◌, length, ◌≤◌, IfOk};
+ghost use Rattle.std.specs.Prelude.{◌≡◌, [], ◌+◌, ◌++◌, take, drop, length, ◌≤◌, IfOk};
 ghost use Rattle.ark_cli.specs.Line.{kept};
 
 use std::alloc::{AllocError, Global};
@@ -12,6 +12,14 @@ const ROOM: usize = 66_001;
 pub struct LineBuffer {
     bytes: Vec<u8>,
     len: usize,
+}
+
+// Writes a piece at a place, over what was there.
+fn put_at(bytes: &mut [u8], at: usize, piece: &[u8])
+    requires fits { at + length piece.now ≤ length bytes.old }
+    ensures { bytes.new ≡ take at bytes.old ++ (piece.now ++ drop (at + length piece.now) bytes.old) }
+{
+    bytes[at..at + piece.len()].copy_from_slice(piece);
 }
 
 impl Model for LineBuffer {
@@ -50,13 +58,19 @@ impl LineBuffer {
         self.len = 0;
     }
 
-    /// Adds a byte, where it is not known yet that the line is too long.
-    pub fn push(&mut self, b: u8)
-        ensures { self.new ≡ kept (self.old ++ b ∷ []) }
+    /// Adds bytes, until it is known that the line is too long.
+    pub fn extend(&mut self, bytes: &[u8])
+        ensures { self.new ≡ kept (self.old ++ bytes.now) }
     {
-        if self.len < ROOM {
-            self.bytes[self.len] = b;
-            self.len += 1;
-        }
+        let count = bytes.len().min(ROOM - self.len);
+        put_at(&mut self.bytes, self.len, &bytes[..count]);
+        self.len += count;
     }
+}
+
+/// The bytes that are kept of a line that lies whole.
+pub fn kept_of(line: &[u8]) -> &[u8]
+    ensures { result.now ≡ kept line.now }
+{
+    &line[..line.len().min(ROOM)]
 }

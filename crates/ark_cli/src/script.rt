@@ -1,19 +1,20 @@
-ghost use Rattle.std.specs.Prelude.{◌≡◌, ◌≤◌, ◌+◌, ◌^◌, ◌∷◌, ◌++◌, ℕ, [], List, length, is_ok, OnOk, OnErr, IfOk, IfErr, ◌<◌, ◌⊎◌};
+ghost use Rattle.std.specs.Prelude.{◌≡◌, ◌≤◌, ◌+◌, ◌^◌, ◌∷◌, ◌++◌, ℕ, true, [], List, length, is_ok, OnOk, OnErr, IfOk, IfErr, ◌<◌, ◌⊎◌};
 ghost use Rattle.ark_media.specs.Journal.{Event};
 ghost use Rattle.ark_media.specs.Calls.{Rose, GoesBy};
 ghost use Rattle.ark_script.specs.Reply.{bytes_shown};
-ghost use Rattle.ark_script.specs.Text.{IsSaid};
+ghost use Rattle.ark_script.specs.Text.{IsSaid, no_newline};
 ghost use Rattle.ark_script.specs.declared.said.Said.TheVariants as said;
 ghost use Rattle.ark_host.specs.Time.{IsSound};
 ghost use Rattle.ark_cli.specs.Line.{kept};
-ghost use Rattle.ark_cli.specs.Session.{Acts, ServesLine, AnswersLine, Fed, Feeds, Finishes, Turns, Ran, is_done, NoneFailed, IsFault, IsScriptEnd};
+ghost use Rattle.ark_cli.specs.Session.{Acts, ServesLine, AnswersLine, Fed, Feeds, Finishes, Turns, Ran, is_done, piece_of, NoneFailed, IsFault, IsScriptEnd};
 
-use crate::line::LineBuffer;
+use crate::line::{LineBuffer, kept_of};
 use crate::reply::ReplyBuffer;
 use ark_base::{Refusal, Status};
 use ark_host::Host;
 use ark_media::{Disk, Outside, SinkFailed};
 use ark_script::{MAX_LINE, Reply, Said, read_line};
+use memchr::memchr;
 
 // Reads one line, of which too long a one is told by its kept bytes, and makes its step.
 fn serve_line<D: Disk>(host: &mut Host, line: &[u8], out: &mut Reply, disk: &mut D)
@@ -64,30 +65,63 @@ fn answer_line<W: Outside>(
     world.put(out.text.bytes())
 }
 
-// Takes one byte of the script, and answers the line that it ends.
-fn run_byte<W: Outside>(
+// Answers the line that is kept, with these bytes at its end. It is not copied where all of it lies there.
+fn end_line<W: Outside>(
     host: &mut Host,
     line: &mut LineBuffer,
-    b: u8,
+    bytes: &[u8],
     out: &mut ReplyBuffer,
     world: &mut W,
 ) -> Result<(), SinkFailed>
+    requires clean { no_newline bytes.now ≡ true }
     requires sound { IsSound host.old }
     requires few { host.old.lines < 2 ^ 31 }
     ensures feeds { Acts (W.told world.old) (W.told world.new) (W.beside world.old) (W.beside world.new) (λ more. (first : Host) (fed : List ℕ) (added : List Event) →
-        Fed first fed added host.old (W.told world.old) line.old → Feeds first fed (b ∷ []) added more host.new (W.told world.new) line.new (is_ok result)) }
+        Fed first fed added host.old (W.told world.old) line.old → Feeds first fed (bytes.now ++ 10 ∷ []) added more host.new (W.told world.new) line.new (is_ok result)) }
     ensures unfailed { OnOk result (NoneFailed (W.beside world.old) (W.beside world.new)) }
     ensures cause { OnErr result (Rose (W.beside world.old).sink_faults (W.beside world.new).sink_faults) }
     ensures sound { IsSound host.new }
     ensures counted { host.new.lines ≤ host.old.lines + 1 }
 {
-    if b != b'\n' {
-        line.push(b);
-        return Ok(());
+    if line.bytes().is_empty() {
+        return answer_line(host, kept_of(bytes), out, world);
     }
+    line.extend(bytes);
     let answered = answer_line(host, line.bytes(), out, world);
     line.clear();
     answered
+}
+
+// Takes the bytes up to the first newline and answers the line that it ends, or takes all where there is none. The answer is
+// their number.
+fn run_piece<W: Outside>(
+    host: &mut Host,
+    line: &mut LineBuffer,
+    bytes: &[u8],
+    out: &mut ReplyBuffer,
+    world: &mut W,
+) -> Result<usize, SinkFailed>
+    requires some { 0 < length bytes.now }
+    requires sound { IsSound host.old }
+    requires few { host.old.lines < 2 ^ 31 }
+    ensures feeds { Acts (W.told world.old) (W.told world.new) (W.beside world.old) (W.beside world.new) (λ more. (first : Host) (fed : List ℕ) (added : List Event) →
+        Fed first fed added host.old (W.told world.old) line.old → Feeds first fed (piece_of bytes.now result) added more host.new (W.told world.new) line.new (is_ok result)) }
+    ensures taken { IfOk result (λ n. (0 < n) × (n ≤ length bytes.now)) }
+    ensures unfailed { OnOk result (NoneFailed (W.beside world.old) (W.beside world.new)) }
+    ensures cause { OnErr result (Rose (W.beside world.old).sink_faults (W.beside world.new).sink_faults) }
+    ensures sound { IsSound host.new }
+    ensures counted { host.new.lines ≤ host.old.lines + 1 }
+{
+    match memchr(b'\n', bytes) {
+        Some(at) => match end_line(host, line, &bytes[..at], out, world) {
+            Ok(()) => Ok(at + 1),
+            Err(e) => Err(e),
+        },
+        None => {
+            line.extend(bytes);
+            Ok(bytes.len())
+        }
+    }
 }
 
 // Takes bytes of the script.
@@ -107,8 +141,9 @@ fn run_bytes<W: Outside>(
     ensures sound { IsSound host.new }
     ensures counted { host.new.lines ≤ host.old.lines + length bytes.now }
 {
-    for b in bytes {
-        run_byte(host, line, *b, out, world)?;
+    let mut at = 0;
+    while at < bytes.len() {
+        at += run_piece(host, line, &bytes[at..], out, world)?;
     }
     Ok(())
 }

@@ -18,9 +18,9 @@ clean_tail b bs h = and_right (nat_eq b 10) (no_newline bs) h
     and_right true y h = cc
     and_right false y h = h
 
-pub clean_more : (bs : List ℕ) (b : ℕ) → no_newline bs ≡ true → nat_eq b 10 ≡ false → no_newline (bs ++ b ∷ []) ≡ true
-clean_more [] b h e = rw e refl
-clean_more (c ∷ bs) b h e = rw (clean_head c bs h) (clean_more bs b (clean_tail c bs h) e)
+pub clean_joined : (xs ys : List ℕ) → no_newline xs ≡ true → no_newline ys ≡ true → no_newline (xs ++ ys) ≡ true
+clean_joined [] ys h e = e
+clean_joined (x ∷ xs) ys h e = rw (clean_head x xs h) (clean_joined xs ys (clean_tail x xs h) e)
 
 -- a line with its newline is the first
 pub lines_of-line : (line rest : List ℕ) → no_newline line ≡ true → lines_of (line ++ 10 ∷ rest) ≡ line ∷ lines_of rest

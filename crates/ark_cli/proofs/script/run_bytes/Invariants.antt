@@ -1,15 +1,19 @@
-use Rattle.std.proofs.Common.{ℕ, ◌+◌, ◌≤◌, List, true, take}
+use Rattle.std.proofs.Common.{ℕ, ◌+◌, ◌-◌, ◌≤◌, List, true, take, length}
 use Rattle.ark_media.specs.Journal.{Event}
 use Rattle.ark_host.specs.declared.host.Host.{Host}
 use Rattle.ark_host.specs.Time.{IsSound}
 use Rattle.ark_cli.specs.Session.{Acts, Fed, Feeds, NoneFailed}
 use Rattle.ark_cli.proofs.script.run_bytes.Given as goal
 
-abbrev pub invariant-loop-b : goal.invariant-loop-b
-invariant-loop-b g l = record {
+abbrev pub invariant-loop-at : goal.invariant-loop-at
+invariant-loop-at g l = record {
   feeds : Acts (g.W.Disk.told l.initial.world) (g.W.Disk.told l.world) (g.W.Outside.beside l.initial.world) (g.W.Outside.beside l.world) (λ more. (first : Host) (fed : List ℕ) (added : List Event) →
-      Fed first fed added l.initial.host (g.W.Disk.told l.initial.world) l.initial.line → Feeds first fed (take l.b-index l.bytes) added more l.host (g.W.Disk.told l.world) l.line true);
+      Fed first fed added l.initial.host (g.W.Disk.told l.initial.world) l.initial.line → Feeds first fed (take l.at l.bytes) added more l.host (g.W.Disk.told l.world) l.line true);
   unfailed : NoneFailed (g.W.Outside.beside l.initial.world) (g.W.Outside.beside l.world);
   sound : IsSound l.host;
-  counted : l.host.lines ≤ l.initial.host.lines + l.b-index;
+  counted : l.host.lines ≤ l.initial.host.lines + l.at;
+  within : l.at ≤ length l.bytes;
 }
+
+abbrev pub decreases-loop-at : goal.decreases-loop-at
+decreases-loop-at g l = length l.bytes - l.at
