@@ -5,7 +5,7 @@ use Rattle.std.proofs.Math.Nat.{mod-lt}
 use Rattle.std.proofs.lemmas.Bool.{cases_lt, lt-ltb, ltb-true}
 use Rattle.std.proofs.lemmas.List.{length-map, get_or_past}
 use Rattle.ark_base.specs.declared.kind.Kind.{Kind}
-use Rattle.ark_media.specs.Journal.{Event, block, current, zero_block}
+use Rattle.ark_media.specs.Journal.{Event, AllBlocks, block, current, zero_block}
 use Rattle.ark_media.specs.Calls.{Syncs, Comes}
 use Rattle.ark_media.specs.Stops.{MayLeave, Whole}
 use Rattle.ark_entry.specs.Header.{Header, header_of}
@@ -17,7 +17,7 @@ use Rattle.ark_entry.proofs.Readings.{start_inside, found_stands}
 use Rattle.ark_entry.proofs.Repairing.{at_read, length-read, finds_fit, read_stands}
 use Rattle.ark_entry.specs.Writing.{at}
 use Rattle.ark_caladan.specs.Leaves.{IsRing, Lies}
-use Rattle.ark_caladan.specs.Moving.{OnDisk, Moving, Rests, view, view_of, AllBlocks, area_of, repaired, Opens}
+use Rattle.ark_caladan.specs.Moving.{OnDisk, Moving, Rests, view, view_of, area_of, repaired, Opens}
 use Rattle.ark_caladan.proofs.Moves.{image_has}
 use Rattle.ark_caladan.proofs.Opening.{repaired_is_found}
 use Rattle.ark_caladan.proofs.Stopped.{place_back, place_forth, ring_at}

@@ -4,7 +4,7 @@ use Rattle.std.proofs.Math.Nat.{mod-lt, mod-eq_of_lt, mod-add-mod, add-mod-mod, 
 use Rattle.std.proofs.lemmas.Bool.{cases_lt}
 use Rattle.std.proofs.lemmas.List.{length-map, length-drop, length-replicate, get_or-replicate, get_or_append_left, get_or-append_right, get_or_past}
 use Rattle.ark_base.specs.declared.kind.Kind.{Kind}
-use Rattle.ark_media.specs.Journal.{Event, block, zero_block}
+use Rattle.ark_media.specs.Journal.{Event, AllBlocks, block, zero_block}
 use Rattle.ark_media.specs.Stops.{MayLeave, Whole}
 use Rattle.ark_entry.specs.Header.{Header}
 use Rattle.ark_entry.specs.Entry.{AreWhole}
@@ -15,7 +15,7 @@ use Rattle.ark_entry.proofs.Readings.{start_inside}
 use Rattle.ark_caladan.specs.Chain.{Command, append, after, next_number}
 use Rattle.ark_caladan.specs.Numbers.{Fits}
 use Rattle.ark_caladan.specs.Leaves.{Lies, IsRing, Holds, HasRoom, with_draft, with_entry, dropped_by, freed_by, HeaderAfter}
-use Rattle.ark_caladan.specs.Moving.{OnDisk, Moving, Rests, view, view_of, AllBlocks}
+use Rattle.ark_caladan.specs.Moving.{OnDisk, Moving, Rests, view, view_of}
 use Rattle.ark_caladan.proofs.Leaving.{rest_is_found, draft_is_found, marker_is_found, dropped_is_found}
 use Rattle.ark_caladan.proofs.Moves.{image_has}
 

@@ -3,14 +3,14 @@ use Rattle.std.proofs.Common.{◌≡◌, ◌<◌, inl, ℕ, zero, suc, true, fal
 use Rattle.ark_base.specs.declared.kind.Kind.TheVariants.{Log}
 use Rattle.ark_media.specs.Blocks.{blocks_in}
 use Rattle.ark_media.specs.Calls.{Writes}
-use Rattle.ark_media.specs.Journal.{Event, Write, block, current, zero_block}
+use Rattle.ark_media.specs.Journal.{Event, Write, AllBlocks, block, current, zero_block}
 use Rattle.ark_media.specs.Stops.{MayHold, Whole}
 use Rattle.ark_media.proofs.Stopping.{now_left}
 use Rattle.ark_entry.specs.Header.{empty}
 use Rattle.ark_entry.specs.Found.{found, found_of}
 use Rattle.ark_entry.proofs.WorkedRings.{payload, stored}
 use Rattle.ark_caladan.specs.Leaves.{Lies}
-use Rattle.ark_caladan.specs.Moving.{OnDisk, Moving, Rests, Elsewhere, and, view, view_of, AllBlocks, Opens}
+use Rattle.ark_caladan.specs.Moving.{OnDisk, Moving, Rests, Elsewhere, and, view, view_of, Opens}
 use Rattle.ark_caladan.proofs.Moves.{images_elsewhere, begins, wrote_next}
 use Rattle.ark_caladan.proofs.Stopped.{rest_stop, draft_stop}
 use Rattle.ark_caladan.proofs.Repaired.{repaired_lies}

@@ -2,14 +2,14 @@
 use Rattle.std.proofs.Common.{◌≡◌, ◌<◌, ◌⊎◌, inr, ℕ, zero, suc, false, List, [], ◌∷◌, get_or, refl, arith}
 use Rattle.ark_base.specs.declared.kind.Kind.TheVariants.{Log}
 use Rattle.ark_media.specs.Blocks.{blocks_in}
-use Rattle.ark_media.specs.Journal.{Event, Write, block, zero_block}
+use Rattle.ark_media.specs.Journal.{Event, Write, AllBlocks, block, zero_block}
 use Rattle.ark_media.specs.Stops.{MayLeave, Whole}
 use Rattle.ark_entry.specs.Header.{empty}
 use Rattle.ark_entry.specs.Found.{found, found_of}
 use Rattle.ark_entry.specs.Writing.{zeroed}
 use Rattle.ark_entry.proofs.WorkedRings.{payload, stored}
 use Rattle.ark_caladan.specs.Chain.{append, trim, after}
-use Rattle.ark_caladan.specs.Moving.{Moving, AllBlocks, view, view_of, area_of}
+use Rattle.ark_caladan.specs.Moving.{Moving, view, view_of, area_of}
 use Rattle.ark_caladan.specs.Moving as spec
 use Rattle.ark_caladan.proofs.Moves.{begins, writes_next}
 use Rattle.ark_caladan.proofs.Stopped.{marker_stop, header_stop, zeros_stop}

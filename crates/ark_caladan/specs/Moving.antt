@@ -42,10 +42,6 @@ abbrev pub view_of : ℕ → List ℕ → ℕ → List (List ℕ) → ℕ → Li
 view_of room header start stored zero = header
 view_of room header start stored (suc p) = at stored ((p + room - start) % room)
 
--- each block of a device has 512 bytes
-abbrev pub AllBlocks : List (List ℕ) → Type 0
-AllBlocks image = (n : ℕ) → n < length image → length (block image n) ≡ 512
-
 -- the area of a device, place by place
 abbrev pub area_of : List ℕ → List (List ℕ) → ℕ → List ℕ
 area_of blocks image k = block image (get_or blocks k 0)

@@ -1,7 +1,7 @@
 // Laws of what a stop may leave of a log or queue on a disk, each the contract of a function that does nothing.
 ghost use Rattle.std.specs.Prelude.{◌≡◌, ◌≤◌, ◌<◌, ◌⊎◌, ◌∷◌, ◌+◌, ◌%◌, ℕ, suc, Bool, true, List, length, drop, get_or};
 ghost use Rattle.ark_base.specs.declared.kind.Kind.{Kind};
-ghost use Rattle.ark_media.specs.Journal.{Event, Out, current};
+ghost use Rattle.ark_media.specs.Journal.{Event, Out, AllBlocks, current};
 ghost use Rattle.ark_media.specs.Calls.{Call, Writes, Syncs, Comes};
 ghost use Rattle.ark_media.specs.Stops.{MayHold, MayLeave, Whole};
 ghost use Rattle.ark_entry.specs.Header.{Header};
@@ -12,7 +12,7 @@ ghost use Rattle.ark_entry.specs.Writing.{at, zeroed};
 ghost use Rattle.ark_caladan.specs.Chain.{Command, append, after, next_number};
 ghost use Rattle.ark_caladan.specs.Numbers.{Fits};
 ghost use Rattle.ark_caladan.specs.Leaves.{Lies, HasRoom, with_draft, with_entry, dropped_by, freed_by, HeaderAfter};
-ghost use Rattle.ark_caladan.specs.Moving.{OnDisk, Moving, Rests, Elsewhere, and, view, view_of, AllBlocks, area_of, repaired, Opens};
+ghost use Rattle.ark_caladan.specs.Moving.{OnDisk, Moving, Rests, Elsewhere, and, view, view_of, area_of, repaired, Opens};
 
 /// What each event does to an area that moves from view a to view b. One of a call elsewhere, as a write of other blocks, a read or a
 /// sync, adds nothing to what a stop may leave of the area, and it goes on so. It goes on so, too, at any write of a block of b at its

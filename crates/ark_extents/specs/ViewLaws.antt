@@ -1,11 +1,12 @@
--- How a view goes on: the laws of a disk, written out for a view. Ours.
-use Rattle.std.specs.Prelude.{◌≡◌, ℕ, List, [], ◌∷◌, ◌++◌, Option, Some, None, get_or, map, length, option_map, is_some, refl}
+-- How a view goes on: the laws of a disk, written out for a view.
+use Rattle.std.specs.Prelude.{◌≡◌, ◌<◌, All, ℕ, List, [], ◌∷◌, ◌++◌, Option, Some, None, get_or, map, length, option_map, is_some, refl}
 use Rattle.std.proofs.Common.{sym, ◌∙◌, ap, subst, inl, inr, ⊎_elim}
 use Rattle.std.proofs.lemmas.Bool.{false≢true}
-use Rattle.std.proofs.lemmas.List.{length-map}
-use Rattle.ark_media.specs.Journal.{Event, Read, Write, Sync, Out, History, onto, block, HasFailed}
+use Rattle.std.proofs.lemmas.List.{length-map, get_or-map}
+use Rattle.std.proofs.lemmas.List.Elements.{All-get_or}
+use Rattle.ark_media.specs.Journal.{Event, Read, Write, Sync, Out, History, AllBlocks, onto, block, HasFailed}
 use Rattle.ark_media.specs.Calls.{Told, Tells}
-use Rattle.ark_extents.specs.Views.{view_told, view_events, view_history, read_at, write_at, ArePlaced, outer, AreWithin, GoesOver}
+use Rattle.ark_extents.specs.Views.{view_told, view_image, view_events, view_history, read_at, write_at, ArePlaced, outer, AreWithin, GoesOver}
 
 map_append : (blocks : List ℕ) (xs ys : List Event) → map (outer blocks) (xs ++ ys) ≡ map (outer blocks) xs ++ map (outer blocks) ys
 map_append blocks [] ys = refl
@@ -80,3 +81,17 @@ pub view_size : (blocks : List ℕ) (o : Option History) (h : History) → optio
 view_size blocks o h is =
     let s = some_map (view_history blocks) o h is in
     sym (ap (λ (y : History). length y.base) s.2) ∙ length-map blocks (λ n. block s.0.base n)
+
+view_each : (blocks : List ℕ) (base : List (List ℕ)) → AllBlocks base → All (λ n. n < length base) blocks → AllBlocks (view_image blocks base)
+view_each blocks base whole inside k at =
+    let here : k < length blocks = subst (λ m. k < m) (length-map blocks (λ n. block base n)) at in
+    let same : block (view_image blocks base) k ≡ block base (get_or blocks k 0) = get_or-map (λ n. block base n) blocks k 0 [] here in
+    subst (λ (b : List ℕ). length b ≡ 512) (sym same) (whole (get_or blocks k 0) (All-get_or (λ n. n < length base) blocks k 0 here inside))
+
+-- each block of a view's base has 512 bytes, as those of its disk's base have
+pub view_blocks : (blocks : List ℕ) (told : Told) → ((h : History) → told.history ≡ Some h → length h.base ≡ told.blocks) → ((h : History) → told.history ≡ Some h → AllBlocks h.base)
+    → All (λ n. n < told.blocks) blocks → (h : History) → option_map (view_history blocks) told.history ≡ Some h → AllBlocks h.base
+view_blocks blocks told size whole inside h is =
+    let s = some_map (view_history blocks) told.history h is in
+    subst (λ (y : History). AllBlocks y.base) s.2
+    (view_each blocks s.0.base (whole s.0 s.1) (subst (λ m. All (λ n. n < m) blocks) (sym (size s.0 s.1)) inside))

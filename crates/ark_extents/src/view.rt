@@ -2,7 +2,7 @@ ghost use Rattle.std.specs.Prelude.{◌≡◌, ◌<◌, All, length, refl};
 ghost use Rattle.std.proofs.Common.{◌∙◌};
 ghost use Rattle.ark_media.specs.Stops.{Whole, AnyBytes};
 ghost use Rattle.ark_extents.specs.Views.{view_told, ArePlaced, GoesOver, IsLeftAlike};
-ghost use Rattle.ark_extents.specs.ViewLaws.{over_more, over_told, view_size};
+ghost use Rattle.ark_extents.specs.ViewLaws.{over_more, over_told, view_size, view_blocks};
 
 use crate::spans::Spans;
 use ark_media::{Disk, DiskFailed};
@@ -76,6 +76,8 @@ impl<'a, D: Disk> Disk for VsaView<'a, D> {
     ghost goes_told = { λ old new es went. over_told D.goes D.told D.goes_told old.spans new.spans old.placed old.disk.now new.disk.now es went.0 went.2 };
 
     ghost size_is = { λ v h is. view_size v.spans (D.told v.disk.now).history h is };
+
+    ghost blocks_are = { λ v h is. view_blocks v.spans (D.told v.disk.now) (D.size_is v.disk.now) (D.blocks_are v.disk.now) v.inside h is };
 }
 
 #[cfg(test)]

@@ -80,6 +80,7 @@ module _ (t0 t1 : Told) (b0 b1 : Beside) where
   goes_none t b = rw (t, b) (record {
     tells = tells_none t0;
     takes = takes_none b0.script b0.script (still_none b0.script);
+    openings = refl;
     attach = refl;
     source = le_refl b0.source_faults;
     sink = le_refl b0.sink_faults;
@@ -90,6 +91,7 @@ module _ (t0 t1 : Told) (b0 b1 : Beside) where
   goes_kept es t k = record {
     tells = t;
     takes = takes_none b0.script b1.script k.script;
+    openings = k.openings;
     attach = k.attach;
     source = omega (arith, k.source);
     sink = omega (arith, k.sink);
@@ -99,6 +101,7 @@ module _ (t0 t1 : Told) (b0 b1 : Beside) where
   goes_fetched bytes r k later takes = record {
     tells = rests_tells [] t0 t1 (λ bad. bad) r;
     takes = takes;
+    openings = k.openings;
     attach = k.attach;
     source = later;
     sink = omega (arith, k.sink);
@@ -108,6 +111,7 @@ module _ (t0 t1 : Told) (b0 b1 : Beside) where
   goes_put part r k later = record {
     tells = rests_tells (Out part ∷ []) t0 t1 (none_failed part) r;
     takes = takes_none b0.script b1.script k.script;
+    openings = k.openings;
     attach = k.attach;
     source = omega (arith, k.source);
     sink = later;
@@ -117,6 +121,7 @@ pub goes_then : (es fs : List Event) (xs ys : List ℕ) (t0 t1 t2 : Told) (b0 b1
 goes_then es fs xs ys t0 t1 t2 b0 b1 b2 p q = record {
   tells = tells_then es fs t0 t1 t2 p.tells q.tells;
   takes = takes_then b0.script b1.script b2.script xs ys p.takes q.takes;
+  openings = q.openings ∙ p.openings;
   attach = q.attach ∙ p.attach;
   source = le_trans p.source q.source;
   sink = le_trans p.sink q.sink;

@@ -3,7 +3,7 @@ use Rattle.std.proofs.Common.{◌≡◌, ℕ, zero, suc, ◌+◌, ◌-◌, ◌*�
 use Rattle.std.proofs.lemmas.List.{take-append-drop, take-append-le, take_all, length-take, take-replicate, drop-replicate, length-replicate}
 use Rattle.std.proofs.Math.Seq.{drop-append_seam, drop-append-add, take-append-add}
 use Rattle.ark_media.specs.Blocks.{blocks_in, blocks_of, flat, AllWhole}
-use Rattle.ark_media.specs.Journal.{block, zero_block}
+use Rattle.ark_media.specs.Journal.{AllBlocks, block, zero_block}
 
 pub length-blocks_in : (n : ℕ) (bytes : List ℕ) → length (blocks_in n bytes) ≡ n
 unfolding blocks_in
@@ -86,6 +86,21 @@ flat_of_whole bytes whole = flat-blocks_in (length bytes / 512) bytes (omega (ar
 
 pub whole_of_whole : (bytes : List ℕ) → length bytes % 512 ≡ 0 → AllWhole (blocks_of bytes)
 whole_of_whole bytes whole = whole-blocks_in (length bytes / 512) bytes (omega (arith, whole))
+
+-- block by block
+pub each_whole : (blocks : List (List ℕ)) → AllWhole blocks → AllBlocks blocks
+unfolding AllWhole
+each_whole [] whole n inside = absurd (omega (arith, inside))
+each_whole (b ∷ bs) whole zero inside = whole.0
+each_whole (b ∷ bs) whole (suc n) inside = each_whole bs whole.1 n (omega (arith, inside))
+
+pub found_blocks : (bytes : List ℕ) → length bytes % 512 ≡ 0 → AllBlocks (blocks_of bytes)
+found_blocks bytes whole = each_whole (blocks_of bytes) (whole_of_whole bytes whole)
+
+pub zero_blocks : (n : ℕ) → AllBlocks (replicate n zero_block)
+zero_blocks zero k inside = absurd (omega (arith, inside))
+zero_blocks (suc n) zero inside = length-replicate {A = ℕ} 512 0
+zero_blocks (suc n) (suc k) inside = zero_blocks n k (omega (arith, inside))
 
 pub no_blocks : blocks_of [] ≡ []
 unfolding blocks_in

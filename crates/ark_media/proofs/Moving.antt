@@ -2,7 +2,7 @@
 use Rattle.std.proofs.Common.{◌≡◌, ◌⊎◌, inl, inr, ℕ, ◌+◌, ◌-◌, ◌*◌, ◌/◌, ◌%◌, ◌<◌, ◌≤◌, min, Bool, true, false, List, [], ◌∷◌, ◌++◌, length, take, drop, refl, sym, ◌∙◌, ap, subst, arith, length-append, append-nil}
 use Rattle.std.proofs.lemmas.List.{take-append-drop, length-take}
 use Rattle.std.specs.Prelude.{Option, Some}
-use Rattle.ark_media.specs.Journal.{Event, Out, History, onto, block, current, output_of, HasFailed, has_succeeded}
+use Rattle.ark_media.specs.Journal.{Event, Out, History, AllBlocks, onto, block, current, output_of, HasFailed, has_succeeded}
 use Rattle.ark_media.specs.Calls.{Call, Reads, Writes, Syncs, Comes, Makes, Adds, Rose, Puts, Beside, Moves, IsHonest}
 use Rattle.ark_media.specs.Blocks.{blocks_of}
 use Rattle.ark_media.specs.Memory.{Reel, IsReady, with_event, lost_of, begun, history_of, told_history, told_of}
@@ -97,6 +97,7 @@ module _ (found room : ℕ) (old new : Reel) (calls calls2 made made2 text : ℕ
   pub ready_event : (e : Event) (text2 : ℕ) → made < calls → length (output_of (e ∷ [])) + text2 ≡ text → new ≡ with_event old e → IsReady found room new calls2 made2 text2
   ready_event e text2 due spent noted = moved_on text2 (with_event old e) (sym noted) (record {
     whole = ready.whole;
+    base = ready.base;
     found_fits = ready.found_fits;
     room_fits = ready.room_fits;
     calls_fit = ready.calls_fit;
@@ -110,6 +111,7 @@ module _ (found room : ℕ) (old new : Reel) (calls calls2 made made2 text : ℕ
   pub ready_lost : calls ≤ made → new ≡ lost_of old → IsReady found room new calls2 made2 text
   ready_lost over noted = moved_on text (lost_of old) (sym noted) (record {
     whole = ready.whole;
+    base = ready.base;
     found_fits = ready.found_fits;
     room_fits = ready.room_fits;
     calls_fit = ready.calls_fit;
@@ -123,6 +125,7 @@ module _ (found room : ℕ) (old new : Reel) (calls calls2 made made2 text : ℕ
   pub ready_same : made < calls → new ≡ old → IsReady found room new calls2 made2 text
   ready_same due same = moved_on text old (sym same) (record {
     whole = ready.whole;
+    base = ready.base;
     found_fits = ready.found_fits;
     room_fits = ready.room_fits;
     calls_fit = ready.calls_fit;
@@ -133,9 +136,10 @@ module _ (found room : ℕ) (old new : Reel) (calls calls2 made made2 text : ℕ
   })
 
   -- and after one that begins a device
-  pub ready_begun : (base : List (List ℕ)) → made < calls → new ≡ begun old base → IsReady found room new calls2 made2 text
-  ready_begun base due begins = moved_on text (begun old base) (sym begins) (record {
+  pub ready_begun : (base : List (List ℕ)) → AllBlocks base → made < calls → new ≡ begun old base → IsReady found room new calls2 made2 text
+  ready_begun base blocks due begins = moved_on text (begun old base) (sym begins) (record {
     whole = ready.whole;
+    base = blocks;
     found_fits = ready.found_fits;
     room_fits = ready.room_fits;
     calls_fit = ready.calls_fit;
@@ -160,6 +164,7 @@ ready_first bytes found room limit calls calls2 made text reel whole is same non
     let size : length found ≡ length bytes - length bytes % 512 = ap length whole ∙ length-take (length bytes - length bytes % 512) bytes ∙ omega arith in
     rw is (record {
       whole = omega (arith, size);
+      base = λ n inside. absurd (omega (arith, inside));
       found_fits = omega (arith, size, holds);
       room_fits = fits;
       calls_fit = same;

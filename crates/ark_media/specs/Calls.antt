@@ -1,5 +1,5 @@
--- Calls of the outside, and what each of them leaves. Ours: no standard fixes them.
-use Rattle.std.specs.Prelude.{◌≡◌, ◌⊎◌, ℕ, ◌+◌, ◌-◌, ◌^◌, ◌≤◌, min, Bool, true, false, List, [], ◌∷◌, ◌++◌, length, take, Option, Some, Result, OnErr}
+-- Calls of the outside, and what each of them leaves. No standard fixes them.
+use Rattle.std.specs.Prelude.{◌≡◌, ◌⊎◌, ℕ, ◌+◌, ◌-◌, ◌^◌, ◌≤◌, min, Bool, true, false, List, [], ◌∷◌, ◌++◌, length, take, Option, Some, None, Result, OnOk, OnErr}
 use Rattle.ark_media.specs.Journal.{Event, Read, Write, Sync, Out, History, onto, HasFailed, block, current}
 
 -- a device call that is to be made
@@ -32,10 +32,24 @@ pub record Script : Type 0 where
   pub taken : List ℕ
   pub left : List ℕ
 
--- what an outside tells beside its disk: the script if it tells that, and how often attaching or making a device, a fetch,
--- and a put have failed
+-- A device was asked for: the bytes of its name; of how many blocks it was to be made, none where it was to be attached as it
+-- is found; and whether that succeeded.
+pub record Opening : Type 0 where
+  pub name : List ℕ
+  pub size : Option ℕ
+  pub ok : Bool
+
+abbrev pub attaching : List ℕ → Bool → Opening
+attaching name ok = record { name = name; size = None; ok = ok }
+
+abbrev pub making : List ℕ → ℕ → Bool → Opening
+making name blocks ok = record { name = name; size = Some blocks; ok = ok }
+
+-- what an outside tells beside its disk: the script if it tells that; the openings so far, the first one first; and how often
+-- attaching or making a device, a fetch, and a put have failed
 pub record Beside : Type 0 where
   pub script : Option Script
+  pub openings : List Opening
   pub attach_faults : ℕ
   pub source_faults : ℕ
   pub sink_faults : ℕ
@@ -82,10 +96,11 @@ pub record IsHonest (after : Option History) (n : ℕ) (out : List ℕ) : Type 0
 pub record StillTold {A : Type 0} (before after : Option A) : Type 0 where
   pub told : (x : A) → after ≡ Some x → before ≡ Some x
 
--- it fails only where the count rose
+-- the count rose where it failed, and nowhere else
 pub record HasCause {T E : Type 0} (before now : ℕ) (result : Result T E) : Type 0 where
   pub later : before ≤ now
   pub failed : OnErr result (Rose before now)
+  pub worked : OnOk result (now ≡ before)
 
 -- bytes were put out: all, or where it failed a prefix of them
 pub record Puts (old new : Told) (bytes : List ℕ) (ok : Bool) : Type 0 where
@@ -108,6 +123,7 @@ pub record Takes (before after : Option Script) (bytes : List ℕ) : Type 0 wher
 -- What each call leaves of what is told beside the disk: a call of the disk,
 pub record Keeps (before after : Beside) : Type 0 where
   pub script : StillTold before.script after.script
+  pub openings : after.openings ≡ before.openings
   pub attach : after.attach_faults ≡ before.attach_faults
   pub source : after.source_faults ≡ before.source_faults
   pub sink : after.sink_faults ≡ before.sink_faults
@@ -120,12 +136,14 @@ pub record KeepsAtAttach (before after : Beside) : Type 0 where
 
 -- fetch,
 pub record KeepsAtFetch (before after : Beside) : Type 0 where
+  pub openings : after.openings ≡ before.openings
   pub attach : after.attach_faults ≡ before.attach_faults
   pub sink : after.sink_faults ≡ before.sink_faults
 
 -- and put.
 pub record KeepsAtPut (before after : Beside) : Type 0 where
   pub script : StillTold before.script after.script
+  pub openings : after.openings ≡ before.openings
   pub attach : after.attach_faults ≡ before.attach_faults
   pub source : after.source_faults ≡ before.source_faults
 
@@ -133,6 +151,7 @@ pub record KeepsAtPut (before after : Beside) : Type 0 where
 pub record Goes (events : List Event) (bytes : List ℕ) (told0 told1 : Told) (beside0 beside1 : Beside) : Type 0 where
   pub tells : Tells events told0 told1
   pub takes : Takes beside0.script beside1.script bytes
+  pub openings : beside1.openings ≡ beside0.openings
   pub attach : beside1.attach_faults ≡ beside0.attach_faults
   pub source : beside0.source_faults ≤ beside1.source_faults
   pub sink : beside0.sink_faults ≤ beside1.sink_faults

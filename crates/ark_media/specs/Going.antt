@@ -1,4 +1,4 @@
--- How what is told goes on: the laws that every implementation of the outside cites, written out. Ours: no standard fixes it.
+-- How what is told goes on: the laws that every implementation of the outside cites, written out. No standard fixes it.
 use Rattle.std.proofs.Common.{◌≡◌, ◌⊎◌, inl, inr, ⊎_elim, ℕ, ◌+◌, ◌-◌, ◌^◌, ◌≤◌, List, [], ◌∷◌, ◌++◌, refl, sym, ◌∙◌, ap}
 use Rattle.std.proofs.Math.Nat.{le_refl, le_trans, le-min, min-le_left, min-le_right, add-le-add}
 use Rattle.std.specs.Prelude.{Option}
@@ -44,11 +44,12 @@ tells_then es fs a b c p q = record {
 }
 
 pub keeps_none : (b : Beside) → Keeps b b
-keeps_none b = record { script = record { told = λ x is. is }; attach = refl; source = refl; sink = refl }
+keeps_none b = record { script = record { told = λ x is. is }; openings = refl; attach = refl; source = refl; sink = refl }
 
 pub keeps_then : (a b c : Beside) → Keeps a b → Keeps b c → Keeps a c
 keeps_then a b c p q = record {
   script = record { told = λ x is. p.script.told x (q.script.told x is) };
+  openings = q.openings ∙ p.openings;
   attach = q.attach ∙ p.attach;
   source = q.source ∙ p.source;
   sink = q.sink ∙ p.sink;

@@ -1,5 +1,5 @@
--- What a disk and an output went through, and what stands on the disk after it. Ours: no standard fixes it.
-use Rattle.std.specs.Prelude.{◌≡◌, ◌⊎◌, ℕ, Bool, true, false, List, [], ◌∷◌, ◌++◌, replicate, set, get_or}
+-- What a disk and an output went through, and what stands on the disk after it. No standard fixes it.
+use Rattle.std.specs.Prelude.{◌≡◌, ◌⊎◌, ◌<◌, ℕ, Bool, true, false, List, [], ◌∷◌, ◌++◌, length, replicate, set, get_or}
 
 -- One call and what came of it: a read of a block, a write (its block, its content, whether it took effect, whether it
 -- succeeded), a sync, or bytes put out.
@@ -57,6 +57,10 @@ HasFailed (e ∷ es) = (has_succeeded e ≡ false) ⊎ HasFailed es
 -- a block of an image
 abbrev pub block : List (List ℕ) → ℕ → List ℕ
 block image n = get_or image n []
+
+-- each block of an image has 512 bytes
+abbrev pub AllBlocks : List (List ℕ) → Type 0
+AllBlocks image = (n : ℕ) → n < length image → length (block image n) ≡ 512
 
 -- the image after all writes that took
 abbrev pub current : List (List ℕ) → List Event → List (List ℕ)

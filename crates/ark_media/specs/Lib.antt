@@ -1,5 +1,6 @@
 pub mod Journal
 pub mod Calls
+pub mod Openings
 pub mod Going
 pub mod Parts
 pub mod Stops

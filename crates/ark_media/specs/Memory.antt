@@ -1,6 +1,6 @@
--- What a device in memory notes. Ours: no standard fixes it.
+-- What a device in memory notes. No standard fixes it.
 use Rattle.std.specs.Prelude.{◌≡◌, ◌<◌, ◌≤◌, ◌+◌, ◌*◌, ◌%◌, ℕ, Bool, true, false, List, [], ◌∷◌, ◌++◌, Option, Some, None, length}
-use Rattle.ark_media.specs.Journal.{Event, History, onto, output_of}
+use Rattle.ark_media.specs.Journal.{Event, History, AllBlocks, onto, output_of}
 use Rattle.ark_media.specs.Calls.{Told}
 use Rattle.ark_media.specs.Blocks.{blocks_of}
 
@@ -53,6 +53,7 @@ told_of r faults = record { history = history_of r; blocks = length r.base; faul
 -- what is true of a world in memory between its calls
 pub record IsReady (found room : ℕ) (reel : Reel) (calls made text : ℕ) : Type 0 where
   pub whole : found % 512 ≡ 0
+  pub base : AllBlocks reel.base
   pub found_fits : found ≤ reel.limits.device
   pub room_fits : 512 * room ≤ reel.limits.device
   pub calls_fit : calls ≡ reel.limits.events

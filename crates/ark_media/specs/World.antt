@@ -1,4 +1,4 @@
--- What each call of a world in memory does. Ours: no standard fixes it.
+-- What each call of a world in memory does. No standard fixes it.
 use Rattle.std.specs.Prelude.{◌≡◌, ℕ, ◌+◌, ◌-◌, ◌^◌, min, Bool, true, false, List, Some, take}
 use Rattle.ark_media.specs.Journal.{Event, Read, Write, Sync, Out}
 use Rattle.ark_media.specs.Calls.{Told, Beside, Moves}
@@ -13,7 +13,7 @@ abbrev pub told_by : MemoryWorld → Told
 told_by w = told_of w.device w.disk_faults
 
 abbrev pub beside_by : MemoryWorld → Beside
-beside_by w = record { script = Some w.source; attach_faults = w.attach_faults; source_faults = w.source_faults; sink_faults = w.sink_faults }
+beside_by w = record { script = Some w.source; openings = w.openings.asked; attach_faults = w.attach_faults; source_faults = w.source_faults; sink_faults = w.sink_faults }
 
 -- from the one to the other by calls of the disk alone
 abbrev pub goes_by : MemoryWorld → List Event → MemoryWorld → Type 0

@@ -4,6 +4,7 @@
 mod event;
 mod laws;
 mod memory;
+mod openings;
 mod outside;
 mod recorded;
 mod schedule;

@@ -3,6 +3,7 @@ ghost use Rattle.ark_media.specs.Memory.{IsReady};
 ghost use Rattle.ark_media.specs.Journal.{output_of};
 
 use crate::event::Event;
+use crate::openings::Openings;
 use crate::outside::{AttachFailed, Disk, DiskFailed, Outside, SinkFailed, SourceFailed};
 use crate::recorded::Recorded;
 use crate::schedule::{Fail, Schedule, Turn};
@@ -26,6 +27,7 @@ pub struct MemoryWorld {
     attach_faults: u64,
     source_faults: u64,
     sink_faults: u64,
+    openings: Openings,
     ghost ready: { IsReady (length found.items) room device schedule.calls schedule.made text },
 }
 
@@ -61,6 +63,7 @@ impl MemoryWorld {
         ensures attach_faults { IfOk result (λ w. w.attach_faults ≡ 0) }
         ensures source_faults { IfOk result (λ w. w.source_faults ≡ 0) }
         ensures sink_faults { IfOk result (λ w. w.sink_faults ≡ 0) }
+        ensures openings { IfOk result (λ w. w.openings.asked ≡ []) }
         ensures found { IfOk result (λ w. w.found.items ≡ take (length device.now - length device.now % 512) device.now) }
         ensures room { IfOk result (λ w. w.room ≡ room) }
         ensures plan { IfOk result (λ w. w.schedule.fails.items ≡ plan.now) }
@@ -81,6 +84,7 @@ impl MemoryWorld {
             attach_faults: 0,
             source_faults: 0,
             sink_faults: 0,
+            openings: Openings::new(),
         })
     }
 
@@ -116,7 +120,7 @@ impl MemoryWorld {
 impl Disk for MemoryWorld {
     ghost use Rattle.std.specs.Prelude.{◌∷◌, is_ok, OnOk, OnErr};
     ghost use Rattle.ark_media.specs.Going.{moves_none, moves_then};
-    ghost use Rattle.ark_media.specs.Size.{size_told};
+    ghost use Rattle.ark_media.specs.Size.{size_told, blocks_told};
     ghost use Rattle.ark_media.specs.Calls.{Went, Reads, Writes, Syncs, IsHonest};
     ghost use Rattle.ark_media.specs.World.{TurnsOn, told_by, beside_by, goes_by, turn_at, works, counted, after_read, after_write, after_sync};
 
@@ -219,18 +223,21 @@ impl Disk for MemoryWorld {
     ghost goes_told = { λ a b es p. p.tells };
 
     ghost size_is = { λ w h is. size_told w.device h is };
+
+    ghost blocks_are = { λ w h is. blocks_told w.device w.ready.base h is };
 }
 
 impl Outside for MemoryWorld {
-    ghost use Rattle.std.specs.Prelude.{◌∷◌, ◌&&◌, leb, is_ok, IfOk, IfSome, OnOk, OnErr, replicate};
+    ghost use Rattle.std.specs.Prelude.{◌∷◌, ◌++◌, ◌&&◌, leb, is_ok, IfOk, IfSome, OnOk, OnErr, replicate};
     ghost use Rattle.ark_media.specs.Journal.{fresh, zero_block};
     ghost use Rattle.ark_media.specs.Blocks.{blocks_of};
-    ghost use Rattle.ark_media.specs.Calls.{Adds, Rests, StillTold, HasCause, Fetches, Puts, KeepsAtAttach, KeepsAtFetch, KeepsAtPut};
+    ghost use Rattle.ark_media.specs.Calls.{attaching, making, Adds, Rests, StillTold, HasCause, Fetches, Puts, KeepsAtAttach, KeepsAtFetch, KeepsAtPut};
     ghost use Rattle.ark_media.specs.World.{TurnsOn, told_by, beside_by, turn_at, works, counted, after_begin, after_fetch, after_put, let_out};
 
     ghost beside = { beside_by };
 
-    fn attach(&mut self, _name: &str) -> Result<(), AttachFailed>
+    fn attach(&mut self, name: &str) -> Result<(), AttachFailed>
+        ensures asked { (beside_by self.new).openings ≡ (beside_by self.old).openings ++ attaching name.now (is_ok result) ∷ [] }
         ensures begun { OnOk result (IfSome (told_by self.new).history (λ h. h.journal ≡ [])) }
         ensures small { OnOk result ((told_by self.new).blocks ≤ 2097152) }
         ensures not_begun { OnErr result (Adds (told_by self.old).history (told_by self.new).history []) }
@@ -248,25 +255,30 @@ impl Outside for MemoryWorld {
             Turn::Works => {}
             Turn::Fails { .. } => {
                 raise(&mut self.attach_faults);
+                self.openings.attached(name, false);
                 return Err(AttachFailed);
             }
             Turn::Over => {
                 self.device.lose();
                 raise(&mut self.attach_faults);
+                self.openings.attached(name, false);
                 return Err(AttachFailed);
             }
         }
         if self.found.len() > 512 * 2_097_152 {
             raise(&mut self.attach_faults);
+            self.openings.attached(name, false);
             return Err(AttachFailed);
         }
         self.device.begin_found(&self.found);
+        self.openings.attached(name, true);
         Ok(())
     }
 
-    fn make(&mut self, _name: &str, blocks: u32) -> Result<(), AttachFailed>
+    fn make(&mut self, name: &str, blocks: u32) -> Result<(), AttachFailed>
         requires low { 130 ≤ blocks }
         requires high { blocks ≤ 1048576 }
+        ensures asked { (beside_by self.new).openings ≡ (beside_by self.old).openings ++ making name.now blocks (is_ok result) ∷ [] }
         ensures begun { OnOk result (IfSome (told_by self.new).history (λ h. h ≡ fresh blocks)) }
         ensures size { OnOk result ((told_by self.new).blocks ≡ blocks) }
         ensures not_begun { OnErr result (Adds (told_by self.old).history (told_by self.new).history []) }
@@ -284,19 +296,23 @@ impl Outside for MemoryWorld {
             Turn::Works => {}
             Turn::Fails { .. } => {
                 raise(&mut self.attach_faults);
+                self.openings.made(name, blocks, false);
                 return Err(AttachFailed);
             }
             Turn::Over => {
                 self.device.lose();
                 raise(&mut self.attach_faults);
+                self.openings.made(name, blocks, false);
                 return Err(AttachFailed);
             }
         }
         if blocks > self.room {
             raise(&mut self.attach_faults);
+            self.openings.made(name, blocks, false);
             return Err(AttachFailed);
         }
         self.device.begin_new(blocks);
+        self.openings.made(name, blocks, true);
         Ok(())
     }
 

@@ -1,6 +1,6 @@
 ghost use Rattle.std.specs.Prelude.{◌≡◌, ◌≤◌, ◌<◌, ℕ, List, [], ◌∷◌, ◌++◌, Some, length, is_ok, IfOk, OnOk, OnErr, IfSome};
-ghost use Rattle.ark_media.specs.Journal.{Event, History, fresh};
-ghost use Rattle.ark_media.specs.Calls.{Told, Beside, Tells, Rests, Went, Reads, Writes, Syncs, Adds, StillTold, HasCause, IsHonest, Puts, Fetches, Keeps, KeepsAtAttach, KeepsAtFetch, KeepsAtPut};
+ghost use Rattle.ark_media.specs.Journal.{Event, History, AllBlocks, fresh};
+ghost use Rattle.ark_media.specs.Calls.{Told, Beside, attaching, making, Tells, Rests, Went, Reads, Writes, Syncs, Adds, StillTold, HasCause, IsHonest, Puts, Fetches, Keeps, KeepsAtAttach, KeepsAtFetch, KeepsAtPut};
 
 /// A read, a write or a sync failed.
 #[derive(Clone, Copy, Debug, PartialEq, Eq)]
@@ -60,15 +60,19 @@ pub trait Disk {
 
     /// The told base has the disk's number of blocks.
     ghost size_is: { (d : Self) (h : History) → (told d).history ≡ Some h → length h.base ≡ (told d).blocks };
+
+    /// Each block of the told base has 512 bytes.
+    ghost blocks_are: { (d : Self) (h : History) → (told d).history ≡ Some h → AllBlocks h.base };
 }
 
 /// A disk with a source of script bytes and a sink of output.
 pub trait Outside: Disk {
-    /// What it tells beside its disk.
+    /// What it tells beside its disk. A call that succeeds raises no count of failures.
     ghost beside: { Self → Beside };
 
     /// Attaches the device of this name as it is found, in whole blocks, at most 2,097,152. Its journal is empty then.
     fn attach(&mut self, name: &str) -> Result<(), AttachFailed>
+        ensures asked { (beside self.new).openings ≡ (beside self.old).openings ++ attaching name.now (is_ok result) ∷ [] }
         ensures begun { OnOk result (IfSome (Self.told self.new).history (λ h. h.journal ≡ [])) }
         ensures small { OnOk result ((Self.told self.new).blocks ≤ 2097152) }
         ensures not_begun { OnErr result (Adds (Self.told self.old).history (Self.told self.new).history []) }
@@ -81,6 +85,7 @@ pub trait Outside: Disk {
     fn make(&mut self, name: &str, blocks: u32) -> Result<(), AttachFailed>
         requires low { 130 ≤ blocks }
         requires high { blocks ≤ 1048576 }
+        ensures asked { (beside self.new).openings ≡ (beside self.old).openings ++ making name.now blocks (is_ok result) ∷ [] }
         ensures begun { OnOk result (IfSome (Self.told self.new).history (λ h. h ≡ fresh blocks)) }
         ensures size { OnOk result ((Self.told self.new).blocks ≡ blocks) }
         ensures not_begun { OnErr result (Adds (Self.told self.old).history (Self.told self.new).history []) }

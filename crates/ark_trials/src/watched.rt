@@ -38,6 +38,8 @@ impl<W: Outside + Drop> Disk for Watched<W> {
     ghost goes_told = { λ a b es p. W.goes_told a.inner b.inner es p };
 
     ghost size_is = { λ d h is. W.size_is d.inner h is };
+
+    ghost blocks_are = { λ d h is. W.blocks_are d.inner h is };
 }
 
 impl<W: Outside + Drop> Outside for Watched<W> {

@@ -50,6 +50,8 @@ impl Disk for LastWritten {
     } };
 
     ghost size_is = { λ _ h is. absurd (false≢true (ap is_some is)) };
+
+    ghost blocks_are = { λ _ h is. absurd (false≢true (ap is_some is)) };
 }
 
 #[test]

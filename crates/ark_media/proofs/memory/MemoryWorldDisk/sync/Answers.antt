@@ -1,6 +1,7 @@
-use Rattle.std.proofs.Common.{true, false, length, Some, refl, inl, inr, arith}
+use Rattle.std.proofs.Common.{true, false, length, refl, inl, inr, arith}
 use Rattle.ark_media.specs.Journal.{Sync}
-use Rattle.ark_media.specs.Calls.{Syncs, Rose, Beside}
+use Rattle.ark_media.specs.Calls.{Syncs, Rose}
+use Rattle.ark_media.specs.World.{beside_by}
 use Rattle.ark_media.proofs.Moving.{went, failed, ready_event}
 use Rattle.ark_media.proofs.memory.MemoryWorldDisk.sync.Goals as goal
 
@@ -17,14 +18,14 @@ invariant_of-self-in-Fails c =
 pub returns-in-Works-clause-went : goal.returns-in-Works-clause-went
 returns-in-Works-clause-went c =
     let w = c.args.self.now in
-    let beside : Beside = record { script = Some w.source; attach_faults = w.attach_faults; source_faults = w.source_faults; sink_faults = w.sink_faults } in
+    let beside = beside_by w in
     let m = went (Syncs) (Sync true) w.device c.sync.new.self beside w.disk_faults refl c.sync.ensures in
     record { events = m.0; makes = m.1; goes_on = m.2 }
 
 pub returns-in-Fails-clause-went : goal.returns-in-Fails-clause-went
 returns-in-Fails-clause-went c =
     let w = c.args.self.now in
-    let beside : Beside = record { script = Some w.source; attach_faults = w.attach_faults; source_faults = w.source_faults; sink_faults = w.sink_faults } in
+    let beside = beside_by w in
     let rose : Rose w.disk_faults c.raise.new.count = omega (arith, c.raise.ensures.saturates) in
     let m = failed (Syncs) (Sync false) w.device c.sync-in-Fails.new.self beside w.disk_faults c.raise.new.count refl (inl c.sync-in-Fails.ensures) c.raise.ensures.later rose in
     record { events = m.0; makes = m.1; goes_on = m.2 }
@@ -32,7 +33,7 @@ returns-in-Fails-clause-went c =
 pub returns-in-Over-clause-went : goal.returns-in-Over-clause-went
 returns-in-Over-clause-went c =
     let w = c.args.self.now in
-    let beside : Beside = record { script = Some w.source; attach_faults = w.attach_faults; source_faults = w.source_faults; sink_faults = w.sink_faults } in
+    let beside = beside_by w in
     let rose : Rose w.disk_faults c.raise-in-Over.new.count = omega (arith, c.raise-in-Over.ensures.saturates) in
     let m = failed (Syncs) (Sync false) w.device c.lose.new.self beside w.disk_faults c.raise-in-Over.new.count refl (inr c.lose.ensures) c.raise-in-Over.ensures.later rose in
     record { events = m.0; makes = m.1; goes_on = m.2 }
