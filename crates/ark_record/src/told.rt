@@ -18,9 +18,13 @@ impl<H: Host> Disk for Watched<H> {
     }
 
     fn read(&mut self, n: u32, out: &mut [u8]) -> Result<(), DiskFailed> {
-        let block = self.call_read(n)?;
-        out.copy_from_slice(&block);
-        Ok(())
+        match self.call_read(n) {
+            Ok(block) => {
+                out.copy_from_slice(&block);
+                Ok(())
+            }
+            Err(e) => Err(e),
+        }
     }
 
     fn write(&mut self, n: u32, block: &[u8]) -> Result<(), DiskFailed> {
