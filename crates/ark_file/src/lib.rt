@@ -1,10 +1,10 @@
 //! The program over a file, standard input and standard output.
 #![tactic(auto)]
 
-mod program;
-mod run;
+mod running;
+mod starting;
 mod world;
 
-pub use program::{program, start};
-pub use run::run;
+pub use starting::{program, start};
+pub use running::run;
 pub use world::{FileHost, FileWorld};

@@ -2,7 +2,7 @@ use Rattle.std.proofs.Common.{map}
 use Rattle.std.specs.Prelude.{string_bytes}
 use Rattle.ark_record.specs.Replay.{model_of}
 use Rattle.ark_file.proofs.Ended.{ended, done}
-use Rattle.ark_file.proofs.run.run.Goals as goal
+use Rattle.ark_file.proofs.running.run.Goals as goal
 
 pub returns-clause-ended : goal.returns-clause-ended
 returns-clause-ended c honest =

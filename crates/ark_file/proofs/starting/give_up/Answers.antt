@@ -1,6 +1,6 @@
 use Rattle.ark_record.specs.Watch.{told_by, beside_by}
 use Rattle.ark_file.proofs.Quiet.{quiet}
-use Rattle.ark_file.proofs.program.give_up.Goals as goal
+use Rattle.ark_file.proofs.starting.give_up.Goals as goal
 
 pub returns-clause-quiet : goal.returns-clause-quiet
 returns-clause-quiet c =

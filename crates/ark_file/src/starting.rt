@@ -4,7 +4,7 @@ ghost use Rattle.ark_cli.specs.Ending.{IsQuiet};
 ghost use Rattle.ark_record.specs.Watch.{told_by, beside_by};
 ghost use Rattle.ark_file.specs.Ended.{Exits};
 
-use crate::run::run;
+use crate::running::run;
 use crate::world::{FileHost, FileWorld};
 use ark_base::{Memory, Status};
 use ark_media::Outside;
