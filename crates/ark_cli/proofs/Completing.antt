@@ -19,8 +19,8 @@ takes_few before after bytes h takes =
     omega (arith, h.short, ap (λ (l : List ℕ). length l) left, length-append bytes h.last.left)
 
 module _ (words : List (List ℕ)) (size : ℕ) (device : List ℕ) (run : IsRun words size device) (t0 t1 : Told) (b0 b1 : Beside) (short : HasShortScript b0.script b1.script) (quiet : IsUntroubled t0 t1 b0 b1) where
-  not_long : (n : ℕ) → IsClosed n t1 b0 b1 Long → ⊥
-  not_long n c =
+  not_long : (n : ℕ) (d : List ℕ) → IsClosed n d t0 t1 b0 b1 Long → ⊥
+  not_long n d c =
       let few = takes_few b0.script b1.script c.script short c.since.takes in
       absurd (omega (arith, few, c.long refl))
 
@@ -29,7 +29,7 @@ module _ (words : List (List ℕ)) (size : ℕ) (device : List ℕ) (run : IsRun
   never_long (unread is quiet) = cc
   never_long (no_memory n d is run quiet) = cc
   never_long (no_device n d is run refused) = cc
-  never_long (runs n d run closed) = not_long n closed
+  never_long (runs n d run closed) = not_long n d closed
 
   pub complete : (status : Status) → Does words t0 t1 b0 b1 status → IsCause t0 t1 b0 b1 status → (status ≡ Done) ⊎ (status ≡ Memory)
   complete Done d h = inl refl

@@ -34,12 +34,12 @@ below_size : (size n : ℕ) → Contains (free_at_first size) n → n < size
 below_size size n has = let bounds = contains_range 129 (size - 129) n has in omega (arith, bounds.0, bounds.1)
 
 -- the base has the blocks that were asked for
-pub ready_based : (size : ℕ) (told : Told) (b0 b1 : Beside) → IsReady size told b0 b1 → IsBased told
-ready_based size told b0 b1 ready = λ h is. ap (λ (x : History). length x.base) (ready.since.begins h is) ∙ length-replicate size zero_block ∙ sym ready.since.blocks
+pub ready_based : (size : ℕ) (device : List ℕ) (before told : Told) (b0 b1 : Beside) → IsReady size device before told b0 b1 → IsBased told
+ready_based size device before told b0 b1 ready = λ h is. ap (λ (x : History). length x.base) (ready.since.begins h is) ∙ length-replicate size zero_block ∙ sym ready.since.blocks
 
 -- the blocks for areas are zero, and a stop leaves them so
-pub ready_zero : (size : ℕ) (told : Told) (b0 b1 : Beside) → IsReady size told b0 b1 → IsZero told (free_at_first size)
-ready_zero size told b0 b1 ready = λ h is n has.
+pub ready_zero : (size : ℕ) (device : List ℕ) (before told : Told) (b0 b1 : Beside) → IsReady size device before told b0 b1 → IsZero told (free_at_first size)
+ready_zero size device before told b0 b1 ready = λ h is n has.
     let es = ready.events ++ Out (text (Ready size 0) []) ∷ [] in
     let beside = format_beside size ready.events (text (Ready size 0) []) (free_at_first size) ready.calls (not_first size) in
     let zero : block (fresh size).base n ≡ zero_block = get_or-replicate size n zero_block [] (below_size size n has) in

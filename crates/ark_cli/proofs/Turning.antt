@@ -5,14 +5,15 @@ use Rattle.std.specs.Prelude.{Option, Ok, Err, ◌⊎◌}
 use Rattle.ark_base.specs.declared.status.Status.{Status}
 use Rattle.ark_base.specs.declared.status.Status.TheVariants.{Done, Usage, Source, Sink, Device, Memory, Damaged, Long}
 use Rattle.ark_media.specs.Journal.{Event}
-use Rattle.ark_media.specs.Calls.{Told, Beside, Script, Rests, Goes, Takes, StillTold, Fetches, KeepsAtFetch}
+use Rattle.ark_media.specs.Calls.{Told, Beside, Script, Rests, Rose, Goes, Takes, StillTold, Fetches, KeepsAtFetch}
 use Rattle.ark_media.proofs.Composing.{takes_none, takes_fetched, goes_none, goes_fetched, goes_then}
 use Rattle.ark_script.specs.Lines.{newlines}
 use Rattle.ark_machine.specs.System.{System}
 use Rattle.ark_host.specs.declared.host.Host.{Host}
 use Rattle.ark_cli.specs.Line.{limit, within_limit}
-use Rattle.ark_cli.specs.Session.{Acts, Fed, Replied, Stopped, Ended, Feeds, Finishes, IsAtEnd, IsFault, Turns, Going, Ran, is_done}
+use Rattle.ark_cli.specs.Session.{Acts, Fed, Replied, Stopped, Ended, Feeds, Finishes, IsAtEnd, IsFault, Turns, Going, Ran, is_done, NoneFailed, IsScriptEnd}
 use Rattle.ark_cli.proofs.Kept.{within_limit-more}
+use Rattle.ark_cli.proofs.Unfailed.{unfailed_then}
 use Rattle.ark_cli.proofs.Feeding.{fed_first, fed_rests, fed_stopped}
 
 -- the lines whose newline came were answered, and nothing else came
@@ -176,3 +177,8 @@ module _ (t0 tm t1 : Told) (b0 bm b1 : Beside) (host0 host : Host) (line0 line :
       how_ended : (s : System) → (status ≡ Done) ⊎ (status ≡ Sink) → Finishes s g.script g.events a.events t1 (is_done status) → Ended s g.script (g.events ++ a.events) t1 status
       how_ended s (inl done) f = subst (λ (x : Status). Ended s g.script (g.events ++ a.events) t1 x) (sym done) (f.done (ap is_done done))
       how_ended s (inr sink) f = subst (λ (x : Status). Ended s g.script (g.events ++ a.events) t1 x) (sym sink) (f.failed (ap is_done sink))
+
+-- why a script ended, of which no fetch and no put had failed before its last line
+pub script_end : (b0 b1 b2 : Beside) (status : Status) → NoneFailed b0 b1 → ((status ≡ Done) × NoneFailed b1 b2) ⊎ ((status ≡ Sink) × Rose b1.sink_faults b2.sink_faults) → IsScriptEnd b0 b2 status
+script_end b0 b1 b2 status first (inl done) = subst (λ (e : Status). IsScriptEnd b0 b2 e) (sym done.0) (unfailed_then b0 b1 b2 first done.1)
+script_end b0 b1 b2 status first (inr sink) = subst (λ (e : Status). IsScriptEnd b0 b2 e) (sym sink.0) (subst (λ n. Rose n b2.sink_faults) first.sink sink.1)

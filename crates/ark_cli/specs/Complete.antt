@@ -1,5 +1,6 @@
--- When the program must come to the end of its script. Ours.
+-- When the program must come to the end of its script, and what no reply says then.
 use Rattle.std.specs.Prelude.{◌≡◌, ◌≤◌, length, Option, Some}
+use Rattle.ark_media.specs.Journal.{History, HasFailed}
 use Rattle.ark_media.specs.Calls.{Told, Beside, Script, Rose}
 use Rattle.ark_cli.specs.Line.{limit}
 
@@ -18,3 +19,7 @@ pub record HasShortScript (before after : Option Script) : Type 0 where
   pub was : before ≡ Some first
   pub is : after ≡ Some last
   pub short : length first.left ≤ limit
+
+-- where the history is told, no device call failed in it: so no reply says `refused 21`
+pub record HasNoFault (after : Option History) : Type 0 where
+  pub none : (h : History) → after ≡ Some h → HasFailed h.journal → ⊥

@@ -6,7 +6,8 @@ ghost use Rattle.ark_host.specs.Stands.{Stands, IsZero, IsBased};
 ghost use Rattle.ark_extents.specs.Free.{free_at_first};
 ghost use Rattle.ark_host.specs.Time.{IsSound};
 ghost use Rattle.ark_cli.specs.Words.{IsRun};
-ghost use Rattle.ark_cli.specs.Complete.{HasShortScript, IsUntroubled};
+ghost use Rattle.ark_cli.specs.Session.{NoneFailed};
+ghost use Rattle.ark_cli.specs.Complete.{HasShortScript, IsUntroubled, HasNoFault};
 ghost use Rattle.ark_cli.specs.Ending.{RunsNew, Commands, Closes, Does, IsCause, IsUndamaged};
 
 use crate::line::LineBuffer;
@@ -35,7 +36,7 @@ fn run_with<W: Outside>(
     requires sound { IsSound host.old }
     requires none { host.old.lines ≡ 0 }
     requires line { line.old ≡ [] }
-    ensures runs { RunsNew blocks (W.told world.old) (W.told world.new) (W.beside world.old) (W.beside world.new) result }
+    ensures runs { RunsNew blocks device.now (W.told world.old) (W.told world.new) (W.beside world.old) (W.beside world.new) result }
     ensures cause { IsCause (W.told world.old) (W.told world.new) (W.beside world.old) (W.beside world.new) result }
 {
     match open_new(blocks, device, out, world) {
@@ -48,7 +49,7 @@ fn run_with<W: Outside>(
 fn run_new<W: Outside>(alloc: Global, blocks: u32, device: &str, world: &mut W) -> Status
     requires low { 130 ≤ blocks }
     requires high { blocks ≤ 1048576 }
-    ensures runs { RunsNew blocks (W.told world.old) (W.told world.new) (W.beside world.old) (W.beside world.new) result }
+    ensures runs { RunsNew blocks device.now (W.told world.old) (W.told world.new) (W.beside world.old) (W.beside world.new) result }
     ensures cause { IsCause (W.told world.old) (W.told world.new) (W.beside world.old) (W.beside world.new) result }
 {
     let Ok(mut line) = LineBuffer::new(alloc) else {
@@ -78,6 +79,7 @@ fn command<W: Outside>(alloc: Global, words: &[String], world: &mut W) -> Status
 // Puts the closing line of a status that has one. Where this fails, the status stays.
 fn close<W: Outside>(status: Status, world: &mut W)
     requires { IsUndamaged status }
+    ensures unfailed { status ≡ Status.Done → NoneFailed (W.beside world.old) (W.beside world.new) }
     ensures closes { (closing : List Event) × Closes status (W.beside world.old).sink_faults (W.beside world.new).sink_faults closing × Goes closing [] (W.told world.old) (W.told world.new) (W.beside world.old) (W.beside world.new) }
 {
     let line: &[u8] = match status {
@@ -101,6 +103,7 @@ pub fn arrakis<W: Outside>(alloc: Global, words: &[String], world: &mut W) -> St
     ensures does { Does (map string_bytes words.now) (W.told world.old) (W.told world.new) (W.beside world.old) (W.beside world.new) result }
 
     // When each status comes; want of memory may come before a device is made, also where the words are no command.
+    ensures done { result ≡ Status.Done → NoneFailed (W.beside world.old) (W.beside world.new) }
     ensures usage { result ≡ Status.Usage → (blocks : ℕ) (device : List ℕ) → IsRun (map string_bytes words.now) blocks device → ⊥ }
     ensures no_command { ((blocks : ℕ) (device : List ℕ) → IsRun (map string_bytes words.now) blocks device → ⊥) → (result ≡ Status.Usage) ⊎ (result ≡ Status.Memory) }
     ensures source { result ≡ Status.Source → Rose (W.beside world.old).source_faults (W.beside world.new).source_faults }
@@ -110,6 +113,8 @@ pub fn arrakis<W: Outside>(alloc: Global, words: &[String], world: &mut W) -> St
     // Where nothing fails, the whole script is run, unless memory was wanting.
     ensures complete { (size : ℕ) (device : List ℕ) → IsRun (map string_bytes words.now) size device → HasShortScript (W.beside world.old).script (W.beside world.new).script →
         IsUntroubled (W.told world.old) (W.told world.new) (W.beside world.old) (W.beside world.new) → (result ≡ Status.Done) ⊎ (result ≡ Status.Memory) }
+    // And where no count of failed device calls rose, none of the run's failed.
+    ensures unfailed { result ≡ Status.Done → (Rose (W.told world.old).faults (W.told world.new).faults → ⊥) → HasNoFault (W.told world.new).history }
 {
     let status = command(alloc, words, world);
     close(status, world);

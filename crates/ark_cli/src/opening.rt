@@ -1,5 +1,6 @@
-ghost use Rattle.std.specs.Prelude.{◌≤◌, ◌≡◌, IfErr};
+ghost use Rattle.std.specs.Prelude.{◌≤◌, ◌≡◌, OnOk, IfErr};
 ghost use Rattle.ark_cli.specs.Opening.{Opens};
+ghost use Rattle.ark_cli.specs.Session.{NoneFailed};
 ghost use Rattle.ark_cli.specs.Ending.{IsCause};
 
 use crate::reply::ReplyBuffer;
@@ -18,7 +19,8 @@ pub fn open_new<W: Outside>(
 ) -> Result<(), Status>
     requires low { 130 ≤ blocks }
     requires high { blocks ≤ 1048576 }
-    ensures opens { Opens blocks (W.told world.old) (W.told world.new) (W.beside world.old) (W.beside world.new) result }
+    ensures opens { Opens blocks device.now (W.told world.old) (W.told world.new) (W.beside world.old) (W.beside world.new) result }
+    ensures unfailed { OnOk result (NoneFailed (W.beside world.old) (W.beside world.new)) }
     ensures cause { IfErr result (λ e. IsCause (W.told world.old) (W.told world.new) (W.beside world.old) (W.beside world.new) e) }
 {
     out.reply.say(Said::Ready(blocks, 0), 0);

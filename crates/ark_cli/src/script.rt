@@ -1,4 +1,4 @@
-ghost use Rattle.std.specs.Prelude.{◌≡◌, ◌≤◌, ◌+◌, ◌^◌, ◌∷◌, ◌++◌, ℕ, [], List, length, is_ok, OnErr, IfOk, IfErr, ◌<◌, ◌⊎◌};
+ghost use Rattle.std.specs.Prelude.{◌≡◌, ◌≤◌, ◌+◌, ◌^◌, ◌∷◌, ◌++◌, ℕ, [], List, length, is_ok, OnOk, OnErr, IfOk, IfErr, ◌<◌, ◌⊎◌};
 ghost use Rattle.ark_media.specs.Journal.{Event};
 ghost use Rattle.ark_media.specs.Calls.{Rose, GoesBy};
 ghost use Rattle.ark_script.specs.Reply.{bytes_shown};
@@ -8,7 +8,7 @@ ghost use Rattle.ark_machine.specs.System.{System};
 ghost use Rattle.ark_host.specs.Stands.{Stands};
 ghost use Rattle.ark_host.specs.Time.{IsSound};
 ghost use Rattle.ark_cli.specs.Line.{kept};
-ghost use Rattle.ark_cli.specs.Session.{Acts, ServesLine, AnswersLine, Fed, Feeds, Finishes, Turns, Ran, is_done, IsFault, IsScriptEnd};
+ghost use Rattle.ark_cli.specs.Session.{Acts, ServesLine, AnswersLine, Fed, Feeds, Finishes, Turns, Ran, is_done, NoneFailed, IsFault, IsScriptEnd};
 
 use crate::line::LineBuffer;
 use crate::reply::ReplyBuffer;
@@ -56,6 +56,7 @@ fn answer_line<W: Outside>(
     requires few { host.old.lines < 2 ^ 31 }
     ensures answers { Acts (W.told world.old) (W.told world.new) (W.beside world.old) (W.beside world.new) (λ part. (s : System) (whole : List ℕ) →
         Stands host.old (W.told world.old) s → line.now ≡ kept whole → AnswersLine s whole part host.new (W.told world.new) (is_ok result)) }
+    ensures unfailed { OnOk result (NoneFailed (W.beside world.old) (W.beside world.new)) }
     ensures cause { OnErr result (Rose (W.beside world.old).sink_faults (W.beside world.new).sink_faults) }
     ensures sound { IsSound host.new }
     ensures counted { host.new.lines ≤ host.old.lines + 1 }
@@ -77,6 +78,7 @@ fn run_byte<W: Outside>(
     requires few { host.old.lines < 2 ^ 31 }
     ensures feeds { Acts (W.told world.old) (W.told world.new) (W.beside world.old) (W.beside world.new) (λ more. (s : System) (fed : List ℕ) (added : List Event) →
         Fed s fed added host.old (W.told world.old) line.old → Feeds s fed (b ∷ []) added more host.new (W.told world.new) line.new (is_ok result)) }
+    ensures unfailed { OnOk result (NoneFailed (W.beside world.old) (W.beside world.new)) }
     ensures cause { OnErr result (Rose (W.beside world.old).sink_faults (W.beside world.new).sink_faults) }
     ensures sound { IsSound host.new }
     ensures counted { host.new.lines ≤ host.old.lines + 1 }
@@ -102,6 +104,7 @@ fn run_bytes<W: Outside>(
     requires few { host.old.lines + length bytes.now ≤ 2 ^ 31 }
     ensures feeds { Acts (W.told world.old) (W.told world.new) (W.beside world.old) (W.beside world.new) (λ more. (s : System) (fed : List ℕ) (added : List Event) →
         Fed s fed added host.old (W.told world.old) line.old → Feeds s fed bytes.now added more host.new (W.told world.new) line.new (is_ok result)) }
+    ensures unfailed { OnOk result (NoneFailed (W.beside world.old) (W.beside world.new)) }
     ensures cause { OnErr result (Rose (W.beside world.old).sink_faults (W.beside world.new).sink_faults) }
     ensures sound { IsSound host.new }
     ensures counted { host.new.lines ≤ host.old.lines + length bytes.now }
@@ -123,6 +126,7 @@ fn finish<W: Outside>(
     requires few { host.old.lines < 2 ^ 31 }
     ensures finishes { Acts (W.told world.old) (W.told world.new) (W.beside world.old) (W.beside world.new) (λ more. (s : System) (fed : List ℕ) (added : List Event) →
         Fed s fed added host.old (W.told world.old) line.now → Finishes s fed added more (W.told world.new) (is_ok result)) }
+    ensures unfailed { OnOk result (NoneFailed (W.beside world.old) (W.beside world.new)) }
     ensures cause { OnErr result (Rose (W.beside world.old).sink_faults (W.beside world.new).sink_faults) }
 {
     if line.bytes().is_empty() {
@@ -147,6 +151,7 @@ fn turn<W: Outside>(
     requires few { host.old.lines + length chunk.old ≤ 2 ^ 31 }
     ensures turns { Turns (length chunk.old) (W.told world.old) (W.told world.new) (W.beside world.old) (W.beside world.new) host.old host.new line.old line.new result }
     ensures bound { IfOk result (λ n. n ≤ length chunk.old) }
+    ensures unfailed { OnOk result (NoneFailed (W.beside world.old) (W.beside world.new)) }
     ensures cause { IfErr result (λ e. IsFault (W.beside world.old) (W.beside world.new) e) }
     ensures sound { IsSound host.new }
     ensures counted { IfOk result (λ n. host.new.lines ≤ host.old.lines + n) }
@@ -171,7 +176,7 @@ fn end_script<W: Outside>(
     requires few { host.old.lines < 2 ^ 31 }
     ensures finishes { Acts (W.told world.old) (W.told world.new) (W.beside world.old) (W.beside world.new) (λ more. (s : System) (fed : List ℕ) (added : List Event) →
         Fed s fed added host.old (W.told world.old) line.now → Finishes s fed added more (W.told world.new) (is_done result)) }
-    ensures cause { (result ≡ Status.Done) ⊎ ((result ≡ Status.Sink) × Rose (W.beside world.old).sink_faults (W.beside world.new).sink_faults) }
+    ensures cause { ((result ≡ Status.Done) × NoneFailed (W.beside world.old) (W.beside world.new)) ⊎ ((result ≡ Status.Sink) × Rose (W.beside world.old).sink_faults (W.beside world.new).sink_faults) }
 {
     match finish(host, line, out, world) {
         Ok(()) => Status::Done,

@@ -5,8 +5,8 @@ use Rattle.std.specs.Prelude.{Some, None}
 use Rattle.ark_base.specs.declared.status.Status.{Status}
 use Rattle.ark_base.specs.declared.status.Status.TheVariants.{Done, Source, Sink, Long}
 use Rattle.ark_base.specs.Status.{code_of}
-use Rattle.ark_media.specs.Journal.{Event, Write, Sync, Out, fresh, onto, output_of, device_events}
-use Rattle.ark_media.specs.Calls.{Told, Beside, Script}
+use Rattle.ark_media.specs.Journal.{Event, Write, Sync, Out, HasFailed, fresh, onto, output_of, device_events, has_succeeded}
+use Rattle.ark_media.specs.Calls.{Told, Beside, Script, Opening, making}
 use Rattle.ark_media.specs.Parts.{parts, joined, IsWhole, IsUnfinished}
 use Rattle.ark_script.specs.Line as w
 use Rattle.ark_script.specs.Lines.{Meaning, Says, lines_of}
@@ -28,21 +28,46 @@ use Rattle.ark_cli.specs.Ending.{RecoversAtFronts, PutsLine, Closes, HasRun, End
 abbrev pub line : List ℕ → List ℕ
 line words = words ++ 10 ∷ []
 
--- what is told after these events on a new device of 200 blocks
+-- what is told before a device was made
+abbrev pub told_first : Told
+told_first = record { history = Some (record { base = []; journal = [] }); blocks = 0; faults = 0 }
+
+-- and after these events on a new device of 200 blocks
 abbrev pub told_of : List Event → Told
 told_of events = record { history = Some (record { base = (fresh 200).base; journal = onto events [] }); blocks = 200; faults = 0 }
 
--- and beside it: bytes of the script, how often a fetch failed, and how often a put
+-- and beside it: openings, bytes of the script, how often a fetch failed, and how often a put
+abbrev beside_by : List Opening → List ℕ → List ℕ → ℕ → ℕ → Beside
+beside_by openings taken left source sink = record { script = Some (record { taken = taken; left = left }); openings = openings; attach_faults = 0; source_faults = source; sink_faults = sink }
+
+-- before a run, and after it, since when the device was made
+abbrev pub beside_first : List ℕ → Beside
+beside_first script = beside_by [] [] script 0 0
+
 abbrev pub beside_of : List ℕ → List ℕ → ℕ → ℕ → Beside
-beside_of taken left source sink = record { script = Some (record { taken = taken; left = left }); attach_faults = 0; source_faults = source; sink_faults = sink }
+beside_of taken left source sink = beside_by (making (codes "d") 200 true ∷ []) taken left source sink
 
 pub some_is : {A : Type 0} (x y : A) → Some x ≡ Some y → x ≡ y
 some_is x y e = cc
 
-since_run : (events : List Event) (taken left : List ℕ) (source sink : ℕ) → SinceMake 200 events taken (told_of events) (beside_of [] (taken ++ left) 0 0) (beside_of taken left source sink)
-since_run events taken left source sink = record {
+-- no device call of the events failed
+abbrev Succeeded : List Event → Type 0
+Succeeded [] = Unit {0}
+Succeeded (e ∷ es) = (has_succeeded e ≡ true) × Succeeded es
+
+none_failed : (es : List Event) → Succeeded es → HasFailed es → ⊥
+none_failed [] all bad = bad
+none_failed (e ∷ es) all (inl bad) = absurd (cc (all.0, bad))
+none_failed (e ∷ es) all (inr bad) = none_failed es all.1 bad
+
+since_run : (events : List Event) (taken left : List ℕ) (source sink : ℕ) → Succeeded events → SinceMake 200 (codes "d") events taken told_first (told_of events) (beside_first (taken ++ left)) (beside_of taken left source sink)
+since_run events taken left source sink succeeded = record {
   begins = λ h is. sym (some_is (record { base = (fresh 200).base; journal = onto events [] }) h is);
   blocks = refl;
+  later = omega arith;
+  cause = λ bad. absurd (none_failed events succeeded bad);
+  asks = refl;
+  attach = refl;
   takes = record {
     told = λ s is.
         let same : ◌≡◌ {A = Script} (record { taken = taken; left = left }) s = some_is (record { taken = taken; left = left }) s is in
@@ -53,14 +78,14 @@ since_run events taken left source sink = record {
 }
 
 -- a run that was closed, but for a script that was too long
-pub closed_run : (status : Status) (events : List Event) (taken left : List ℕ) (source sink : ℕ) (rest closing : List Event) → RecoversAtFronts 200 (lines_of taken) events →
+pub closed_run : (status : Status) (events : List Event) (taken left : List ℕ) (source sink : ℕ) (rest closing : List Event) → Succeeded events → RecoversAtFronts 200 (lines_of taken) events →
     HasRun 200 (lines_of taken) (parts events).whole (parts events).unfinished → (parts events).unfinished ≡ rest ++ closing → Closes status 0 sink closing →
     Ends 200 (told_of events) status taken (parts events).whole rest → (status ≡ Done → left ≡ []) → (status ≡ Long → ⊥) → length taken ≤ limit →
-    IsClosed 200 (told_of events) (beside_of [] (taken ++ left) 0 0) (beside_of taken left source sink) status
-closed_run status events taken left source sink rest closing recovers run unfinished closes ends at_end not_long fits = record {
+    IsClosed 200 (codes "d") told_first (told_of events) (beside_first (taken ++ left)) (beside_of taken left source sink) status
+closed_run status events taken left source sink rest closing succeeded recovers run unfinished closes ends at_end not_long fits = record {
   script = taken;
   events = events;
-  since = since_run events taken left source sink;
+  since = since_run events taken left source sink succeeded;
   run = λ h is. run;
   recovers = λ h is. recovers;
   rest = rest;
@@ -107,9 +132,9 @@ nothing_asked = record { meanings = []; say = tt; each = tt; begins = refl }
 opened_fronts : RecoversAtFronts 200 (lines_of []) opened
 opened_fronts = open_fronts 200 opened [] [] is_whole (recovers_of (fresh 200).base (onto opened []) (fresh_system 200) [] [] [] [] [] [] tt tt tt tt (no_slots (fresh 200).base (onto opened []) (fresh_system 200) None [] refl))
 
-empty_run : (told : Told) → Does run_words told (told_of opened) (beside_of [] [] 0 0) (beside_of [] [] 0 0) Done
-empty_run told = runs 200 (codes "d") is_run
-    (closed_run Done opened [] [] 0 0 [] [] opened_fronts (is_opening, nothing_asked, confined_of (fresh_system 200) [] [] [] tt nothing_asked) refl refl (refl, refl) (λ e. refl) (λ e. cc) (lit≤ tt))
+empty_run : Does run_words told_first (told_of opened) (beside_first []) (beside_of [] [] 0 0) Done
+empty_run = runs 200 (codes "d") is_run
+    (closed_run Done opened [] [] 0 0 [] [] (refl, (refl, (refl, tt))) opened_fronts (is_opening, nothing_asked, confined_of (fresh_system 200) [] [] [] tt nothing_asked) refl refl (refl, refl) (λ e. refl) (λ e. cc) (lit≤ tt))
 
 empty_output : output_of opened ≡ line (codes "ready 200 0")
 empty_output = refl
@@ -151,9 +176,9 @@ answered_fronts rest unended =
 abbrev source_closed : List Event
 source_closed = answered ++ Out (line (codes "fault source")) ∷ []
 
-source_run : (told : Told) → Does run_words told (told_of source_closed) (beside_of [] one_line 0 0) (beside_of one_line [] 1 0) Source
-source_run told = runs 200 (codes "d") is_run
-    (closed_run Source source_closed one_line [] 1 0 [] (Out (line (codes "fault source")) ∷ []) (answered_fronts (Out (line (codes "fault source")) ∷ []) (refl, tt)) (one_run (Out (line (codes "fault source")) ∷ []) refl) refl
+source_run : Does run_words told_first (told_of source_closed) (beside_first one_line) (beside_of one_line [] 1 0) Source
+source_run = runs 200 (codes "d") is_run
+    (closed_run Source source_closed one_line [] 1 0 [] (Out (line (codes "fault source")) ∷ []) (refl, (refl, (refl, (refl, (refl, tt))))) (answered_fronts (Out (line (codes "fault source")) ∷ []) (refl, tt)) (one_run (Out (line (codes "fault source")) ∷ []) refl) refl
     (whole_line (codes "fault source") 0 0) (refl, refl) (λ e. cc) (λ e. cc) (lit≤ tt))
 
 source_output : output_of source_closed ≡ line (codes "ready 200 0") ++ line (codes "ok") ++ line (codes "fault source")
@@ -166,9 +191,9 @@ source_code = refl
 abbrev source_cut : List Event
 source_cut = answered ++ Out (codes "fault") ∷ []
 
-source_cut_run : (told : Told) → Does run_words told (told_of source_cut) (beside_of [] one_line 0 0) (beside_of one_line [] 1 1) Source
-source_cut_run told = runs 200 (codes "d") is_run
-    (closed_run Source source_cut one_line [] 1 1 [] (Out (codes "fault") ∷ []) (answered_fronts (Out (codes "fault") ∷ []) (refl, tt)) (one_run (Out (codes "fault") ∷ []) refl) refl
+source_cut_run : Does run_words told_first (told_of source_cut) (beside_first one_line) (beside_of one_line [] 1 1) Source
+source_cut_run = runs 200 (codes "d") is_run
+    (closed_run Source source_cut one_line [] 1 1 [] (Out (codes "fault") ∷ []) (refl, (refl, (refl, (refl, (refl, tt))))) (answered_fronts (Out (codes "fault") ∷ []) (refl, tt)) (one_run (Out (codes "fault") ∷ []) refl) refl
     (record { part = codes "fault"; more = line (codes " source"); prefix = refl; only = refl; whole = inr (lit≤ tt) }) (refl, refl) (λ e. cc) (λ e. cc) (lit≤ tt))
 
 -- where no put failed, that is no closing line
@@ -199,9 +224,9 @@ cut_fronts = open_fronts 200 opened (Out (codes "ok") ∷ []) (lines_of one_line
     (recovers_of (fresh 200).base (onto opened []) (fresh_system 200) (lines_of one_line) [] [] (app_a ∷ []) [] (Out (codes "ok") ∷ []) (app_a_says, tt) tt (refl, tt) tt
     (no_slots (fresh 200).base (onto opened []) (fresh_system 200) (Some app_a) (Out (codes "ok") ∷ []) refl))
 
-sink_run : (told : Told) → Does run_words told (told_of cut_reply) (beside_of [] one_line 0 0) (beside_of one_line [] 0 1) Sink
-sink_run told = runs 200 (codes "d") is_run
-    (closed_run Sink cut_reply one_line [] 0 1 (Out (codes "ok") ∷ []) [] cut_fronts
+sink_run : Does run_words told_first (told_of cut_reply) (beside_first one_line) (beside_of one_line [] 0 1) Sink
+sink_run = runs 200 (codes "d") is_run
+    (closed_run Sink cut_reply one_line [] 0 1 (Out (codes "ok") ∷ []) [] (refl, (refl, (refl, (refl, tt)))) cut_fronts
     (is_opening, no_reply, confined_of (fresh_system 200) (lines_of one_line) [] (Out (codes "ok") ∷ []) tt no_reply) refl refl (λ h is. cut_shows) (λ e. cc) (λ e. cc) (lit≤ tt))
 
 sink_output : output_of cut_reply ≡ line (codes "ready 200 0") ++ codes "ok"

@@ -10,7 +10,6 @@ use Rattle.ark_base.specs.declared.refusal.Refusal.TheVariants as r
 use Rattle.ark_base.specs.declared.status.Status.TheVariants.{Done}
 use Rattle.ark_media.specs.Journal.{Event, Out, fresh, onto, output_of}
 use Rattle.ark_media.specs.Parts.{joined}
-use Rattle.ark_media.specs.Calls.{Told}
 use Rattle.ark_script.specs.Line as w
 use Rattle.ark_script.specs.Lines.{Meaning, Says, EachSays, lines_of}
 use Rattle.ark_script.specs.Line.{Line}
@@ -31,7 +30,7 @@ use Rattle.ark_laws.proofs.Confining.{confined_of}
 use Rattle.ark_cli.specs.Ending.{RecoversAtFronts, Does, runs}
 use Rattle.ark_cli.proofs.Stops.{no_slots, none_each, open_fronts}
 use Rattle.ark_machine.proofs.Fronts.{recovers_of}
-use Rattle.ark_worked_runs.proofs.WorkedRuns.{line, told_of, beside_of, closed_run, run_words, is_run, opened, is_opening, is_whole}
+use Rattle.ark_worked_runs.proofs.WorkedRuns.{line, told_first, beside_first, told_of, beside_of, closed_run, run_words, is_run, opened, is_opening, is_whole}
 
 abbrev script : List ℕ
 script =
@@ -149,9 +148,9 @@ they_recover =
     (none_each (fresh 200).base (onto opened []) (fresh_system 200) meanings whole (refl, (refl, (refl, (refl, (refl, (refl, (refl, (refl, tt)))))))))
     (no_slots (fresh 200).base (onto (joined whole) (onto opened [])) (system_after (fresh_system 200) meanings whole) None [] refl))
 
-script_run : (told : Told) → Does run_words told (told_of events) (beside_of [] script 0 0) (beside_of script [] 0 0) Done
-script_run told = runs 200 (codes "d") is_run
-    (closed_run Done events script [] 0 0 [] [] they_recover (is_opening, they_reply, confined_of (fresh_system 200) (lines_of script) whole [] tt they_reply) refl refl (refl, refl) (λ e. refl) (λ e. cc) (lit≤ tt))
+script_run : Does run_words told_first (told_of events) (beside_first script) (beside_of script [] 0 0) Done
+script_run = runs 200 (codes "d") is_run
+    (closed_run Done events script [] 0 0 [] [] (refl, (refl, (refl, (refl, (refl, (refl, (refl, (refl, (refl, (refl, (refl, tt))))))))))) they_recover (is_opening, they_reply, confined_of (fresh_system 200) (lines_of script) whole [] tt they_reply) refl refl (refl, refl) (λ e. refl) (λ e. cc) (lit≤ tt))
 
 script_output : output_of events ≡
     line (codes "ready 200 0") ++ line (codes "refused 2 unknown word") ++ line (codes "refused 2 unknown word") ++ line (codes "refused 1 syntax")

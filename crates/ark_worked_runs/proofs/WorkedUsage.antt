@@ -11,7 +11,7 @@ use Rattle.ark_media.proofs.Composing.{goes_put}
 use Rattle.ark_words.specs.Sorted.{Sorted, sorted}
 use Rattle.ark_cli.specs.Words.{IsRun}
 use Rattle.ark_cli.specs.Ending.{Does, no_command}
-use Rattle.ark_worked_runs.proofs.WorkedRuns.{line, told_of, beside_of, some_is, whole_line}
+use Rattle.ark_worked_runs.proofs.WorkedRuns.{line, told_of, beside_first, some_is, whole_line}
 
 -- a device of too few blocks
 abbrev small_words : List (List ℕ)
@@ -43,12 +43,12 @@ rests_usage = record {
   faults = refl;
 }
 
-usage_run : (script : List ℕ) → Does small_words (told_of []) (told_of usage_line) (beside_of [] script 0 0) (beside_of [] script 0 0) Usage
+usage_run : (script : List ℕ) → Does small_words (told_of []) (told_of usage_line) (beside_first script) (beside_first script) Usage
 usage_run script = no_command refl too_small (record {
   closing = usage_line;
   closes = whole_line (codes "fault usage") 0 0;
-  goes = goes_put (told_of []) (told_of usage_line) (beside_of [] script 0 0) (beside_of [] script 0 0) (line (codes "fault usage")) rests_usage
-      (record { script = record { told = λ x is. is }; attach = refl; source = refl }) (lit≤ tt);
+  goes = goes_put (told_of []) (told_of usage_line) (beside_first script) (beside_first script) (line (codes "fault usage")) rests_usage
+      (record { script = record { told = λ x is. is }; openings = refl; attach = refl; source = refl }) (lit≤ tt);
 })
 
 usage_output : output_of usage_line ≡ line (codes "fault usage")

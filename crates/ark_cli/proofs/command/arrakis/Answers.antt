@@ -1,6 +1,10 @@
+use Rattle.std.proofs.Common.{subst}
 use Rattle.std.specs.Prelude.{map, string_bytes}
+use Rattle.ark_base.specs.declared.status.Status.{Status}
+use Rattle.ark_cli.specs.Ending.{IsCause}
 use Rattle.ark_cli.proofs.Closing.{does, undamaged, cause_closed, usage_only, usage_where}
 use Rattle.ark_cli.proofs.Completing.{complete}
+use Rattle.ark_cli.proofs.Unfailed.{no_fault}
 use Rattle.ark_cli.proofs.command.arrakis.Goals as goal
 
 pub close-requires : goal.close-requires
@@ -29,5 +33,17 @@ returns-clause-complete g c = λ size device run short quiet.
     let w2 = c.close.new.world in
     let k = c.close.ensures.closes in
     let status = c.command-status.result in
-    let why = cause_closed (g.W.Disk.told w0) (g.W.Disk.told w1) (g.W.Disk.told w2) (g.W.Outside.beside w0) (g.W.Outside.beside w1) (g.W.Outside.beside w2) status k.0 k.2 c.command-status.ensures.cause in
+    let why = cause_closed (g.W.Disk.told w0) (g.W.Disk.told w1) (g.W.Disk.told w2) (g.W.Outside.beside w0) (g.W.Outside.beside w1) (g.W.Outside.beside w2) status k.0 c.close.ensures.unfailed k.2 c.command-status.ensures.cause in
     complete (map string_bytes c.args.words.now) size device run (g.W.Disk.told w0) (g.W.Disk.told w2) (g.W.Outside.beside w0) (g.W.Outside.beside w2) short quiet status (returns-clause-does g c) why
+
+pub returns-clause-done : goal.returns-clause-done
+returns-clause-done g c = λ done.
+    let w0 = c.args.world.now in
+    let w1 = c.command-status.new.world in
+    let w2 = c.close.new.world in
+    let k = c.close.ensures.closes in
+    subst (λ (e : Status). IsCause (g.W.Disk.told w0) (g.W.Disk.told w2) (g.W.Outside.beside w0) (g.W.Outside.beside w2) e) done
+    (cause_closed (g.W.Disk.told w0) (g.W.Disk.told w1) (g.W.Disk.told w2) (g.W.Outside.beside w0) (g.W.Outside.beside w1) (g.W.Outside.beside w2) c.command-status.result k.0 c.close.ensures.unfailed k.2 c.command-status.ensures.cause)
+
+pub returns-clause-unfailed : goal.returns-clause-unfailed
+returns-clause-unfailed g c = λ done still. no_fault (map string_bytes c.args.words.now) _ _ _ _ still c.command-status.result done (returns-clause-does g c)

@@ -2,6 +2,7 @@ use Rattle.std.proofs.Common.{true, ◌∙◌, subst}
 use Rattle.ark_media.specs.Calls.{Makes}
 use Rattle.ark_table.specs.Superblock.{format_calls}
 use Rattle.ark_cli.proofs.Opened.{ready_line, since_make, opens_ready, opens_unshown}
+use Rattle.ark_cli.proofs.Unfailed.{unfailed_then, unfailed_made, unfailed_kept, unfailed_put}
 use Rattle.ark_cli.proofs.opening.open_new.Goals as goal
 
 pub returns-in-Ok-put-clause-opens : goal.returns-in-Ok-put-clause-opens
@@ -11,9 +12,9 @@ returns-in-Ok-put-clause-opens g c =
     let w1 = c.make.new.self in
     let w2 = c.format.new.disk in
     let w3 = c.put.new.self in
-    opens_ready c.args.blocks (g.W.Disk.told w0) (g.W.Disk.told w1) (g.W.Disk.told w2) (g.W.Disk.told w3) (g.W.Outside.beside w0) (g.W.Outside.beside w1) (g.W.Outside.beside w2) (g.W.Outside.beside w3)
+    opens_ready c.args.blocks c.args.device.now (g.W.Disk.told w0) (g.W.Disk.told w1) (g.W.Disk.told w2) (g.W.Disk.told w3) (g.W.Outside.beside w0) (g.W.Outside.beside w1) (g.W.Outside.beside w2) (g.W.Outside.beside w3)
     f.events (subst (λ n. Makes (format_calls n) true f.events) c.in-Ok.ensures.size f.makes) _ (ready_line c.args.blocks _ _ _ c.say.ensures.said (c.bytes.ensures ∙ c.print.ensures.text))
-    (since_make c.args.blocks (g.W.Disk.told w1) (g.W.Outside.beside w0) (g.W.Outside.beside w1) c.in-Ok.ensures.begun c.in-Ok.ensures.size c.make.ensures.keeps)
+    (since_make c.args.blocks c.args.device.now (g.W.Disk.told w0) (g.W.Disk.told w1) (g.W.Outside.beside w0) (g.W.Outside.beside w1) c.in-Ok.ensures.begun c.in-Ok.ensures.size c.make.ensures.disk c.in-Ok.ensures.asked c.in-Ok.ensures.cause.worked c.make.ensures.keeps)
     (g.met.W.Disk.goes_told w1 w2 f.events f.goes_on) (g.met.W.Outside.goes_means w1 w2 f.events f.goes_on) c.put.ensures.keeps c.put.ensures.cause.later c.in-Ok-put.ensures.puts
 
 pub returns-in-Err-put-clause-opens : goal.returns-in-Err-put-clause-opens
@@ -23,7 +24,18 @@ returns-in-Err-put-clause-opens g c =
     let w1 = c.make.new.self in
     let w2 = c.format.new.disk in
     let w3 = c.put.new.self in
-    opens_unshown c.args.blocks (g.W.Disk.told w0) (g.W.Disk.told w1) (g.W.Disk.told w2) (g.W.Disk.told w3) (g.W.Outside.beside w0) (g.W.Outside.beside w1) (g.W.Outside.beside w2) (g.W.Outside.beside w3)
+    opens_unshown c.args.blocks c.args.device.now (g.W.Disk.told w0) (g.W.Disk.told w1) (g.W.Disk.told w2) (g.W.Disk.told w3) (g.W.Outside.beside w0) (g.W.Outside.beside w1) (g.W.Outside.beside w2) (g.W.Outside.beside w3)
     f.events (subst (λ n. Makes (format_calls n) true f.events) c.in-Ok.ensures.size f.makes) _ (ready_line c.args.blocks _ _ _ c.say.ensures.said (c.bytes.ensures ∙ c.print.ensures.text))
-    (since_make c.args.blocks (g.W.Disk.told w1) (g.W.Outside.beside w0) (g.W.Outside.beside w1) c.in-Ok.ensures.begun c.in-Ok.ensures.size c.make.ensures.keeps)
+    (since_make c.args.blocks c.args.device.now (g.W.Disk.told w0) (g.W.Disk.told w1) (g.W.Outside.beside w0) (g.W.Outside.beside w1) c.in-Ok.ensures.begun c.in-Ok.ensures.size c.make.ensures.disk c.in-Ok.ensures.asked c.in-Ok.ensures.cause.worked c.make.ensures.keeps)
     (g.met.W.Disk.goes_told w1 w2 f.events f.goes_on) (g.met.W.Outside.goes_means w1 w2 f.events f.goes_on) c.put.ensures.keeps c.put.ensures.cause.later c.in-Err-put.ensures.puts
+
+pub returns-in-Ok-put-clause-unfailed : goal.returns-in-Ok-put-clause-unfailed
+returns-in-Ok-put-clause-unfailed g c =
+    let f = c.in-Ok-format.ensures.went in
+    let b0 = g.W.Outside.beside c.args.world.now in
+    let b1 = g.W.Outside.beside c.make.new.self in
+    let b2 = g.W.Outside.beside c.format.new.disk in
+    let b3 = g.W.Outside.beside c.put.new.self in
+    unfailed_then b0 b2 b3
+    (unfailed_then b0 b1 b2 (unfailed_made b0 b1 c.make.ensures.keeps c.in-Ok.ensures.cause.worked) (unfailed_kept b1 b2 (g.met.W.Outside.goes_means c.make.new.self c.format.new.disk f.events f.goes_on)))
+    (unfailed_put b2 b3 c.put.ensures.keeps c.in-Ok-put.ensures.cause.worked)

@@ -4,6 +4,7 @@ use Rattle.std.proofs.lemmas.List.{take_more, take_all}
 use Rattle.ark_media.proofs.Composing.{goes_none, goes_then}
 use Rattle.ark_cli.specs.Session.{Feeds}
 use Rattle.ark_cli.proofs.Feeding.{feeds_none, feeds_then, feeds_cut, split_at}
+use Rattle.ark_cli.proofs.Unfailed.{none_failed, unfailed_then}
 use Rattle.ark_cli.proofs.script.run_bytes.Goals as goal
 
 pub loop-b-init : goal.loop-b-init
@@ -16,6 +17,7 @@ loop-b-init g c =
         goes = goes_none told told beside beside refl refl;
         does = λ s fed added f. feeds_none s fed added c.args.host.now told c.args.line.now f;
       };
+      unfailed = none_failed beside;
       sound = c.requires.sound;
       counted = omega arith;
     }
@@ -62,6 +64,7 @@ loop-b-preserved g c =
             (feeds_then s fed added (take i bytes) (get_or bytes i 0 ∷ []) before.events now.events c.loop-b.host c.run_byte.new.host (g.W.Disk.told w1) (g.W.Disk.told w2) c.loop-b.line c.run_byte.new.line true
             first (now.does s (fed ++ take i bytes) (added ++ before.events) (first.done refl)));
       };
+      unfailed = unfailed_then (g.W.Outside.beside w0) (g.W.Outside.beside w1) (g.W.Outside.beside w2) c.loop-b.invariant.unfailed c.in_ok-run_byte.ensures.unfailed;
       sound = c.run_byte.ensures.sound;
       counted = omega (arith, c.loop-b.invariant.counted, c.run_byte.ensures.counted);
     }

@@ -2,13 +2,15 @@ use Rattle.std.proofs.Common.{◌≡◌, ◌+◌, length, take, subst, inl, inr,
 use Rattle.std.proofs.lemmas.List.{length-take}
 use Rattle.ark_media.specs.Calls.{Fetches}
 use Rattle.ark_media.proofs.Composing.{takes_fetched, takes_none, still_none}
-use Rattle.ark_cli.proofs.Turning.{going_first, going_on, going_none, ran_failed, ran_long, ran_source, ran_finish, end_after}
+use Rattle.ark_cli.proofs.Turning.{script_end, going_first, going_on, going_none, ran_failed, ran_long, ran_source, ran_finish, end_after}
+use Rattle.ark_cli.proofs.Unfailed.{none_failed, unfailed_then, unfailed_fetched}
 use Rattle.ark_cli.proofs.script.run_script.Goals as goal
 
 pub loop-count-init : goal.loop-count-init
 loop-count-init g c = record {
   going = going_first (g.W.Disk.told c.args.world.now) (g.W.Outside.beside c.args.world.now) c.args.host.now c.args.line.now;
   few = omega arith;
+  unfailed = none_failed (g.W.Outside.beside c.args.world.now);
   sound = c.requires.sound;
   counted = omega (arith, c.requires.none);
 }
@@ -19,6 +21,7 @@ loop-count-preserved g c = record {
       (g.W.Outside.beside c.args.world.now) (g.W.Outside.beside c.loop-count.world) (g.W.Outside.beside c.turn.new.world)
       c.args.host.now c.loop-count.host c.args.line.now c.loop-count.line c.loop-count.count c.loop-count.invariant.going _ c.turn.new.host c.turn.new.line c.in-Ok.more c.in-Ok.ensures.turns;
   few = omega (arith, length-take c.min-room.result c.loop-count.chunk, c.min-room.ensures, c.loop-count.invariant.few, c.in-Ok.ensures.bound);
+  unfailed = unfailed_then (g.W.Outside.beside c.args.world.now) (g.W.Outside.beside c.loop-count.world) (g.W.Outside.beside c.turn.new.world) c.loop-count.invariant.unfailed c.in-Ok.ensures.unfailed;
   sound = c.turn.ensures.sound;
   counted = omega (arith, c.loop-count.invariant.counted, c.in-Ok.ensures.counted);
 }
@@ -44,7 +47,7 @@ returns-in-Ok-eq0-clause-ran g c =
     (g.W.Outside.beside c.args.world.now) (g.W.Outside.beside c.turn.new.world) (g.W.Outside.beside c.end_script.new.world)
     c.args.host.now c.turn.new.host c.args.line.now c.turn.new.line (c.loop-count.count + c.in-Ok-eq0.field-0) now
     c.end_script.result (t.at_end zero) c.end_script.ensures.finishes
-    (elim c.end_script.ensures.cause [ inl x ↦ inl x | inr x ↦ inr x.0 ])
+    (elim c.end_script.ensures.cause [ inl x ↦ inl x.0 | inr x ↦ inr x.0 ])
     (omega (arith, zero, c.loop-count.invariant.few))
 
 pub returns-in-Err-fetch-clause-ran : goal.returns-in-Err-fetch-clause-ran
@@ -69,7 +72,7 @@ returns-in-Ok-eq0-fetch-clause-ran g c =
     c.args.host.now c.loop-count.host c.args.line.now c.loop-count.line c.loop-count.count now
     c.end_script-in-Ok-eq0-fetch.result (end_after b1.script b2.script b2.script c.fetch.new.out f (takes_none b2.script b2.script (still_none b2.script)))
     c.end_script-in-Ok-eq0-fetch.ensures.finishes
-    (elim c.end_script-in-Ok-eq0-fetch.ensures.cause [ inl x ↦ inl x | inr x ↦ inr x.0 ])
+    (elim c.end_script-in-Ok-eq0-fetch.ensures.cause [ inl x ↦ inl x.0 | inr x ↦ inr x.0 ])
     c.loop-count.invariant.few
 
 pub returns-in-Ok-fetch-clause-ran : goal.returns-in-Ok-fetch-clause-ran
@@ -79,3 +82,18 @@ returns-in-Ok-fetch-clause-ran g c =
     c.args.host.now c.loop-count.host c.args.line.now c.loop-count.line c.loop-count.count c.loop-count.invariant.going
     c.in-Ok-fetch.field-0 c.fetch.new.out (omega (arith, c.loop-count.invariant.few)) (omega (arith, c.fetch.auto.out, length-take 1 c.loop-count.chunk)) (search rules)
     c.in-Ok-fetch.ensures.bytes c.fetch.ensures.rests c.fetch.ensures.keeps c.fetch.ensures.cause.later
+
+pub returns-in-Ok-eq0-clause-cause : goal.returns-in-Ok-eq0-clause-cause
+returns-in-Ok-eq0-clause-cause g c =
+    let b0 = g.W.Outside.beside c.args.world.now in
+    let b1 = g.W.Outside.beside c.loop-count.world in
+    let b2 = g.W.Outside.beside c.turn.new.world in
+    script_end b0 b2 (g.W.Outside.beside c.end_script.new.world) c.end_script.result (unfailed_then b0 b1 b2 c.loop-count.invariant.unfailed c.in-Ok-eq0.ensures.unfailed) c.end_script.ensures.cause
+
+pub returns-in-Ok-eq0-fetch-clause-cause : goal.returns-in-Ok-eq0-fetch-clause-cause
+returns-in-Ok-eq0-fetch-clause-cause g c =
+    let b0 = g.W.Outside.beside c.args.world.now in
+    let b1 = g.W.Outside.beside c.loop-count.world in
+    let b2 = g.W.Outside.beside c.fetch.new.self in
+    script_end b0 b2 (g.W.Outside.beside c.end_script-in-Ok-eq0-fetch.new.world) c.end_script-in-Ok-eq0-fetch.result
+    (unfailed_then b0 b1 b2 c.loop-count.invariant.unfailed (unfailed_fetched b1 b2 c.fetch.ensures.keeps c.in-Ok-eq0-fetch.ensures.cause.worked)) c.end_script-in-Ok-eq0-fetch.ensures.cause

@@ -1,5 +1,6 @@
 use Rattle.std.proofs.Common.{length, arith}
 use Rattle.ark_cli.proofs.Turning.{turn_source, turn_ok, turn_sink}
+use Rattle.ark_cli.proofs.Unfailed.{unfailed_then, unfailed_fetched}
 use Rattle.ark_cli.proofs.script.turn.Goals as goal
 
 pub returns-in-Err-clause-turns : goal.returns-in-Err-clause-turns
@@ -26,3 +27,9 @@ returns-in-Err-run_bytes-clause-turns g c =
     turn_sink (length c.args.chunk.now) (g.W.Disk.told w0) (g.W.Disk.told w1) (g.W.Disk.told w2) (g.W.Outside.beside w0) (g.W.Outside.beside w1) (g.W.Outside.beside w2)
     c.args.host.now c.run_bytes.new.host c.args.line.now c.run_bytes.new.line c.in-Ok.count c.fetch.new.out (omega (arith, c.fetch.auto.out))
     c.in-Ok.ensures.bytes c.fetch.ensures.rests c.fetch.ensures.keeps c.fetch.ensures.cause.later c.in-Err-run_bytes.ensures.feeds
+
+pub returns-in-Ok-run_bytes-clause-unfailed : goal.returns-in-Ok-run_bytes-clause-unfailed
+returns-in-Ok-run_bytes-clause-unfailed g c =
+    let b0 = g.W.Outside.beside c.args.world.now in
+    let b1 = g.W.Outside.beside c.fetch.new.self in
+    unfailed_then b0 b1 (g.W.Outside.beside c.run_bytes.new.world) (unfailed_fetched b0 b1 c.fetch.ensures.keeps c.in-Ok.ensures.cause.worked) c.in-Ok-run_bytes.ensures.unfailed
