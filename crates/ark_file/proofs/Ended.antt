@@ -18,12 +18,18 @@ if_some : {A : Type 0} (b : Bool) (x y : A) → told_if b x ≡ Some y → x ≡
 if_some true x y is = cc is
 if_some false x y is = absurd (cc is)
 
-module _ (old now : Model) (honest : now.is_honest ≡ true) where
-  h : History
-  h = record { base = now.base; journal = now.journal }
+abbrev history : List (List ℕ) → List Event → History
+history base journal = record { base = base; journal = journal }
 
-  s : Script
-  s = record { taken = now.taken; left = now.rest.script }
+abbrev script_of : List ℕ → List ℕ → Script
+script_of taken left = record { taken = taken; left = left }
+
+module _ (old now : Model) (honest : now.is_honest ≡ true) where
+  abbrev h : History
+  h = history now.base now.journal
+
+  abbrev s : Script
+  s = script_of now.taken now.rest.script
 
   told : told_if now.is_honest h ≡ Some h
   told = ap (λ b. told_if b h) honest
@@ -33,8 +39,8 @@ module _ (old now : Model) (honest : now.is_honest ≡ true) where
 
   -- the history went on
   module _ (events : List Event) (adds : Adds (told_of old).history (told_of now).history events) where
-    before : (journal : List Event) × (record { base = old.base; journal = old.journal } ≡ record { base = now.base; journal = journal }) × (now.journal ≡ onto events journal)
-    before = let a = adds.told h told in (a.0, if_some old.is_honest (record { base = old.base; journal = old.journal }) (record { base = now.base; journal = a.0 }) a.1, a.2)
+    before : (journal : List Event) × (history old.base old.journal ≡ history now.base journal) × (now.journal ≡ onto events journal)
+    before = let a = adds.told h told in (a.0, if_some old.is_honest (history old.base old.journal) (history now.base a.0) a.1, a.2)
 
     based : now.base ≡ old.base
     based = sym (ap (λ (x : History). x.base) before.1)
@@ -44,8 +50,8 @@ module _ (old now : Model) (honest : now.is_honest ≡ true) where
 
   -- bytes of the script were taken
   module _ (bytes : List ℕ) (takes : Takes (beside_of old).script (beside_of now).script bytes) where
-    earlier : (t : Script) × (record { taken = old.taken; left = old.rest.script } ≡ t) × (now.taken ≡ t.taken ++ bytes) × (t.left ≡ bytes ++ now.rest.script)
-    earlier = let a = takes.told s shown in (a.0, if_some old.is_honest (record { taken = old.taken; left = old.rest.script }) a.0 a.1, a.2, a.3)
+    earlier : (t : Script) × (script_of old.taken old.rest.script ≡ t) × (now.taken ≡ t.taken ++ bytes) × (t.left ≡ bytes ++ now.rest.script)
+    earlier = let a = takes.told s shown in (a.0, if_some old.is_honest (script_of old.taken old.rest.script) a.0 a.1, a.2, a.3)
 
     taken : now.taken ≡ old.taken ++ bytes
     taken = earlier.2 ∙ ap (λ t. t ++ bytes) (sym (ap (λ (x : Script). x.taken) earlier.1))

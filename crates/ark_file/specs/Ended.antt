@@ -1,5 +1,5 @@
 -- How a run over a real outside ended, where all that it answered was what is supposed.
-use Rattle.std.specs.Prelude.{◌≡◌, ◌+◌, ◌≤◌, ℕ, true, List, [], ◌∷◌, ◌++◌, length}
+use Rattle.std.specs.Prelude.{◌≡◌, ◌+◌, ◌≤◌, ℕ, true, false, List, [], ◌∷◌, ◌++◌, length}
 use Rattle.ark_base.specs.Status.{code_of}
 use Rattle.ark_base.specs.declared.status.Status.{Status}
 use Rattle.ark_base.specs.declared.status.Status.TheVariants.{Done, Usage, Sink, Device, Memory, Long}
@@ -87,9 +87,9 @@ pub record IsDone (words : List (List ℕ)) (old now : Model) : Type 0 where
   pub left : now.rest.script ≡ []
 
 -- The process ends with this status: that of a run for the words.
-pub record Exits (words : List (List ℕ)) (was now : Past) (code : ℕ) : Type 0 where
+pub record Exits (words : List (List ℕ)) (was now : Past) (exit : ℕ) : Type 0 where
   pub status : Status
-  pub code : code ≡ code_of status
+  pub code : exit ≡ code_of status
   pub does : Does words (told_by was) (told_by now) (beside_by was) (beside_by now) status
   pub ended : IsHonest now → HasEnded words (model_of was) (model_of now) status
   pub done : status ≡ Done → IsHonest now → IsDone words (model_of was) (model_of now)

@@ -78,7 +78,7 @@ impl Host for Noting {
 }
 
 fn watched(fails: bool) -> Watched<Noting> {
-    Watched::new(Noting {
+    Watched::begin(Noting {
         calls: 0,
         number: 0,
         block: [0; 512],
