@@ -1,0 +1,154 @@
+-- How a run ended, read off what it does.
+use Rattle.std.proofs.Common.{◌≡◌, ℕ, ◌+◌, Bool, true, false, List, [], ◌∷◌, ◌++◌, length, refl, sym, ◌∙◌, ap, subst, append-nil}
+use Rattle.std.specs.Prelude.{Some}
+use Rattle.ark_base.specs.declared.status.Status.{Status}
+use Rattle.ark_base.specs.declared.status.Status.TheVariants.{Done, Usage, Source, Sink, Device, Memory, Damaged, Long}
+use Rattle.ark_media.specs.Journal.{Event, History, onto}
+use Rattle.ark_media.specs.Calls.{Opening, Told, Script, Adds, Takes, making}
+use Rattle.ark_media.specs.Parts.{parts}
+use Rattle.ark_script.specs.Lines.{lines_of}
+use Rattle.ark_cli.specs.Words.{IsRun}
+use Rattle.ark_cli.specs.Ending as ending
+use Rattle.ark_cli.specs.Ending.{Does, HasRun, Ends, Closes, IsQuiet, IsRefused, IsClosed}
+use Rattle.ark_record.specs.Replay.{Model}
+use Rattle.ark_record.specs.Watch.{told_if, told_of, beside_of}
+use Rattle.ark_file.specs.Ended.{IsUnopened, EndsBy, IsRunOn, HasEnded, no_command, no_memory, no_device, ran, IsDone}
+
+if_some : {A : Type 0} (b : Bool) (x y : A) → told_if b x ≡ Some y → x ≡ y
+if_some true x y is = cc is
+if_some false x y is = absurd (cc is)
+
+abbrev history : List (List ℕ) → List Event → History
+history base journal = record { base = base; journal = journal }
+
+abbrev script_of : List ℕ → List ℕ → Script
+script_of taken left = record { taken = taken; left = left }
+
+module _ (old now : Model) (honest : now.is_honest ≡ true) where
+  abbrev h : History
+  h = history now.base now.journal
+
+  abbrev s : Script
+  s = script_of now.taken now.rest.script
+
+  told : told_if now.is_honest h ≡ Some h
+  told = ap (λ b. told_if b h) honest
+
+  shown : told_if now.is_honest s ≡ Some s
+  shown = ap (λ b. told_if b s) honest
+
+  -- the history went on
+  module _ (events : List Event) (adds : Adds (told_of old).history (told_of now).history events) where
+    before : (journal : List Event) × (history old.base old.journal ≡ history now.base journal) × (now.journal ≡ onto events journal)
+    before = let a = adds.told h told in (a.0, if_some old.is_honest (history old.base old.journal) (history now.base a.0) a.1, a.2)
+
+    based : now.base ≡ old.base
+    based = sym (ap (λ (x : History). x.base) before.1)
+
+    added : now.journal ≡ onto events old.journal
+    added = before.2 ∙ ap (λ j. onto events j) (sym (ap (λ (x : History). x.journal) before.1))
+
+  -- bytes of the script were taken
+  module _ (bytes : List ℕ) (takes : Takes (beside_of old).script (beside_of now).script bytes) where
+    earlier : (t : Script) × (script_of old.taken old.rest.script ≡ t) × (now.taken ≡ t.taken ++ bytes) × (t.left ≡ bytes ++ now.rest.script)
+    earlier = let a = takes.told s shown in (a.0, if_some old.is_honest (script_of old.taken old.rest.script) a.0 a.1, a.2, a.3)
+
+    taken : now.taken ≡ old.taken ++ bytes
+    taken = earlier.2 ∙ ap (λ t. t ++ bytes) (sym (ap (λ (x : Script). x.taken) earlier.1))
+
+    left : old.rest.script ≡ bytes ++ now.rest.script
+    left = ap (λ (x : Script). x.left) earlier.1 ∙ earlier.3
+
+  unopened : (status : Status) → IsQuiet (told_of old) (told_of now) (beside_of old) (beside_of now) status → IsUnopened [] status old now
+  unopened status quiet = record {
+    closing = quiet.closing;
+    closes = quiet.closes;
+    openings = quiet.goes.openings ∙ sym (append-nil old.openings);
+    base = based quiet.closing quiet.goes.tells.adds;
+    journal = added quiet.closing quiet.goes.tells.adds;
+    taken = taken [] quiet.goes.takes ∙ append-nil old.taken;
+  }
+
+  refused : (opening : Opening) (status : Status) → IsRefused opening (told_of old) (told_of now) (beside_of old) (beside_of now) status → IsUnopened (opening ∷ []) status old now
+  refused opening status r = record {
+    closing = r.closing;
+    closes = r.closes;
+    openings = r.asks;
+    base = based r.closing r.adds;
+    journal = added r.closing r.adds;
+    taken = taken [] r.takes ∙ append-nil old.taken;
+  }
+
+  cut : (size : ℕ) (script : List ℕ) (whole : List (List Event)) (rest : List Event) → Ends size (told_of now) Sink script whole rest → EndsBy size (told_of now) Sink script whole rest
+  cut size script [] rest e = e
+  cut size script (opening ∷ whole) rest e = e h told
+
+  ends_by : (size : ℕ) (status : Status) (script : List ℕ) (whole : List (List Event)) (rest : List Event) → Ends size (told_of now) status script whole rest → EndsBy size (told_of now) status script whole rest
+  ends_by size Sink script whole rest e = cut size script whole rest e
+  ends_by size Done script whole rest e = e
+  ends_by size Usage script whole rest e = e
+  ends_by size Source script whole rest e = e
+  ends_by size Device script whole rest e = e
+  ends_by size Memory script whole rest e = e
+  ends_by size (Damaged block) script whole rest e = e
+  ends_by size Long script whole rest e = e
+
+  run_on : (size : ℕ) (device : List ℕ) (status : Status) → IsClosed size device (told_of old) (told_of now) (beside_of old) (beside_of now) status → IsRunOn size device status old now
+  run_on size device status c =
+      let begins = c.since.begins h told in
+      record {
+        script = c.script;
+        events = c.events;
+        openings = c.since.asks;
+        base = ap (λ (x : History). x.base) begins;
+        journal = ap (λ (x : History). x.journal) begins;
+        faults = c.since.cause;
+        taken = taken c.script c.since.takes;
+        left = left c.script c.since.takes;
+        run = c.run h told;
+        recovers = c.recovers h told;
+        rest = c.rest;
+        closing = c.closing;
+        unfinished = c.unfinished;
+        closes = c.closes;
+        ends = ends_by size status c.script (parts c.events).whole c.rest c.ends;
+        at_end = λ is. (c.at_end is).none s shown;
+        long = c.long;
+        short = c.short;
+      }
+
+  pub ended : (words : List (List ℕ)) (status : Status) → Does words (told_of old) (told_of now) (beside_of old) (beside_of now) status → HasEnded words old now status
+  ended words status (ending.no_command usage none quiet) = no_command usage none (unopened status quiet)
+  ended words status (ending.unread memory quiet) = no_memory memory (unopened status quiet)
+  ended words status (ending.no_memory size device memory command quiet) = no_memory memory (unopened status quiet)
+  ended words status (ending.no_device size device failed command r) = no_device size device failed command (refused (making device size false) status r)
+  ended words status (ending.runs size device command closed) = ran size device command (run_on size device status closed)
+
+-- a run with status 0
+done_on : (words : List (List ℕ)) (old now : Model) (size : ℕ) (device : List ℕ) → IsRun words size device → IsRunOn size device Done old now → IsDone words old now
+done_on words old now size device command r =
+    let none = r.at_end refl in
+    let whole : old.rest.script ≡ r.script = r.left ∙ ap (λ l. r.script ++ l) none ∙ append-nil r.script in
+    let unfinished : (parts r.events).unfinished ≡ [] = r.unfinished ∙ ap (λ l. l ++ r.closing) r.ends.1 ∙ r.closes in
+    record {
+      size = size;
+      device = device;
+      command = command;
+      events = r.events;
+      openings = r.openings;
+      base = r.base;
+      journal = r.journal;
+      run = subst (λ l. HasRun size (lines_of l) (parts r.events).whole []) (sym whole) (subst (λ u. HasRun size (lines_of r.script) (parts r.events).whole u) unfinished r.run);
+      replies = subst (λ l. length (parts r.events).whole ≡ length (lines_of l) + 1) (sym whole) r.ends.0;
+      unfinished = unfinished;
+      left = none;
+    }
+
+done_by : (words : List (List ℕ)) (old now : Model) → HasEnded words old now Done → IsDone words old now
+done_by words old now (no_command usage none silent) = absurd (cc usage)
+done_by words old now (no_memory memory silent) = absurd (cc memory)
+done_by words old now (no_device size device failed command silent) = absurd (cc failed)
+done_by words old now (ran size device command r) = done_on words old now size device command r
+
+pub done : (words : List (List ℕ)) (old now : Model) (status : Status) → status ≡ Done → HasEnded words old now status → IsDone words old now
+done words old now status is e = done_by words old now (subst (λ x. HasEnded words old now x) is e)

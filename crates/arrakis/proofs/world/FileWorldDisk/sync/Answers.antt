@@ -1,9 +1,0 @@
-use Rattle.ark_media.specs.Calls.{Syncs}
-use Rattle.arrakis.proofs.Calls.{called}
-use Rattle.arrakis.proofs.world.FileWorldDisk.sync.Goals as goal
-
-pub returns : goal.returns
-returns c =
-    let w = c.args.self.now in
-    let m = called Syncs w.blocks w.disk_faults c.counted.new.count w.attach_faults w.source_faults w.sink_faults c.counted.result c.counted.ensures.cause in
-    record { went = record { events = m.0; makes = m.1; goes_on = m.2 } }
