@@ -23,10 +23,12 @@ pub mod Ranks
 pub mod Reaching
 pub mod Refusing
 pub mod Rows
+pub mod Ruled
 pub mod SendRows
 pub mod Sent
 pub mod Setting
 pub mod Settling
+pub mod Sharing
 pub mod Steady
 pub mod Stored
 pub mod Synced
