@@ -6,6 +6,7 @@ ghost use Rattle.ark_filters.specs.In as spec;
 
 use crate::filter::{Direction, Filter, Proto};
 use ark_packet::{Frame, Ip, Own};
+use byteorder::{ByteOrder, NetworkEndian};
 
 const PROTOCOL_OF_TCP: u8 = 6;
 
@@ -38,8 +39,8 @@ fn ports_match(filter: &Filter, ip: &Ip<'_>, protocol: u8, header: usize) -> boo
         return false;
     }
     let port = match filter.direction {
-        Direction::Rx => u16::from_be_bytes([ip.payload[2], ip.payload[3]]),
-        Direction::Tx => u16::from_be_bytes([ip.payload[0], ip.payload[1]]),
+        Direction::Rx => NetworkEndian::read_u16(&ip.payload[2..]),
+        Direction::Tx => NetworkEndian::read_u16(ip.payload),
     };
     filter.services.hold(port)
 }

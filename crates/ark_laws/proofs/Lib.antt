@@ -25,11 +25,13 @@ pub mod Ranks
 pub mod Reaching
 pub mod Refusing
 pub mod Rows
+pub mod Ruled
 pub mod SendRows
 pub mod Sent
 pub mod Setting
 pub mod SettleSynced
 pub mod Settling
+pub mod Sharing
 pub mod Steady
 pub mod Stored
 pub mod Synced

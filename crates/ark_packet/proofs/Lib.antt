@@ -1,4 +1,5 @@
 pub mod Sums
+pub mod Numbers
 pub mod Frames
 pub mod Covering
 pub mod Heads

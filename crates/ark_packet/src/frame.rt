@@ -3,7 +3,8 @@ ghost use Rattle.ark_packet.specs.Frame.{IsFrame, packet_under, proto_of, source
 ghost use Rattle.ark_packet.specs.Ip.{packet_of, seen};
 ghost use Rattle.ark_packet.specs.Ip as spec;
 
-use crate::wire::{read_address, read_mac, read_word};
+use crate::wire::{read_address, read_mac};
+use byteorder::{ByteOrder, NetworkEndian};
 
 /// The IPv4 part of a frame. The octets are those of the wire, in its order.
 #[derive(Clone, Copy, Debug)]
@@ -44,7 +45,7 @@ fn is_fragment(header: &[u8]) -> bool
     requires { 20 ≤ length header.now }
     ensures { result ≡ spec.is_fragment header.now }
 {
-    let field = read_word(header, 6);
+    let field = NetworkEndian::read_u16(&header[6..]);
     field / 0x2000 % 2 == 1 || field % 0x2000 != 0
 }
 
@@ -57,7 +58,7 @@ fn read_ip(bytes: &[u8]) -> Option<Ip<'_>>
     }
     let version = bytes[0] / 16;
     let header_end = usize::from(bytes[0] % 16) * 4;
-    let end = usize::from(read_word(bytes, 2));
+    let end = usize::from(NetworkEndian::read_u16(&bytes[2..]));
     if version != 4 || header_end < LEAST_HEADER || end < header_end || bytes.len() < end {
         return None;
     }
@@ -94,7 +95,7 @@ pub fn read_frame(bytes: &[u8]) -> Frame<'_>
     ensures ip { seen result.ip ≡ packet_in bytes.now }
     ensures frame { IsFrame result }
 {
-    let proto = read_word(bytes, 12);
+    let proto = NetworkEndian::read_u16(&bytes[12..]);
     Frame {
         to: read_mac(bytes, 0),
         from: read_mac(bytes, 6),

@@ -3,7 +3,7 @@ ghost use Rattle.ark_packet.specs.Sum.{plus, ones_sum};
 ghost use Rattle.ark_packet.specs.Sum as spec;
 ghost use Rattle.ark_packet.specs.Written.{checksum as checksum_of};
 
-use crate::wire::word_of;
+use byteorder::{ByteOrder, NetworkEndian};
 
 // The one's complement sum of two words.
 fn add(a: u16, b: u16) -> u16
@@ -20,12 +20,12 @@ pub(crate) fn add_octets(start: u16, octets: &[u8]) -> u16
 {
     let mut sum = start;
     let mut rest = octets;
-    while let [high, low, after @ ..] = rest {
-        sum = add(sum, word_of(*high, *low));
-        rest = after;
+    while rest.len() >= 2 {
+        sum = add(sum, NetworkEndian::read_u16(rest));
+        rest = &rest[2..];
     }
     match rest {
-        [last] => add(sum, word_of(*last, 0)),
+        [last] => add(sum, NetworkEndian::read_u16(&[*last, 0])),
         _ => sum,
     }
 }

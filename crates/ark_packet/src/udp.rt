@@ -5,7 +5,7 @@ ghost use Rattle.ark_packet.specs.Udp as spec;
 use crate::cover::covered_sum;
 use crate::frame::{Frame, Ip};
 use crate::sum::is_right;
-use crate::wire::read_word;
+use byteorder::{ByteOrder, NetworkEndian};
 
 /// Why a frame has no UDP datagram that can be taken.
 #[derive(Clone, Copy, Debug, PartialEq, Eq)]
@@ -49,7 +49,7 @@ fn octets_of(payload: &[u8]) -> Option<&[u8]>
     if payload.len() < HEADER {
         return None;
     }
-    let end = usize::from(read_word(payload, 4));
+    let end = usize::from(NetworkEndian::read_u16(&payload[4..]));
     if end < HEADER || payload.len() < end {
         return None;
     }
@@ -61,7 +61,7 @@ fn is_sum_right(ip: &Ip<'_>, octets: &[u8]) -> bool
     requires { 8 ≤ length octets.now }
     ensures { result ≡ spec.is_sum_right ip.now.from ip.now.to ip.now.protocol octets.now }
 {
-    if read_word(octets, 6) == 0 {
+    if NetworkEndian::read_u16(&octets[6..]) == 0 {
         return true;
     }
     let (header, data) = (&octets[..HEADER], &octets[HEADER..]);
@@ -90,8 +90,8 @@ fn read_ip<'a>(ip: &Ip<'a>) -> Result<Udp<'a>, Bad>
     Ok(Udp {
         from: ip.from,
         to: ip.to,
-        from_port: read_word(ip.payload, 0),
-        to_port: read_word(ip.payload, 2),
+        from_port: NetworkEndian::read_u16(ip.payload),
+        to_port: NetworkEndian::read_u16(&ip.payload[2..]),
         payload: &octets[HEADER..],
     })
 }

@@ -1,20 +1,4 @@
 ghost use Rattle.std.specs.Prelude.{◌≡◌, ◌+◌, ◌≤◌, length, slice_range};
-ghost use Rattle.ark_packet.specs.Wire.{word, word_at};
-
-// The number that two octets stand for, the high one first.
-pub(crate) fn word_of(high: u8, low: u8) -> u16
-    ensures { result ≡ word high low }
-{
-    u16::from_be_bytes([high, low])
-}
-
-// The number in the two octets from a place on.
-pub(crate) fn read_word(bytes: &[u8], at: usize) -> u16
-    requires { at + 2 ≤ length bytes.now }
-    ensures { result ≡ word_at bytes.now at }
-{
-    word_of(bytes[at], bytes[at + 1])
-}
 
 // The six octets from a place on: a MAC address.
 pub(crate) fn read_mac(bytes: &[u8], at: usize) -> [u8; 6]

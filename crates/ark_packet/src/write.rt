@@ -1,4 +1,5 @@
 ghost use Rattle.std.specs.Prelude.{◌≡◌, ◌≤◌, ◌+◌, ◌++◌, ◌∷◌, [], length, take, drop, Ok};
+ghost use Rattle.std.specs.Int.{w16, to_be_bytes};
 ghost use Rattle.ark_packet.specs.Frame.{packet_in, source_of, target_of};
 ghost use Rattle.ark_packet.specs.Udp.{datagram_in};
 ghost use Rattle.ark_packet.specs.Wire.{IsAddress};
@@ -7,6 +8,7 @@ ghost use Rattle.ark_packet.specs.Written as spec;
 use crate::cover::covered_sum;
 use crate::own::Own;
 use crate::sum::checksum;
+use byteorder::{ByteOrder, NetworkEndian};
 
 const PROTOCOL_OF_UDP: u8 = 17;
 
@@ -24,36 +26,30 @@ fn put(out: &mut [u8], at: usize, bytes: &[u8]) -> usize
     end
 }
 
+// Writes a number in two octets from a place on, and gives the place after them.
+fn put_number(out: &mut [u8], at: usize, number: u16) -> usize
+    requires { at + 2 ≤ length out.old }
+    ensures end { result ≡ at + 2 }
+    ensures before { take result out.new ≡ take at out.old ++ to_be_bytes w16 number }
+    ensures after { drop result out.new ≡ drop result out.old }
+{
+    let mut octets = [0; 2];
+    NetworkEndian::write_u16(&mut octets, number);
+    put(out, at, &octets)
+}
+
 // An IPv4 header with this total length and this checksum.
 fn ip_header(total: u16, sum: u16, from: &[u8; 4], to: &[u8; 4]) -> [u8; 20]
     ensures { result ≡ spec.ip_header total sum from.now to.now }
 {
-    let [length_high, length_low] = total.to_be_bytes();
-    let [sum_high, sum_low] = sum.to_be_bytes();
-    let [from_0, from_1, from_2, from_3] = *from;
-    let [to_0, to_1, to_2, to_3] = *to;
-    [
-        0x45,
-        0,
-        length_high,
-        length_low,
-        0,
-        0,
-        0,
-        0,
-        64,
-        PROTOCOL_OF_UDP,
-        sum_high,
-        sum_low,
-        from_0,
-        from_1,
-        from_2,
-        from_3,
-        to_0,
-        to_1,
-        to_2,
-        to_3,
-    ]
+    let mut header = [0; 20];
+    let at = put(&mut header, 0, &[0x45, 0]);
+    let at = put_number(&mut header, at, total);
+    let at = put(&mut header, at, &[0, 0, 0, 0, 64, PROTOCOL_OF_UDP]);
+    let at = put_number(&mut header, at, sum);
+    let at = put(&mut header, at, from);
+    let _ = put(&mut header, at, to);
+    header
 }
 
 // An IPv4 header with this total length and the right checksum.
@@ -68,20 +64,12 @@ fn right_ip_header(total: u16, from: &[u8; 4], to: &[u8; 4]) -> [u8; 20]
 fn udp_header(from_port: u16, to_port: u16, length: u16, sum: u16) -> [u8; 8]
     ensures { result ≡ spec.udp_header from_port to_port length sum }
 {
-    let [from_high, from_low] = from_port.to_be_bytes();
-    let [to_high, to_low] = to_port.to_be_bytes();
-    let [length_high, length_low] = length.to_be_bytes();
-    let [sum_high, sum_low] = sum.to_be_bytes();
-    [
-        from_high,
-        from_low,
-        to_high,
-        to_low,
-        length_high,
-        length_low,
-        sum_high,
-        sum_low,
-    ]
+    let mut header = [0; 8];
+    let at = put_number(&mut header, 0, from_port);
+    let at = put_number(&mut header, at, to_port);
+    let at = put_number(&mut header, at, length);
+    let _ = put_number(&mut header, at, sum);
+    header
 }
 
 // The checksum of a datagram with this header, whose own field is zero.

@@ -3,14 +3,14 @@ use Rattle.std.proofs.Common.{◌≡◌, ◌<◌, ◌≤◌, ◌+◌, ◌++◌, 
 use Rattle.std.specs.Prelude.{◌⊎◌, ◌↔◌}
 use Rattle.std.specs.List.{AllByRecursion}
 use Rattle.std.proofs.lemmas.List.{length-replicate, length-take}
-use Rattle.ark_region.specs.Frames.{Piece, Fits, IsPlace, IsTaken, Covers, IsLive, AreApart, Lies, StandsFor, frames_of, put}
+use Rattle.ark_region.specs.Frames.{Piece, Fits, IsLeastPlace, IsTaken, Covers, IsLive, AreApart, Lies, StandsFor, frames_of, put}
 use Rattle.ark_region.proofs.Putting.{at_or_below, put_below, put_above, put_copies}
 
 -- the same place, where the same frames are occupied
 fits_over : (P Q : ℕ → Type 0) (n k s : ℕ) → ((j : ℕ) → Q j → P j) → Fits P n k s → Fits Q n k s
 fits_over P Q n k s back f = record { inside = f.inside; free = λ j a b q. f.free j a b (back j q) }
 
-pub place_over : (P Q : ℕ → Type 0) (n k s : ℕ) → ((j : ℕ) → P j ↔ Q j) → IsPlace P n k s → IsPlace Q n k s
+pub place_over : (P Q : ℕ → Type 0) (n k s : ℕ) → ((j : ℕ) → P j ↔ Q j) → IsLeastPlace P n k s → IsLeastPlace Q n k s
 place_over P Q n k s same p = record {
   here = fits_over P Q n k s (λ j. (same j).1) p.here;
   least = λ j lt f. p.least j lt (fits_over Q P n k j (λ i. (same i).0) f);

@@ -3,7 +3,7 @@ use Rattle.std.proofs.Common.{◌≡◌, ◌<◌, ◌≤◌, ◌+◌, ◌-◌, �
 use Rattle.std.specs.Prelude.{◌↔◌}
 use Rattle.std.specs.List.{list_all}
 use Rattle.std.proofs.lemmas.Bool.{and_parts}
-use Rattle.ark_region.specs.Frames.{IsTaken, Fits, IsPlace}
+use Rattle.ark_region.specs.Frames.{IsTaken, Fits, IsLeastPlace}
 
 not_taken : (b : Bool) → not b ≡ true → b ≡ false
 not_taken true h = sym h
@@ -49,5 +49,5 @@ none_below t k n pos all below s f = none_at t k n s pos all below f
 pub none_same : (t u : List Bool) (k m : ℕ) → t ≡ u → k ≡ m → ((s : ℕ) → ¬ Fits (IsTaken t) (length t) k s) → (s : ℕ) → ¬ Fits (IsTaken u) (length u) m s
 none_same t u k m e f none = subst (λ (x : List Bool). (s : ℕ) → ¬ Fits (IsTaken x) (length x) m s) e (subst (λ (n : ℕ). (s : ℕ) → ¬ Fits (IsTaken t) (length t) n s) f none)
 
-pub place_same : (t u : List Bool) (k m s : ℕ) → t ≡ u → k ≡ m → IsPlace (IsTaken t) (length t) k s → IsPlace (IsTaken u) (length u) m s
-place_same t u k m s e f p = subst (λ (x : List Bool). IsPlace (IsTaken x) (length x) m s) e (subst (λ (n : ℕ). IsPlace (IsTaken t) (length t) n s) f p)
+pub place_same : (t u : List Bool) (k m s : ℕ) → t ≡ u → k ≡ m → IsLeastPlace (IsTaken t) (length t) k s → IsLeastPlace (IsTaken u) (length u) m s
+place_same t u k m s e f p = subst (λ (x : List Bool). IsLeastPlace (IsTaken x) (length x) m s) e (subst (λ (n : ℕ). IsLeastPlace (IsTaken t) (length t) n s) f p)

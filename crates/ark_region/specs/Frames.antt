@@ -22,7 +22,7 @@ pub record Fits (IsOccupied : ℕ → Type 0) (n k s : ℕ) : Type 0 where
   pub free : (j : ℕ) → s ≤ j → j < s + k → ¬ IsOccupied j
 
 -- the least such place.
-pub record IsPlace (IsOccupied : ℕ → Type 0) (n k s : ℕ) : Type 0 where
+pub record IsLeastPlace (IsOccupied : ℕ → Type 0) (n k s : ℕ) : Type 0 where
   pub here : Fits IsOccupied n k s
   pub least : (j : ℕ) → j < s → ¬ Fits IsOccupied n k j
 

@@ -1,6 +1,6 @@
 ghost use Rattle.std.specs.Prelude.{◌≡◌, ◌≤◌, ◌<◌, ℕ, not, length, ◌↔◌, IsTrue, IfSome, IfNone};
 ghost use Rattle.std.specs.List.{list_all};
-ghost use Rattle.ark_region.specs.Frames.{IsTaken, Fits, IsPlace};
+ghost use Rattle.ark_region.specs.Frames.{IsTaken, Fits, IsLeastPlace};
 
 fn are_free(taken: &[bool]) -> bool
     ensures { result ≡ list_all not taken.now }
@@ -19,7 +19,7 @@ fn is_free(taken: &[bool], start: usize, count: usize) -> bool
 // The least place of `count` neighbouring free frames.
 pub(crate) fn place(taken: &[bool], count: usize) -> Option<usize>
     requires { 0 < count }
-    ensures some { IfSome result (λ s. IsPlace (IsTaken taken.now) (length taken.now) count s) }
+    ensures some { IfSome result (λ s. IsLeastPlace (IsTaken taken.now) (length taken.now) count s) }
     ensures none { IfNone result ((s : ℕ) → ¬ Fits (IsTaken taken.now) (length taken.now) count s) }
 {
     for start in 0..taken.len() {

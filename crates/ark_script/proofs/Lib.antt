@@ -13,6 +13,7 @@ pub mod Meant
 pub mod Numbers
 pub mod Parts
 pub mod Ranging
+pub mod Ruling
 pub mod Readers
 pub mod Serving
 pub mod Shaping

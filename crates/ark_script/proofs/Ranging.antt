@@ -1,14 +1,11 @@
 -- What is of the form of a word is in its range.
-use Rattle.std.proofs.Common.{ℕ, ◌≤◌, List, [], ◌∷◌, length, Some, None, inl, inr, arith}
-use Rattle.ark_filters.specs.declared.filter.Peers.{Peers}
-use Rattle.ark_filters.specs.declared.filter.Services.{Services}
-use Rattle.ark_filters.specs.declared.filter.Proto.{Proto}
+use Rattle.std.proofs.Common.{ℕ, ◌≤◌, List, [], ◌∷◌, length, Some, None, arith}
 use Rattle.ark_script.specs.Arguments.{IsHex0}
 use Rattle.ark_script.specs.Form.{One, Two, Three, Four, Five, Six, AreArguments}
 use Rattle.ark_script.specs.Line as w
 use Rattle.ark_script.specs.Line.{Line}
-use Rattle.ark_script.specs.Lists.{ArePeers, AreServices}
 use Rattle.ark_script.specs.Ranges.{InRange, IsWithin}
+use Rattle.ark_script.proofs.Ruling.{is_rule}
 
 -- the words and what each spells
 one_parts : (A : List ℕ → Type 0) (words : List (List ℕ)) → One A words → (w : List ℕ) × A w
@@ -65,14 +62,6 @@ hex0_within : (most : ℕ) (bytes word : List ℕ) → IsHex0 most bytes word �
 hex0_within most [] word h = (omega arith, omega arith)
 hex0_within most (b ∷ bs) word h = (omega arith, h.4)
 
-peers_within : (p : Proto) (peers : Peers) (word : List ℕ) → ArePeers p peers word → peers.count ≤ 8
-peers_within p peers word (inl all) = rw all.1 (omega arith)
-peers_within p peers word (inr some) = rw some.3 some.2
-
-services_within : (p : Proto) (services : Services) (word : List ℕ) → AreServices p services word → services.count ≤ 8
-services_within p services word (inl all) = rw all.1 (omega arith)
-services_within p services word (inr some) = rw some.3 some.2
-
 pub in_range : (asked : Line) (words : List (List ℕ)) → AreArguments asked words → InRange asked
 in_range (w.nic own) words h = tt
 in_range (w.app a None) words h = tt
@@ -84,8 +73,7 @@ in_range (w.grow a s n) words h = let parts = three_parts _ _ _ words h in (part
 in_range (w.bind a v s) words h = tt
 in_range (w.unbind a v s) words h = tt
 in_range (w.filter a f x) words h =
-    let parts = six_parts _ _ _ _ _ _ words h in
-    record { peers = peers_within x.proto x.peers parts.4.0 parts.4.1; services = services_within x.proto x.services parts.5.0 parts.5.1 }
+    let parts = six_parts _ _ _ _ _ _ words h in is_rule x parts.4.0 parts.5.0 parts.4.1 parts.5.1
 in_range (w.assign a v f) words h = tt
 in_range (w.rate a r q b) words h = let parts = four_parts _ _ _ _ words h in ((parts.2.1.1, parts.2.1.2), (parts.3.1.1, parts.3.1.2))
 in_range (w.pace a v r s) words h = tt

@@ -1,6 +1,6 @@
--- The ranges of what a line asks for. Ours.
+-- The ranges of what a line asks for.
 use Rattle.std.specs.Prelude.{◌≡◌, ℕ, ◌-◌, ◌^◌, ◌≤◌, true, length, Some, None}
-use Rattle.ark_filters.specs.Filter.{Counted}
+use Rattle.ark_filters.specs.Rule.{IsRule}
 use Rattle.ark_script.specs.Arguments.{fewest_blocks, is_size}
 use Rattle.ark_script.specs.Form.{most_blocks, a_billion}
 use Rattle.ark_script.specs.Line as w
@@ -13,7 +13,7 @@ IsWithin low high n = (low ≤ n) × (n ≤ high)
 abbrev pub IsRing : ℕ → Type 0
 IsRing n = IsWithin 2 256 n × (is_size n ≡ true)
 
--- each number is in its word's range, and so is each number of bytes
+-- each number is in its word's range, and so is each number of bytes; a filter is one that a line can give
 abbrev pub InRange : Line → Type 0
 InRange (w.nic own) = Unit {0}
 InRange (w.app a None) = Unit {0}
@@ -24,7 +24,7 @@ InRange (w.vsa a s n k) = IsWithin (fewest_blocks k) most_blocks n
 InRange (w.grow a s n) = IsWithin 1 most_blocks n
 InRange (w.bind a v s) = Unit {0}
 InRange (w.unbind a v s) = Unit {0}
-InRange (w.filter a f x) = Counted x
+InRange (w.filter a f x) = IsRule x
 InRange (w.assign a v f) = Unit {0}
 InRange (w.rate a r q b) = IsWithin 0 a_billion q × IsWithin 1 a_billion b
 InRange (w.pace a v r s) = Unit {0}

@@ -3,6 +3,7 @@ ghost use Rattle.ark_media.specs.Calls.{Went};
 ghost use Rattle.ark_table.specs.Superblock.{superblock, format_calls};
 
 use ark_media::{Disk, DiskFailed};
+use byteorder::{ByteOrder, NetworkEndian};
 
 // So many slots has a device's table.
 const SLOTS: u16 = 128;
@@ -24,8 +25,12 @@ fn superblock_of(blocks: u32) -> [u8; 512]
 {
     let mut block = [0u8; 512];
     let at = put(&mut block, 0, b"ARRAKIS1");
-    let at = put(&mut block, at, &u64::from(blocks).to_be_bytes());
-    let _ = put(&mut block, at, &SLOTS.to_be_bytes());
+    let mut size = [0; 8];
+    NetworkEndian::write_u64(&mut size, u64::from(blocks));
+    let at = put(&mut block, at, &size);
+    let mut slots = [0; 2];
+    NetworkEndian::write_u16(&mut slots, SLOTS);
+    let _ = put(&mut block, at, &slots);
     block
 }
 
