@@ -1,8 +1,8 @@
 -- A new device that was formatted is zero but for its first block.
-use Rattle.std.proofs.Common.{◌≡◌, inl, inr, ℕ, ◌<◌, ◌-◌, true, List, [], ◌∷◌, ◌++◌, length, sym, ◌∙◌, ap, subst, arith, Contains}
+use Rattle.std.proofs.Common.{◌≡◌, inl, inr, ℕ, ◌<◌, ◌-◌, true, List, [], ◌∷◌, ◌++◌, length, sym, ◌∙◌, subst, arith, Contains}
 use Rattle.std.proofs.lemmas.Bool.{false≢true}
 use Rattle.std.proofs.lemmas.List.{length-replicate, get_or-replicate}
-use Rattle.ark_media.specs.Journal.{Event, Out, History, block, current, fresh, zero_block}
+use Rattle.ark_media.specs.Journal.{Event, Out, History, block, fresh, zero_block}
 use Rattle.ark_media.specs.Calls.{Makes, Syncs}
 use Rattle.ark_extents.specs.Free.{free_at_first}
 use Rattle.ark_extents.proofs.Holding.{contains_range}

@@ -1,8 +1,8 @@
 -- What a host stood for, as the disk goes on to tell.
-use Rattle.std.proofs.Common.{◌≡◌, ℕ, List, [], ◌∷◌, ◌++◌, sym, ◌∙◌, ap, subst}
+use Rattle.std.proofs.Common.{◌≡◌, ℕ, List, [], ◌++◌, sym, ◌∙◌, ap, subst}
 use Rattle.std.specs.Prelude.{Some}
 use Rattle.ark_media.specs.Journal.{Event, History, onto}
-use Rattle.ark_media.specs.Calls.{Told, Rests, Tells, Adds}
+use Rattle.ark_media.specs.Calls.{Told, Rests, Adds}
 use Rattle.ark_media.specs.Going.{onto-append}
 use Rattle.ark_machine.specs.System.{System}
 use Rattle.ark_machine.proofs.Fronts.{onto_same}
