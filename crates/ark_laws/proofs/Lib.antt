@@ -1,3 +1,4 @@
+pub mod Agreeing
 pub mod Answering
 pub mod Confining
 pub mod Contents
@@ -8,6 +9,7 @@ pub mod Flushing
 pub mod Following
 pub mod Framing
 pub mod Granted
+pub mod Keeping
 pub mod Labels
 pub mod Leading
 pub mod Leaving
@@ -24,6 +26,9 @@ pub mod Reaching
 pub mod Refusing
 pub mod Rows
 pub mod Ruled
+pub mod Seen
+pub mod SeenMoves
+pub mod SeenRows
 pub mod SendRows
 pub mod Sent
 pub mod Setting
