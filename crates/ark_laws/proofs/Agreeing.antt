@@ -38,10 +38,10 @@ use Rattle.ark_laws.proofs.Keeping.{Keeps, keeps_itself, keeps_then, keeps_of, n
 abbrev known : Option LiveFilter → Option (Filter × Option (List ℕ))
 known o = option_map {U = Filter × Option (List ℕ)} (λ f. (f.rule, f.card)) o
 
-is_this : (a l : List ℕ) (f : LiveFilter) → is_filter_of a l f ≡ true → (a ≡ f.owner) × (l ≡ f.label)
+pub is_this : (a l : List ℕ) (f : LiveFilter) → is_filter_of a l f ≡ true → (a ≡ f.owner) × (l ≡ f.label)
 is_this a l f h = let p = and_parts (bytes_eq a f.owner) (bytes_eq l f.label) h in (same_bytes a f.owner p.0, same_bytes l f.label p.1)
 
-listed_push : (a l : List ℕ) (new : LiveFilter) (fs : List LiveFilter) → is_filter_of a l new ≡ false → listed_at (fs ++ new ∷ []) a l ≡ listed_at fs a l
+pub listed_push : (a l : List ℕ) (new : LiveFilter) (fs : List LiveFilter) → is_filter_of a l new ≡ false → listed_at (fs ++ new ∷ []) a l ≡ listed_at fs a l
 listed_push a l new [] h = rw h refl
 listed_push a l new (f ∷ fs) h =
     elim (is_filter_of a l f) as (λ t. known (cond t (Some f) (find (λ x. is_filter_of a l x) (fs ++ new ∷ []))) ≡ known (cond t (Some f) (find (λ x. is_filter_of a l x) fs))) [
@@ -83,7 +83,7 @@ module _ (g : LiveFilter → LiveFilter) (owners : (f : LiveFilter) → (g f).ow
   same_this : (a l : List ℕ) (f : LiveFilter) → is_filter_of a l (g f) ≡ is_filter_of a l f
   same_this a l f = ap (λ o. bytes_eq a o && bytes_eq l (g f).label) (owners f) ∙ ap (λ k. bytes_eq a f.owner && bytes_eq l k) (labels f)
 
-  listed_map : (a l : List ℕ) (change : Filter × Option (List ℕ) → Filter × Option (List ℕ)) → ((f : LiveFilter) → is_filter_of a l f ≡ true → ((g f).rule, (g f).card) ≡ change (f.rule, f.card))
+  pub listed_map : (a l : List ℕ) (change : Filter × Option (List ℕ) → Filter × Option (List ℕ)) → ((f : LiveFilter) → is_filter_of a l f ≡ true → ((g f).rule, (g f).card) ≡ change (f.rule, f.card))
       → (fs : List LiveFilter) → listed_at (map g fs) a l ≡ option_map change (listed_at fs a l)
   listed_map a l change each [] = refl
   listed_map a l change each (f ∷ fs) = by (is_filter_of a l f) refl (listed_map a l change each fs)
@@ -93,7 +93,7 @@ module _ (g : LiveFilter → LiveFilter) (owners : (f : LiveFilter) → (g f).ow
       by true is rest = rw (same_this a l f, is) (ap (λ (p : Filter × Option (List ℕ)). Some p) (each f is))
       by false is rest = rw (same_this a l f, is) rest
 
-  once_map : (fs : List LiveFilter) → EachOnce fs → EachOnce (map g fs)
+  pub once_map : (fs : List LiveFilter) → EachOnce fs → EachOnce (map g fs)
   once_map [] h = tt
   once_map (f ∷ fs) h = (rw (owners f, labels f) (still fs f.owner f.label h.0), once_map fs h.1)
     where
@@ -107,7 +107,7 @@ module _ (g : LiveFilter → LiveFilter) (owners : (f : LiveFilter) → (g f).ow
           by false is e next = rw (same_this a l x, is) (next e)
 
 -- those that are not left out
-listed_gone : (a x : List ℕ) (fs : List LiveFilter) → listed_at (select (λ f. not (is_filter_of a x f)) fs) a x ≡ None
+pub listed_gone : (a x : List ℕ) (fs : List LiveFilter) → listed_at (select (λ f. not (is_filter_of a x f)) fs) a x ≡ None
 listed_gone a x [] = refl
 listed_gone a x (f ∷ fs) = by (is_filter_of a x f) refl (listed_gone a x fs)
   where
@@ -122,7 +122,7 @@ apart_this a x b l f apart h =
     let same = is_this a x f h in
     subst (λ z. (bytes_eq b z && bytes_eq l f.label) ≡ false) same.0 (subst (λ z. (bytes_eq b a && bytes_eq l z) ≡ false) same.1 apart)
 
-listed_left : (a x b l : List ℕ) (fs : List LiveFilter) → (bytes_eq b a && bytes_eq l x) ≡ false → listed_at (select (λ f. not (is_filter_of a x f)) fs) b l ≡ listed_at fs b l
+pub listed_left : (a x b l : List ℕ) (fs : List LiveFilter) → (bytes_eq b a && bytes_eq l x) ≡ false → listed_at (select (λ f. not (is_filter_of a x f)) fs) b l ≡ listed_at fs b l
 listed_left a x b l [] apart = refl
 listed_left a x b l (f ∷ fs) apart = by (is_filter_of a x f) refl (listed_left a x b l fs apart)
   where
@@ -144,7 +144,7 @@ none_selected q (x ∷ xs) a l k = two (q x) (is_filter_of a l x) refl k (none_s
     two true false is e next = rw is (next e)
     two false false is e next = next e
 
-once_select : (q : LiveFilter → Bool) (fs : List LiveFilter) → EachOnce fs → EachOnce (select q fs)
+pub once_select : (q : LiveFilter → Bool) (fs : List LiveFilter) → EachOnce fs → EachOnce (select q fs)
 once_select q [] h = tt
 once_select q (f ∷ fs) h = by (q f) (none_selected q fs f.owner f.label h.0) (once_select q fs h.1)
   where
@@ -167,29 +167,29 @@ vnic_keeps : (m : Machine) (a v : List ℕ) (rx tx : ℕ) (g : Given) → Keeps 
 unfolding step
 vnic_keeps m a v rx tx g = answer_keeps m _ _ (λ free kind. new_keeps m v (new_vnic rx tx) free refl)
 
-row_keeps : (m : Machine) (line : Line) (g : Given) → changes_list line ≡ false → Keeps m (step m line g).machine
+pub row_keeps : (m : Machine) (line : Line) (g : Given) → changes_list line ≡ false → Keeps m (step m line g).machine
 row_keeps m (w.filter a f rule) g h = absurd (false≢true (sym h))
 row_keeps m (w.assign a v f) g h = absurd (false≢true (sym h))
 row_keeps m (w.drop a x) g h = absurd (false≢true (sym h))
 row_keeps m (w.vnic a v rx tx) g h = vnic_keeps m a v rx tx g
 row_keeps m line g h = keeps_of (row_sees m line g refl)
 
-flip : (x y : List ℕ) → bytes_eq x y ≡ false → bytes_eq y x ≡ false
+pub flip : (x y : List ℕ) → bytes_eq x y ≡ false → bytes_eq y x ≡ false
 flip x y apart = by (bytes_eq y x) refl
   where
     by : (t : Bool) → bytes_eq y x ≡ t → bytes_eq y x ≡ false
     by false e = e
     by true e = absurd (false≢true (sym apart ∙ subst (λ z. bytes_eq x z ≡ true) (sym (same_bytes y x e)) (bytes_eq-same x)))
 
-same_option : {A : Type 0} (o : Option A) → option_map (λ (x : A). x) o ≡ o
+pub same_option : {A : Type 0} (o : Option A) → option_map (λ (x : A). x) o ≡ o
 same_option None = refl
 same_option (Some x) = refl
 
-assigned_owner : (b : Bool) (c : Option (List ℕ)) (f : LiveFilter) → (cond b (assigned c f) f).owner ≡ f.owner
+pub assigned_owner : (b : Bool) (c : Option (List ℕ)) (f : LiveFilter) → (cond b (assigned c f) f).owner ≡ f.owner
 assigned_owner true c f = refl
 assigned_owner false c f = refl
 
-assigned_label : (b : Bool) (c : Option (List ℕ)) (f : LiveFilter) → (cond b (assigned c f) f).label ≡ f.label
+pub assigned_label : (b : Bool) (c : Option (List ℕ)) (f : LiveFilter) → (cond b (assigned c f) f).label ≡ f.label
 assigned_label true c f = refl
 assigned_label false c f = refl
 

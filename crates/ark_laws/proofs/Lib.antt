@@ -3,6 +3,7 @@ pub mod Answering
 pub mod Confining
 pub mod Contents
 pub mod Damaged
+pub mod Dropping
 pub mod Early
 pub mod Faults
 pub mod Flushing
@@ -16,6 +17,7 @@ pub mod Leaving
 pub mod Letting
 pub mod Listed
 pub mod Moving
+pub mod OneList
 pub mod OthersLeft
 pub mod Owned
 pub mod Paced
