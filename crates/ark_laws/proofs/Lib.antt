@@ -1,7 +1,9 @@
+pub mod Agreeing
 pub mod Answering
 pub mod Confining
 pub mod Contents
 pub mod Damaged
+pub mod Dropping
 pub mod Early
 pub mod Faults
 pub mod Flushing
@@ -9,12 +11,14 @@ pub mod Following
 pub mod FramesWithin
 pub mod Framing
 pub mod Granted
+pub mod Keeping
 pub mod Labels
 pub mod Leading
 pub mod Leaving
 pub mod Letting
 pub mod Listed
 pub mod Moving
+pub mod OneList
 pub mod OthersLeft
 pub mod Owned
 pub mod Paced
@@ -26,6 +30,9 @@ pub mod Reaching
 pub mod Refusing
 pub mod Rows
 pub mod Ruled
+pub mod Seen
+pub mod SeenMoves
+pub mod SeenRows
 pub mod SendRows
 pub mod Sent
 pub mod Setting

@@ -9,10 +9,12 @@ ghost use Rattle.ark_script.specs.Line as w;
 ghost use Rattle.ark_script.specs.Line.{Line};
 ghost use Rattle.ark_script.specs.Ranges.{InRange};
 ghost use Rattle.ark_script.specs.declared.said.Said.TheVariants as said;
+ghost use Rattle.ark_media.specs.Journal.{Event};
 ghost use Rattle.ark_machine.specs.Row.{Ended};
-ghost use Rattle.ark_machine.specs.System.{System, fresh_system, line_turn};
+ghost use Rattle.ark_machine.specs.Follow.{PerformsFor, ends_of};
+ghost use Rattle.ark_machine.specs.System.{System, fresh_system, owner, line_turn};
 ghost use Rattle.ark_machine.specs.Start.{start_system};
-ghost use Rattle.ark_machine.specs.Filters.{IsFirstSharing, HasRules, without_filters};
+ghost use Rattle.ark_machine.specs.Filters.{IsFirstSharing, HasRules, without_filters, FiltersAgree};
 
 /// A line `filter` is refused with 12 exactly where it would be accepted if no filter were live, and some frame of 14 to 1,514
 /// bytes passes both its filter and a live one, two receive filters, whatever the addresses of this end. The refusal names the
@@ -25,4 +27,13 @@ pub fn overlap_laws()
     ensures fresh { (size : ℕ) → HasRules (fresh_system size).plane }
     ensures stored { (image : List (List ℕ)) (slots : List Slot) → HasRules (start_system image slots).plane }
     ensures kept { (s : System) (line : Line) (ends : List Ended) (memory : Bool) → InRange line → HasRules s.plane → HasRules (line_turn s line ends memory).after.plane }
+{}
+
+/// One list of filters: the plane lists just those that the machines hold, each once, with its rule and the card that it is
+/// assigned to. It is so at the start of a run, on a fresh device or a stored one, and after each line.
+pub fn list_laws()
+    ensures fresh { (size : ℕ) → FiltersAgree (fresh_system size) }
+    ensures stored { (image : List (List ℕ)) (slots : List Slot) → FiltersAgree (start_system image slots) }
+    ensures kept { (s : System) (line : Line) (es : List Event) (memory : Bool) → FiltersAgree s
+        → PerformsFor s line (line_turn s line (ends_of es) memory).calls es (owner line) → FiltersAgree (line_turn s line (ends_of es) memory).after }
 {}

@@ -7,7 +7,7 @@ mod laws;
 mod places;
 
 pub use effects::{area_laws, failure_laws, frame_laws, stop_laws};
-pub use filters::overlap_laws;
+pub use filters::{list_laws, overlap_laws};
 pub use laws::{
     confinement_laws, fault_laws, grant_laws, order_laws, privacy_laws, refusal_laws, run_laws,
 };

@@ -1,13 +1,15 @@
 -- What holds of the live filters of a run.
-use Rattle.std.specs.Prelude.{◌≡◌, ◌↔◌, ℕ, List, [], ◌∷◌, ◌++◌, Some, Contains}
+use Rattle.std.specs.Prelude.{◌≡◌, ℕ, true, false, List, [], ◌∷◌, ◌++◌, Option, Some, None, option_map, option_and_then, find, is_some}
 use Rattle.std.specs.List.{All}
 use Rattle.ark_packet.specs.declared.own.Own.{Own}
 use Rattle.ark_filters.specs.Overlap.{Overlaps}
 use Rattle.ark_filters.specs.Rule.{IsReceive, IsRule}
 use Rattle.ark_filters.specs.declared.filter.Filter.{Filter}
 use Rattle.ark_machine.specs.Objects
-use Rattle.ark_machine.specs.Machine.{object_at}
+use Rattle.ark_machine.specs.Objects.{Object}
+use Rattle.ark_machine.specs.Machine.{Machine, object_at, vnic_at}
 use Rattle.ark_machine.specs.Plane.{Plane, LiveFilter}
+use Rattle.ark_machine.specs.Granting.{is_filter_of}
 use Rattle.ark_machine.specs.System.{System, machine_of}
 
 -- Some frame passes a live filter and the new one, and both are receive filters.
@@ -35,10 +37,29 @@ HasRules p = All (λ f. IsRule f.rule) p.filters
 abbrev pub without_filters : System → System
 without_filters s = record s { plane = record s.plane { filters = [] } }
 
--- the machine of the filter's owner holds it under its label: its rule, and the card that it is assigned to
-abbrev pub IsHeldFilter : System → LiveFilter → Type 0
-IsHeldFilter s f = object_at (machine_of s f.owner) f.label ≡ Some (Objects.filter f.rule f.card)
+-- One list of filters.
 
--- the live filters are those that the machines hold
-abbrev pub FiltersAgree : System → Type 0
-FiltersAgree s = (f : LiveFilter) → Contains s.plane.filters f ↔ IsHeldFilter s f
+-- a filter with the card that it is assigned to
+abbrev pub as_assigned : Object → Option (Filter × Option (List ℕ))
+as_assigned (Objects.filter rule card) = Some (rule, card)
+as_assigned _ = None
+
+-- the filter that a machine holds at a label
+abbrev pub held_at : Machine → List ℕ → Option (Filter × Option (List ℕ))
+held_at m l = option_and_then as_assigned (object_at m l)
+
+-- the live filter that is listed under an owner and a label
+abbrev pub listed_at : List LiveFilter → List ℕ → List ℕ → Option (Filter × Option (List ℕ))
+listed_at filters a l = option_map (λ f. (f.rule, f.card)) (find (λ f. is_filter_of a l f) filters)
+
+-- no two are of one owner and one label
+abbrev pub EachOnce : List LiveFilter → Type 0
+EachOnce [] = Unit {0}
+EachOnce (f ∷ filters) = (is_some (listed_at filters f.owner f.label) ≡ false) × EachOnce filters
+
+-- The plane lists just the filters that the machines hold, each once, with its rule and its card. A card that one is assigned
+-- to is a network card that its owner holds.
+pub record FiltersAgree (s : System) : Type 0 where
+  pub same : (a l : List ℕ) → listed_at s.plane.filters a l ≡ held_at (machine_of s a) l
+  pub once : EachOnce s.plane.filters
+  pub cards : (a l v : List ℕ) (rule : Filter) → held_at (machine_of s a) l ≡ Some (rule, Some v) → is_some (vnic_at (machine_of s a) v) ≡ true
