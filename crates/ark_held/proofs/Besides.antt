@@ -1,12 +1,11 @@
 -- What events beside some blocks leave.
 use Rattle.std.proofs.Common.{◌≡◌, ℕ, ◌<◌, Bool, true, false, List, [], ◌∷◌, length, get_or, refl, sym, ◌∙◌, ap, subst, Contains}
-use Rattle.std.specs.Prelude.{Option, Some}
 use Rattle.std.proofs.lemmas.Bool.{false≢true}
 use Rattle.std.proofs.lemmas.List.Elements.{Contains-get_or}
 use Rattle.ark_media.specs.Journal.{Event, Read, Write, Sync, Out, History, block, current, onto, device_events}
-use Rattle.ark_media.specs.Calls.{Adds}
 use Rattle.ark_media.specs.Stops.{MayHold, Whole}
 use Rattle.ark_media.proofs.Stopping.{current_other, other_write, sync_narrows}
+use Rattle.ark_held.specs.After.{after}
 use Rattle.ark_held.specs.Beside.{AreBeside}
 use Rattle.ark_held.specs.Keeps.{SameAt}
 
@@ -29,17 +28,11 @@ may_beside base blocks (Read m ok ∷ es) j n lt has beside c left = may_beside 
 may_beside base blocks (Sync ok ∷ es) j n lt has beside c left = sync_narrows Whole (λ b. refl) base j ok n lt c (may_beside base blocks es (Sync ok ∷ j) n lt has beside c left)
 may_beside base blocks (Out bytes ∷ es) j n lt has beside c left = may_beside base blocks es (Out bytes ∷ j) n lt has beside c left
 
-pub same_beside : (before after : Option History) (es : List Event) (blocks : List ℕ) → Adds before after es → ((h : History) → after ≡ Some h → (n : ℕ) → Contains blocks n → n < length h.base) → AreBeside blocks es → SameAt before after blocks
-same_beside before after es blocks adds inside beside = λ h told.
-    let was = adds.told h told in (
-      record { base = h.base; journal = was.0 },
-      was.1,
-      λ k lt.
-          let has = Contains-get_or blocks k 0 lt in (
-            ap (λ (j : List Event). block (current h.base j) (get_or blocks k 0)) was.2 ∙ current_beside h.base blocks es was.0 (get_or blocks k 0) has beside,
-            λ c left. may_beside h.base blocks es was.0 (get_or blocks k 0) (inside h told (get_or blocks k 0) has) has beside c
-                (subst (λ (j : List Event). MayHold Whole h.base j (get_or blocks k 0) c) was.2 left),
-          ),
+pub same_beside : (h : History) (es : List Event) (blocks : List ℕ) → ((n : ℕ) → Contains blocks n → n < length h.base) → AreBeside blocks es → SameAt h (after h es) blocks
+same_beside h es blocks inside beside k lt =
+    let has = Contains-get_or blocks k 0 lt in (
+      current_beside h.base blocks es h.journal (get_or blocks k 0) has beside,
+      λ c left. may_beside h.base blocks es h.journal (get_or blocks k 0) (inside (get_or blocks k 0) has) has beside c left,
     )
 
 abbrev is_call : List Event → Bool
@@ -57,6 +50,6 @@ outputs_beside blocks (Write n c took ok ∷ es) silent = absurd (not_silent _ _
 outputs_beside blocks (Read n ok ∷ es) silent = absurd (not_silent _ _ silent)
 outputs_beside blocks (Sync ok ∷ es) silent = absurd (not_silent _ _ silent)
 
--- the same blocks, and told as before
-pub same_told : (told : Option History) (blocks : List ℕ) → SameAt told told blocks
-same_told told blocks = λ h is. (h, is, λ k lt. (refl, λ c left. left))
+-- the same blocks, of the same history
+pub same_history : (h : History) (blocks : List ℕ) → SameAt h h blocks
+same_history h blocks k lt = (refl, λ c left. left)

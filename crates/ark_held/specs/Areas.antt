@@ -1,4 +1,4 @@
--- What areas of blocks stand for. Ours.
+-- What areas of blocks stand for.
 use Rattle.std.specs.Prelude.{◌≡◌, ℕ, ◌+◌, ◌*◌, ◌<◌, List, [], ◌∷◌, length, nat_eq, get_or, slice_range, Option, Some, None, option_and_then, Contains}
 use Rattle.std.specs.Map.{lookup}
 use Rattle.ark_base.specs.declared.kind.Kind.TheVariants as kind
@@ -26,13 +26,13 @@ pub record MayShow (h : History) (blocks : List ℕ) (contents : List (List ℕ)
   pub size : length contents ≡ length blocks
   pub each : (k : ℕ) → k < length blocks → MayStand h (get_or blocks k 0) (get_or contents k [])
 
--- where the history is told, the area's content is the current image at these blocks, and each content that a stop may leave of
--- a block is one that the machine lists
-pub record IsRaw (told : Option History) (blocks : List ℕ) (r : Raw) : Type 0 where
+-- the area's content is the current image at these blocks, and each content that a stop may leave of a block is one that the
+-- machine lists
+pub record IsRaw (h : History) (blocks : List ℕ) (r : Raw) : Type 0 where
   pub size : length r.content ≡ length blocks
-  pub content : (h : History) → told ≡ Some h → (k : ℕ) → k < length blocks → get_or r.content k [] ≡ block (current h.base h.journal) (get_or blocks k 0)
+  pub content : (k : ℕ) → k < length blocks → get_or r.content k [] ≡ block (current h.base h.journal) (get_or blocks k 0)
   pub choices : length r.maybe ≡ length blocks
-  pub maybe : (h : History) → told ≡ Some h → (k : ℕ) → k < length blocks → (c : List ℕ) → MayStand h (get_or blocks k 0) c → Contains (get_or r.maybe k []) c
+  pub maybe : (k : ℕ) → k < length blocks → (c : List ℕ) → MayStand h (get_or blocks k 0) c → Contains (get_or r.maybe k []) c
 
 -- a raw area: its blocks are kept under the number of its grant, and are those of its slot
 pub record IsArea (x : Around) (l : List ℕ) (c : Capability) (r : Raw) : Type 0 where
@@ -41,13 +41,12 @@ pub record IsArea (x : Around) (l : List ℕ) (c : Capability) (r : Raw) : Type 
   pub kept : lookup (nat_eq c.grant) x.areas ≡ Some (area_in slot)
   pub there : slot_at x l ≡ Some slot
   pub raw : slot.kind ≡ kind.Raw
-  pub fits : IsRaw x.told slot.blocks r
+  pub fits : IsRaw x.history slot.blocks r
 
--- where the history is told, a log's stored list is found in its blocks, and whatever a stop may leave of them opens to one of
--- its lists
-pub record IsListed (told : Option History) (blocks : List ℕ) (g : Log) : Type 0 where
-  pub now : (h : History) → told ≡ Some h → found_of g.kind (view (current h.base h.journal) blocks) ≡ stored g
-  pub left : (h : History) → told ≡ Some h → (contents : List (List ℕ)) → MayShow h blocks contents → Contains (lists g) (found_of g.kind contents)
+-- a log's stored list is found in its blocks, and whatever a stop may leave of them opens to one of its lists
+pub record IsListed (h : History) (blocks : List ℕ) (g : Log) : Type 0 where
+  pub now : found_of g.kind (view (current h.base h.journal) blocks) ≡ stored g
+  pub left : (contents : List (List ℕ)) → MayShow h blocks contents → Contains (lists g) (found_of g.kind contents)
 
 -- the bytes of so many frames
 abbrev pub frames_piece : Frames → Piece
@@ -103,4 +102,4 @@ pub record IsLog (x : Around) (l : List ℕ) (c : Capability) (g : Log) : Type 0
   pub no_raw : g.kind ≡ kind.Raw → ⊥
   pub blocks : g.blocks ≡ length slot.blocks
   pub opened : Both (IsOpened x c.grant) (x.tables.chains c.grant) g.opened
-  pub listed : IsListed x.told slot.blocks g
+  pub listed : IsListed x.history slot.blocks g

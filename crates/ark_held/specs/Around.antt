@@ -1,5 +1,5 @@
--- What is looked at to say what an application's labels stand for. Ours.
-use Rattle.std.specs.Prelude.{◌≡◌, ℕ, List, [], ◌∷◌, length, find, Option, Some, None}
+-- What is looked at to say what an application's labels stand for.
+use Rattle.std.specs.Prelude.{◌≡◌, ℕ, List, [], ◌∷◌, length, find, Option, Some, None, option_map, unwrap_or}
 use Rattle.ark_media.specs.Journal.{History}
 use Rattle.ark_table.specs.Slots.{Slot}
 use Rattle.ark_filters.specs.declared.live.Live.{Live}
@@ -27,14 +27,18 @@ pub record Around : Type 0 where
   -- the slots that are held, and the live filters of all applications
   pub slots : List Slot
   pub rules : List Live
-  -- what the disk tells
-  pub told : Option History
+  -- what the disk went through
+  pub history : History
   -- the private machine that it is compared with, for what stands under other labels
   pub machine : Machine
 
 -- the slot of the application's area at a label
 abbrev pub slot_at : Around → List ℕ → Option Slot
 slot_at x l = find (λ t. is_slot_of x.name l t) x.slots
+
+-- the blocks of that area, if it has one
+abbrev pub blocks_under : Around → List ℕ → List ℕ
+blocks_under x l = unwrap_or (option_map (λ s. s.blocks) (slot_at x l)) []
 
 -- a label stands for the object of this kind under this key
 pub record Names (x : Around) (l : List ℕ) (kind : CapKind) (key : ℕ) : Type 0 where

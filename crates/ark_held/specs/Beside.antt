@@ -1,4 +1,4 @@
--- Events that leave some blocks as they are. Ours.
+-- Events that leave some blocks as they are.
 use Rattle.std.specs.Prelude.{ℕ, List, [], ◌∷◌, Contains}
 use Rattle.ark_media.specs.Journal.{Event, Read, Write, Sync, Out}
 

@@ -1,5 +1,5 @@
 -- What the tables of an application keep of its objects, as plain values. A card's rings, a buffer's place and the like are
--- named by the keys and grant numbers that its capabilities carry. Ours.
+-- named by the keys and grant numbers that its capabilities carry.
 use Rattle.std.specs.Prelude.{ℕ, Bool, List, Option}
 use Rattle.ark_region.specs.Frames.{Piece, Space}
 use Rattle.ark_vic.specs.Pace.{Pace}

@@ -1,4 +1,4 @@
--- What network cards, filters and sockets stand for. Ours.
+-- What network cards, filters and sockets stand for.
 use Rattle.std.specs.Prelude.{◌≡◌, ℕ, List, nat_eq, find, Option, Some, is_some, unwrap_or}
 use Rattle.ark_base.specs.declared.kind.Outcome.{Outcome}
 use Rattle.ark_caps.specs.declared.capability.CapKind.TheVariants as cap_kind

@@ -1,4 +1,4 @@
--- Sums over what an application holds. Ours.
+-- Sums over what an application holds.
 use Rattle.std.specs.Prelude.{ℕ, ◌+◌, Bool, true, false, ◌&&◌, List, [], ◌∷◌, nat_le, nat_lt}
 use Rattle.ark_machine.specs.Objects
 use Rattle.ark_machine.specs.Objects.{Object, Vsic, Vnic, object_frames}

@@ -1,4 +1,4 @@
--- What is found under a label, and why nothing can be added there. Ours.
+-- What is found under a label, and why nothing can be added there.
 use Rattle.std.specs.Prelude.{ℕ, Bool, true, false, ◌||◌, List, [], ◌∷◌, ◌++◌, length, nat_eq, nat_le, Option, Some, None, Result, Ok, Err}
 use Rattle.std.specs.Map.{lookup}
 use Rattle.ark_base.specs.declared.kind.Kind.{Kind}

@@ -1,4 +1,4 @@
--- The tick and the grants of a host, and why no count of them is too large. Ours.
+-- The tick and the grants of a host, and why no count of them is too large.
 use Rattle.std.specs.Prelude.{◌*◌, ◌≤◌}
 use Rattle.ark_script.specs.Form.{a_billion}
 use Rattle.ark_host.specs.declared.host.Host.{Host}

@@ -15,24 +15,24 @@ use Rattle.ark_machine.specs.Row
 use Rattle.ark_machine.specs.Row.{Row, Call, Ended, answer, unless_refused}
 use Rattle.ark_machine.specs.Plane.{slot_of}
 use Rattle.ark_machine.specs.System.{System}
-use Rattle.ark_machine.specs.Follow.{Follow, ended, fails, goes_on, again, passes, Makes, is_repeated, own_index}
+use Rattle.ark_machine.specs.Follow.{Follows, Follow, ended, fails, goes_on, again, passes, Makes, is_repeated, own_index}
 use Rattle.ark_machine.specs.Confined.{AllAllowed, EndsAtFailure}
 use Rattle.ark_laws.proofs.Granted.{kind_and_limit}
 use Rattle.ark_laws.proofs.Reaching.{AllowsCall, AllowsAll, AreIn, drops}
 use Rattle.ark_laws.proofs.Touching.{unless}
 
-pub follow_allowed : {s : System} {a : List ℕ} (line : Line) {cs : List Call} {es : List Event} → AllByRecursion (AllowsCall s a line) cs → Follow s a line cs es → AllAllowed s line es
-follow_allowed line h ended = tt
-follow_allowed line h (fails {e = e} makes bad) = (h.0 e makes, tt)
-follow_allowed line h (goes_on {e = e} makes good once more) = (h.0 e makes, follow_allowed line h.1 more)
-follow_allowed line h (again {e = e} makes good many more) = (h.0 e makes, follow_allowed line h more)
-follow_allowed line h (passes many more) = follow_allowed line h.1 more
+pub follow_allowed : (s : System) (a : List ℕ) (line : Line) {cs : List Call} {es : List Event} → AllByRecursion (AllowsCall s a line) cs → Follow s a line cs es → AllAllowed s line es
+follow_allowed s a line h ended = tt
+follow_allowed s a line h (fails {e = e} makes bad) = (h.0 e makes, tt)
+follow_allowed s a line h (goes_on {e = e} makes good once more) = (h.0 e makes, follow_allowed s a line h.1 more)
+follow_allowed s a line h (again {e = e} makes good many more) = (h.0 e makes, follow_allowed s a line h more)
+follow_allowed s a line h (passes many more) = follow_allowed s a line h.1 more
 
 ends_before : (e : Event) (es : List Event) → has_succeeded e ≡ true → EndsAtFailure es → EndsAtFailure (e ∷ es)
 ends_before e [] good h = tt
 ends_before e (f ∷ fs) good h = (good, h)
 
-pub follow_ends : {s : System} {a : List ℕ} {line : Line} {cs : List Call} {es : List Event} → Follow s a line cs es → EndsAtFailure es
+pub follow_ends : {M : Call → Event → Type 0} {cs : List Call} {es : List Event} → Follows M cs es → EndsAtFailure es
 follow_ends ended = tt
 follow_ends (fails makes bad) = tt
 follow_ends (goes_on {e = e} {es = es} makes good once more) = ends_before e es good (follow_ends more)
@@ -66,7 +66,7 @@ pub only : (s : System) (a : List ℕ) (line : Line) (c : Call) → AllowsCall s
 only s a line c h = (h, tt)
 
 pub by_calls : (s : System) (a : List ℕ) (line : Line) {cs : List Call} {es : List Event} → AllowsAll s a line cs → Follow s a line cs es → AllAllowed s line es × EndsAtFailure es
-by_calls s a line h follow = (follow_allowed line h follow, follow_ends follow)
+by_calls s a line h follow = (follow_allowed s a line h follow, follow_ends follow)
 
 -- a row that is refused has its own calls, or none
 pub answered : (P : Call → Type 0) (m : Machine) (c : Conditions) (row : Row) → AllByRecursion P row.calls → AllByRecursion P (answer m c row).calls
@@ -109,12 +109,12 @@ abbrev NeverStarts : System → List ℕ → Line → List Call → Type 0
 NeverStarts s a line [] = ⊥
 NeverStarts s a line (c ∷ cs) = (is_repeated c ≡ false) × ((e : Event) → Makes s a line c e → ⊥)
 
-never_follows : {s : System} {a : List ℕ} (line : Line) {cs : List Call} {es : List Event} → NeverStarts s a line cs → Follow s a line cs es → ⊥
-never_follows line h ended = h
-never_follows line h (fails {e = e} makes bad) = h.1 e makes
-never_follows line h (goes_on {e = e} makes good once more) = h.1 e makes
-never_follows line h (again {e = e} makes good many more) = h.1 e makes
-never_follows line h (passes many more) = false≢true (sym h.0 ∙ many)
+never_follows : (s : System) (a : List ℕ) (line : Line) {cs : List Call} {es : List Event} → NeverStarts s a line cs → Follow s a line cs es → ⊥
+never_follows s a line h ended = h
+never_follows s a line h (fails {e = e} makes bad) = h.1 e makes
+never_follows s a line h (goes_on {e = e} makes good once more) = h.1 e makes
+never_follows s a line h (again {e = e} makes good many more) = h.1 e makes
+never_follows s a line h (passes many more) = false≢true (sym h.0 ∙ many)
 
 no_slot_written : (s : System) (a x : List ℕ) → slot_of s.plane a x ≡ None → (e : Event) → Makes s a (w.drop a x) Row.writes_slot e → ⊥
 no_slot_written s a x none (Write n b took ok) h = let f : slice_get (own_index None) 0 ≡ Some n = subst (λ o. slice_get (own_index o) 0 ≡ Some n) none h.0 in cc
@@ -124,5 +124,5 @@ no_slot_written s a x none (Out bytes) h = h
 
 pub drop_runs : (s : System) (a x : List ℕ) (is_area : Bool) (o : Option Slot) → slot_of s.plane a x ≡ o → AllowsRun s a (w.drop a x) (if is_area then Row.writes_slot ∷ Row.syncs ∷ [] else [])
 drop_runs s a x is_area (Some t) is es f = by_calls s a (w.drop a x) (drops s a (w.drop a x) is_area (λ n h. h) (rw is refl)) f
-drop_runs s a x true None is es f = absurd (never_follows (w.drop a x) (refl, no_slot_written s a x is) f)
+drop_runs s a x true None is es f = absurd (never_follows s a (w.drop a x) (refl, no_slot_written s a x is) f)
 drop_runs s a x false None is es f = by_calls s a (w.drop a x) tt f

@@ -129,10 +129,10 @@ pub line_passes : (s : System) (line : Line) (ends : List Ended) (memory : Bool)
 unfolding step
 line_passes s (w.dev a v) ends memory es k h =
     let m : Machine = machine_of s a in
-    follow_fits s.now (pace_at m v)
+    follow_fits s a (w.dev a v) s.now (pace_at m v)
     (answer_fits s.now (pace_at m v) m _ _ (none_within s (w.dev a v) k) (card_fits s.now m v (recorded s.plane (w.dev a v) ends memory) (vnic_at m v) (machine_paced s a k))) h
 line_passes s (w.settle a l) ends memory es k h =
     let m : Machine = machine_of s a in
-    follow_fits s.now (pace_at m (card_of m l))
+    follow_fits s a (w.settle a l) s.now (pace_at m (card_of m l))
     (answer_fits s.now (pace_at m (card_of m l)) m _ _ (none_within s (w.settle a l) k) (settle_fits s.now l ends m (machine_paced s a k))) h
 line_passes s _ ends memory es k h = tt

@@ -105,23 +105,23 @@ event_cost s a line now _ (Read n ok) es h = absurd h
 event_cost s a line now _ (Out bytes) es h = absurd h
 
 -- what follows calls that are made once passes no more than they
-follow_costs : {s : System} {a : List ℕ} {line : Line} (now : ℕ) {cs : List Call} {es : List Event} → OnceEach cs → Follow s a line cs es → (rest : List Pass) × (costs now cs ≡ blocks_passed now es ++ rest)
-follow_costs now once ended = ([], refl)
-follow_costs {s = s} {a = a} {line = line} now once (fails {c = c} {cs = cs} {e = e} makes bad) =
+follow_costs : (s : System) (a : List ℕ) (line : Line) (now : ℕ) {cs : List Call} {es : List Event} → OnceEach cs → Follow s a line cs es → (rest : List Pass) × (costs now cs ≡ blocks_passed now es ++ rest)
+follow_costs s a line now once ended = ([], refl)
+follow_costs s a line now once (fails {c = c} {cs = cs} {e = e} makes bad) =
     (costs now cs, ap (λ l. l ++ costs now cs) (sym (append-nil (cost now c)) ∙ sym (event_cost s a line now c e [] makes)))
-follow_costs {s = s} {a = a} {line = line} now once (goes_on {c = c} {e = e} {es = es} makes good one more) =
-    let rest = follow_costs now once.1 more in
+follow_costs s a line now once (goes_on {c = c} {e = e} {es = es} makes good one more) =
+    let rest = follow_costs s a line now once.1 more in
     (rest.0, ap (λ l. cost now c ++ l) rest.1 ∙ sym (append_assoc (cost now c) (blocks_passed now es) rest.0) ∙ ap (λ l. l ++ rest.0) (sym (event_cost s a line now c e es makes)))
-follow_costs now once (again makes good many more) = absurd (false≢true (sym once.0 ∙ many))
-follow_costs now once (passes many more) = absurd (false≢true (sym once.0 ∙ many))
+follow_costs s a line now once (again makes good many more) = absurd (false≢true (sym once.0 ∙ many))
+follow_costs s a line now once (passes many more) = absurd (false≢true (sym once.0 ∙ many))
 
 -- calls that are made once, and that the pace lets pass
 abbrev pub FitsCalls : ℕ → Option Paced → List Call → Type 0
 FitsCalls now p cs = OnceEach cs × KeepsWith p (costs now cs)
 
-pub follow_fits : {s : System} {a : List ℕ} {line : Line} (now : ℕ) (p : Option Paced) {cs : List Call} {es : List Event} → FitsCalls now p cs → Follow s a line cs es → KeepsWith p (blocks_passed now es)
-follow_fits now p {es = es} fits follow =
-    let rest = follow_costs now fits.0 follow in
+pub follow_fits : (s : System) (a : List ℕ) (line : Line) (now : ℕ) (p : Option Paced) {cs : List Call} {es : List Event} → FitsCalls now p cs → Follow s a line cs es → KeepsWith p (blocks_passed now es)
+follow_fits s a line now p {es = es} fits follow =
+    let rest = follow_costs s a line now fits.0 follow in
     with_front p (blocks_passed now es) rest.0 (subst (λ l. KeepsWith p l) rest.1 fits.1)
 
 blocks_append : (now : ℕ) (es more : List Event) → blocks_passed now (es ++ more) ≡ blocks_passed now es ++ blocks_passed now more

@@ -71,13 +71,13 @@ reads s a line l k within (Sync ok) h = absurd h
 reads s a line l k within (Out bytes) h = absurd h
 
 writes_in : (s : System) (a : List ℕ) (line : Line) (l : List ℕ) → AreIn (blocks_at s.plane a l) (writable s line) → AllowsCall s a line (Row.writes_in l)
-writes_in s a line l within (Write n b took ok) h = within n h
+writes_in s a line l within (Write n b took ok) h = within n h.0
 writes_in s a line l within (Read n ok) h = absurd h
 writes_in s a line l within (Sync ok) h = absurd h
 writes_in s a line l within (Out bytes) h = absurd h
 
 writes_first : (s : System) (a : List ℕ) (line : Line) (l : List ℕ) → AreIn (blocks_at s.plane a l) (writable s line) → AllowsCall s a line (Row.writes_first l)
-writes_first s a line l within (Write n b took ok) h = within n (at_first (blocks_at s.plane a l) n h)
+writes_first s a line l within (Write n b took ok) h = within n (at_first (blocks_at s.plane a l) n h.0)
 writes_first s a line l within (Read n ok) h = absurd h
 writes_first s a line l within (Sync ok) h = absurd h
 writes_first s a line l within (Out bytes) h = absurd h

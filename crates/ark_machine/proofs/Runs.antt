@@ -60,15 +60,15 @@ makes_device s a line (Row.zeroes_new k) (Out bytes) es h = absurd h
 makes_device s a line Row.writes_slot (Out bytes) es h = absurd h
 
 -- what follows a line's calls is device events alone
-pub follow_devices : {s : System} {a : List ℕ} {line : Line} {cs : List Call} {es : List Event} → Follow s a line cs es → device_events es ≡ es
-follow_devices ended = refl
-follow_devices {s = s} {a = a} {line = line} (fails {c = c} {e = e} makes bad) = makes_device s a line c e [] makes
-follow_devices {s = s} {a = a} {line = line} (goes_on {c = c} {e = e} {es = es} makes good once more) = makes_device s a line c e es makes ∙ ap (λ (x : List Event). e ∷ x) (follow_devices more)
-follow_devices {s = s} {a = a} {line = line} (again {c = c} {e = e} {es = es} makes good many more) = makes_device s a line c e es makes ∙ ap (λ (x : List Event). e ∷ x) (follow_devices more)
-follow_devices (passes many more) = follow_devices more
+pub follow_devices : (s : System) (a : List ℕ) (line : Line) {cs : List Call} {es : List Event} → Follow s a line cs es → device_events es ≡ es
+follow_devices s a line ended = refl
+follow_devices s a line (fails {c = c} {e = e} makes bad) = makes_device s a line c e [] makes
+follow_devices s a line (goes_on {c = c} {e = e} {es = es} makes good once more) = makes_device s a line c e es makes ∙ ap (λ (x : List Event). e ∷ x) (follow_devices s a line more)
+follow_devices s a line (again {c = c} {e = e} {es = es} makes good many more) = makes_device s a line c e es makes ∙ ap (λ (x : List Event). e ∷ x) (follow_devices s a line more)
+follow_devices s a line (passes many more) = follow_devices s a line more
 
 performs_for : (s : System) (cs : List Call) (es : List Event) (line : Line) (o : Option (List ℕ)) → owner line ≡ o → Performs s (Ok line) cs es → device_events es ≡ es
-performs_for s cs es line (Some a) is h = follow_devices (rw is at h)
+performs_for s cs es line (Some a) is h = follow_devices s a line (rw is at h)
 performs_for s cs es line None is h = let none : es ≡ [] = rw is at h in rw none refl
 
 pub performs_devices : (s : System) (m : Meaning) (cs : List Call) (es : List Event) → Performs s m cs es → device_events es ≡ es

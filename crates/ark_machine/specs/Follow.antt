@@ -1,4 +1,4 @@
--- How device events follow a line's calls. Ours.
+-- How device events follow a line's calls.
 use Rattle.std.specs.Prelude.{◌≡◌, ℕ, Bool, true, false, List, [], ◌∷◌, length, take, drop, map, nat_lt, if◌then◌else◌, Option, Some, None, option_map, slice_get, unwrap_or, Ok, Err, Contains}
 use Rattle.ark_media.specs.Journal.{Event, Read, Write, Sync, Out, zero_block, has_succeeded}
 use Rattle.ark_table.specs.Slots.{Slot, slot_bytes}
@@ -16,8 +16,12 @@ abbrev pub ReadsAt : Option ℕ → Event → Type 0
 ReadsAt place (Read n ok) = place ≡ Some n
 ReadsAt place _ = ⊥
 
+-- a write that succeeded took effect
+abbrev pub Took : Bool → Bool → Type 0
+Took took ok = ok ≡ true → took ≡ true
+
 abbrev pub WritesAt : Option ℕ → List ℕ → Event → Type 0
-WritesAt place content (Write n written took ok) = (place ≡ Some n) × (written ≡ content)
+WritesAt place content (Write n written took ok) = (place ≡ Some n) × (written ≡ content) × Took took ok
 WritesAt place content _ = ⊥
 
 abbrev pub ReadsIn : List ℕ → Event → Type 0
@@ -25,11 +29,11 @@ ReadsIn area (Read n ok) = Contains area n
 ReadsIn area _ = ⊥
 
 abbrev pub WritesIn : List ℕ → Event → Type 0
-WritesIn area (Write n content took ok) = Contains area n
+WritesIn area (Write n content took ok) = Contains area n × Took took ok
 WritesIn area _ = ⊥
 
 abbrev pub ZeroesIn : List ℕ → Event → Type 0
-ZeroesIn area (Write n content took ok) = Contains area n × (content ≡ zero_block)
+ZeroesIn area (Write n content took ok) = Contains area n × (content ≡ zero_block) × Took took ok
 ZeroesIn area _ = ⊥
 
 abbrev pub IsSync : Event → Type 0
@@ -57,31 +61,42 @@ slot_content p a (w.vsa b s n k) = slot_bytes (new_slot p a s k n)
 slot_content p a (w.grow b s n) = grown_content (slot_of p a s) (granted p (w.grow b s n))
 slot_content p a _ = zero_block
 
--- the event is what came of this call, in a line of application a
+-- The event is what came of this call, where these are the blocks under a label. A line of an application alone neither grants
+-- blocks nor writes the table.
+abbrev pub MakesAt : (List ℕ → List ℕ) → Call → Event → Type 0
+MakesAt blocks (Row.reads l k) e = ReadsAt (slice_get (blocks l) k) e
+MakesAt blocks (Row.writes l k content) e = WritesAt (slice_get (blocks l) k) content e
+MakesAt blocks Row.syncs e = IsSync e
+MakesAt blocks (Row.reads_in l) e = ReadsIn (blocks l) e
+MakesAt blocks (Row.writes_in l) e = WritesIn (blocks l) e
+MakesAt blocks (Row.writes_first l) e = WritesIn (take 1 (blocks l)) e
+MakesAt blocks (Row.reads_some l) e = ReadsIn (blocks l) e
+MakesAt blocks (Row.zeroes_some l) e = ZeroesIn (drop 1 (blocks l)) e
+MakesAt blocks (Row.zeroes_new k) e = ⊥
+MakesAt blocks Row.writes_slot e = ⊥
+
+-- the same in any line of application a
 abbrev pub Makes : System → List ℕ → Line → Call → Event → Type 0
-Makes s a line (Row.reads l k) e = ReadsAt (slice_get (blocks_at s.plane a l) k) e
-Makes s a line (Row.writes l k content) e = WritesAt (slice_get (blocks_at s.plane a l) k) content e
-Makes s a line Row.syncs e = IsSync e
-Makes s a line (Row.reads_in l) e = ReadsIn (blocks_at s.plane a l) e
-Makes s a line (Row.writes_in l) e = WritesIn (blocks_at s.plane a l) e
-Makes s a line (Row.writes_first l) e = WritesIn (take 1 (blocks_at s.plane a l)) e
-Makes s a line (Row.reads_some l) e = ReadsIn (blocks_at s.plane a l) e
-Makes s a line (Row.zeroes_some l) e = ZeroesIn (drop 1 (blocks_at s.plane a l)) e
 Makes s a line (Row.zeroes_new k) e = WritesAt (slice_get (granted s.plane line) k) zero_block e
 Makes s a line Row.writes_slot e = WritesAt (slice_get (slots_for s.plane a line) 0) (slot_content s.plane a line) e
+Makes s a line c e = MakesAt (blocks_at s.plane a) c e
 
 abbrev pub is_repeated : Call → Bool
 is_repeated (Row.reads_some l) = true
 is_repeated (Row.zeroes_some l) = true
 is_repeated _ = false
 
--- The events make the calls, up to and with the first that fails. A repeated call is made any number of times.
-pub data Follow (s : System) (a : List ℕ) (line : Line) : List Call → List Event → Type 0 where
-  ended : Follow s a line [] []
-  fails : {c : Call} {cs : List Call} {e : Event} → Makes s a line c e → has_succeeded e ≡ false → Follow s a line (c ∷ cs) (e ∷ [])
-  goes_on : {c : Call} {cs : List Call} {e : Event} {es : List Event} → Makes s a line c e → has_succeeded e ≡ true → is_repeated c ≡ false → Follow s a line cs es → Follow s a line (c ∷ cs) (e ∷ es)
-  again : {c : Call} {cs : List Call} {e : Event} {es : List Event} → Makes s a line c e → has_succeeded e ≡ true → is_repeated c ≡ true → Follow s a line (c ∷ cs) es → Follow s a line (c ∷ cs) (e ∷ es)
-  passes : {c : Call} {cs : List Call} {es : List Event} → is_repeated c ≡ true → Follow s a line cs es → Follow s a line (c ∷ cs) es
+-- The events make the calls, up to and with the first that fails, where M says what comes of a call. A repeated call is made any
+-- number of times.
+pub data Follows (M : Call → Event → Type 0) : List Call → List Event → Type 0 where
+  ended : Follows M [] []
+  fails : {c : Call} {cs : List Call} {e : Event} → M c e → has_succeeded e ≡ false → Follows M (c ∷ cs) (e ∷ [])
+  goes_on : {c : Call} {cs : List Call} {e : Event} {es : List Event} → M c e → has_succeeded e ≡ true → is_repeated c ≡ false → Follows M cs es → Follows M (c ∷ cs) (e ∷ es)
+  again : {c : Call} {cs : List Call} {e : Event} {es : List Event} → M c e → has_succeeded e ≡ true → is_repeated c ≡ true → Follows M (c ∷ cs) es → Follows M (c ∷ cs) (e ∷ es)
+  passes : {c : Call} {cs : List Call} {es : List Event} → is_repeated c ≡ true → Follows M cs es → Follows M (c ∷ cs) es
+
+abbrev pub Follow : System → List ℕ → Line → List Call → List Event → Type 0
+Follow s a line calls es = Follows (Makes s a line) calls es
 
 -- how a device event ended, with its kind
 abbrev pub end_of : Event → Ended

@@ -56,7 +56,7 @@ alone-answered = (
   record { output = refl; calls = ended; memory = tt },
   (
     record { output = refl; calls = ended; memory = tt },
-    (record { output = refl; calls = follows_is _ (Write 130 content true true ∷ []) refl; memory = tt }, (record { output = refl; calls = follows_is _ (Read 130 true ∷ []) refl; memory = tt }, tt)),
+    (record { output = refl; calls = follows_is _ _ _ _ (Write 130 content true true ∷ []) refl; memory = tt }, (record { output = refl; calls = follows_is _ _ _ _ (Read 130 true ∷ []) refl; memory = tt }, tt)),
   ),
 )
 
@@ -80,8 +80,8 @@ together-answered = (
       (
         record { output = refl; calls = ended; memory = tt },
         (
-          record { output = refl; calls = follows_is _ (Write 133 content true true ∷ []) refl; memory = tt },
-          (record { output = refl; calls = follows_is _ (Read 130 true ∷ []) refl; memory = tt }, (record { output = refl; calls = follows_is _ (Read 133 true ∷ []) refl; memory = tt }, tt)),
+          record { output = refl; calls = follows_is _ _ _ _ (Write 133 content true true ∷ []) refl; memory = tt },
+          (record { output = refl; calls = follows_is _ _ _ _ (Read 130 true ∷ []) refl; memory = tt }, (record { output = refl; calls = follows_is _ _ _ _ (Read 133 true ∷ []) refl; memory = tt }, tt)),
         ),
       ),
     ),
@@ -115,7 +115,7 @@ looks_parts = ok ∷ says (Read 130 true ∷ []) (codes "ok -") ∷ []
 
 pub looks-answered : EachAnswers (start_system image own_slot) looks looks_parts
 unfolding step answer encode_with digits
-looks-answered = (record { output = refl; calls = ended; memory = tt }, (record { output = refl; calls = follows_is _ (Read 130 true ∷ []) refl; memory = tt }, tt))
+looks-answered = (record { output = refl; calls = ended; memory = tt }, (record { output = refl; calls = follows_is _ _ _ _ (Read 130 true ∷ []) refl; memory = tt }, tt))
 
 abbrev both_look : List Meaning
 both_look = Ok (w.app b None) ∷ Ok (w.app a None) ∷ Ok (w.peek a s 1) ∷ []
@@ -127,7 +127,7 @@ pub both_look-answered : EachAnswers (start_system image both_slots) both_look b
 unfolding step answer encode_with digits
 both_look-answered = (
   record { output = refl; calls = ended; memory = tt },
-  (record { output = refl; calls = ended; memory = tt }, (record { output = refl; calls = follows_is _ (Read 132 true ∷ []) refl; memory = tt }, tt)),
+  (record { output = refl; calls = ended; memory = tt }, (record { output = refl; calls = follows_is _ _ _ _ (Read 132 true ∷ []) refl; memory = tt }, tt)),
 )
 
 pub looks-alike : outputs_to a (start_system image own_slot) looks looks_parts ≡ outputs_to a (start_system image both_slots) both_look both_parts

@@ -1,5 +1,5 @@
-ghost use Rattle.std.specs.Prelude.{◌≡◌, ◌≤◌, [], bytes_eq, position, IfSome};
-ghost use Rattle.ark_media.specs.Calls.{Told};
+ghost use Rattle.std.specs.Prelude.{◌≡◌, ◌≤◌, ℕ, [], bytes_eq, position, IfSome};
+ghost use Rattle.ark_media.specs.Journal.{History};
 ghost use Rattle.ark_script.specs.Line as w;
 ghost use Rattle.ark_script.specs.Text.{IsSaid};
 ghost use Rattle.ark_machine.specs.System.{System};
@@ -28,8 +28,8 @@ impl Host {
     // The word `app`.
     pub(super) fn make_app(&mut self, name: &AppName, frames: Option<u64>) -> Said
         requires { IfSome frames (λ f. f ≤ 4096) }
-        ensures turned { (told : Told) (s : System) → Stands self.old told s →
-            Turned self.new told s name.now (w.app name.now frames) (app_row s name.now frames [] result) [] result [] }
+        ensures turned { (size : ℕ) (h : History) (s : System) → Stands self.old size h s →
+            Turned self.new size h s name.now (w.app name.now frames) (app_row s name.now frames [] result) [] result [] }
         ensures said { IsSaid result }
         ensures clock { self.new.clock ≡ self.old.clock }
         ensures lines { self.new.lines ≡ self.old.lines }
