@@ -1,7 +1,8 @@
 -- A buffer whose bytes were written.
-use Rattle.std.proofs.Common.{◌≡◌, ℕ, ◌+◌, ◌<◌, ◌≤◌, Bool, false, List, length, map, refl, sym, ◌∙◌, ap, subst, arith, bytes_eq, nat_eq}
+use Rattle.std.proofs.Common.{◌≡◌, ℕ, ◌+◌, ◌<◌, ◌≤◌, Bool, false, List, length, take, drop, map, refl, sym, ◌∙◌, ap, subst, arith, bytes_eq, nat_eq}
 use Rattle.std.specs.Prelude.{Option, Some, option_map, slice_index_or}
 use Rattle.std.specs.Map.{lookup}
+use Rattle.std.proofs.lemmas.List.{append_assoc}
 use Rattle.ark_caps.specs.Labels.{value_at}
 use Rattle.ark_caps.specs.declared.capability.Capability.{Capability}
 use Rattle.ark_region.specs.Frames.{Piece, Space, Apart, Wrote, Lies, bytes_of, frames_of, put}
@@ -22,15 +23,15 @@ use Rattle.ark_held.specs.Keeps.{Keeps, any_label}
 use Rattle.ark_held.specs.Beyond.{Beyond, around}
 use Rattle.ark_held.specs.declared.app.App.{App}
 use Rattle.ark_held.specs.declared.buffer.Buffer as kept
-use Rattle.ark_held.proofs.Besides.{same_told}
+use Rattle.ark_held.proofs.Besides.{same_history}
 use Rattle.ark_held.proofs.Creating.{but}
 use Rattle.ark_held.proofs.Changing.{changed, same_put}
 use Rattle.ark_held.proofs.Covering.{within_clear, other_clear}
 
-module _ (r : Beyond) (app app1 : App) (l : List ℕ) (b : Buffer) (held : Held) (at : ℕ) (bytes : List ℕ) (fits : at + length bytes ≤ length b.bytes)
+module _ (r : Beyond) (app app1 : App) (l : List ℕ) (b : Buffer) (held : Held) (off : ℕ) (bytes : List ℕ) (fits : off + length bytes ≤ length b.bytes)
     (h : Holds (around r app)) (there : at r.machine l ≡ Some held) (object : held.object ≡ Objects.buffer b) where
   abbrev now : Buffer
-  now = record b { bytes = written b.bytes at bytes }
+  now = record b { bytes = written b.bytes off bytes }
 
   abbrev x : Around
   x = around r app
@@ -38,13 +39,16 @@ module _ (r : Beyond) (app app1 : App) (l : List ℕ) (b : Buffer) (held : Held)
   abbrev y : Around
   y = around (record r { machine = with_object r.machine l (Objects.buffer now) }) app1
 
-  long : length (written b.bytes at bytes) ≡ length b.bytes
-  long = length_put b.bytes bytes at fits
+  same_bytes : written b.bytes off bytes ≡ put b.bytes off bytes
+  same_bytes = append_assoc (take off b.bytes) bytes (drop (off + length bytes) b.bytes)
+
+  long : length (written b.bytes off bytes) ≡ length b.bytes
+  long = ap (λ (z : List ℕ). length z) same_bytes ∙ length_put b.bytes bytes off fits
 
   place : piece_of b ≡ piece_of now
   place = ap (λ n. record { start = b.start; len = n }) (sym long)
 
-  module _ (wrote : Wrote app.store.region app1.store.region (piece_of b) at bytes) (buffers : app1.store.buffers ≡ app.store.buffers) (labels : app1.labels ≡ app.labels) (areas : app1.areas ≡ app.areas) where
+  module _ (wrote : Wrote app.store.region app1.store.region (piece_of b) off bytes) (buffers : app1.store.buffers ≡ app.store.buffers) (labels : app1.labels ≡ app.labels) (areas : app1.areas ≡ app.areas) where
     entries : (key : ℕ) → buffer_kept app1.store.buffers key ≡ buffer_kept app.store.buffers key
     entries key = ap (λ (bs : List (Option kept.Buffer)). buffer_kept bs key) buffers
 
@@ -67,7 +71,7 @@ module _ (r : Beyond) (app app1 : App) (l : List ℕ) (b : Buffer) (held : Held)
       areas = λ k c same is kind. ap (λ (es : AreaList). lookup (nat_eq c.grant) es) areas;
       chains = λ k c same is kind. refl;
       slots = λ k same. refl;
-      told = λ k u same is. same_told r.told u.blocks;
+      history = λ k u same is. same_history r.history u.blocks;
       lent = λ k same. same_put x h l (Objects.buffer now) held (uses k) there (ap (uses k) object);
       opened = λ k same. same_put x h l (Objects.buffer now) held (λ o. bit (is_open_on k o)) there (ap (λ o. bit (is_open_on k o)) object);
       socketed = λ k same. same_put x h l (Objects.buffer now) held (λ o. bit (is_socket_on k o)) there (ap (λ o. bit (is_socket_on k o)) object);
@@ -80,7 +84,7 @@ module _ (r : Beyond) (app app1 : App) (l : List ℕ) (b : Buffer) (held : Held)
       kept = entries c.key ∙ f.kept;
       place = f.place ∙ place;
       lies = subst (λ (p : Piece). Lies app1.store.region.taken p) place (subst (λ (t : List Bool). Lies t (piece_of b)) (sym wrote.taken) f.lies);
-      bytes = ap (λ (z : List ℕ). put z at bytes) f.bytes ∙ sym wrote.here ∙ ap (λ (p : Piece). bytes_of app1.store.region p) place;
+      bytes = same_bytes ∙ ap (λ (z : List ℕ). put z off bytes) f.bytes ∙ sym wrote.here ∙ ap (λ (p : Piece). bytes_of app1.store.region p) place;
       some = subst (λ (n : ℕ). 0 < n) (sym long) f.some;
       owned = f.owned;
       lent = f.lent ∙ sym (same_put x h l (Objects.buffer now) held (uses l) there (ap (uses l) object));
