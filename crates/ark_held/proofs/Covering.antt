@@ -57,7 +57,7 @@ found_in l (z ∷ zs) h is = by_test (λ t. bytes_eq l z.label ≡ t → In (z �
     (λ yes q. let e : z ≡ h = some_same (Some z) z h refl (sym (ap (λ b. cond b (Some z) (find (λ g. bytes_eq l g.label) zs)) q) ∙ is) in (inl e, ap (λ (g : Held). bytes_eq l g.label) (sym e) ∙ q))
     (λ no q. let r = found_in l zs h (sym (ap (λ b. cond b (Some z) (find (λ g. bytes_eq l g.label) zs)) q) ∙ is) in (inr r.0, r.1)) refl
 
-bit_most : (b : Bool) → bit b ≤ 1
+pub bit_most : (b : Bool) → bit b ≤ 1
 bit_most true = omega arith
 bit_most false = omega arith
 

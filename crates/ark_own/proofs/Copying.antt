@@ -135,6 +135,7 @@ module _ (t : Told) (app : App) (b c : List ℕ) (len : ℕ) where
 
             pub copy_done : (target : Piece) (its_right : to.buf ≡ Some target) (app1 : App) → Wrote app.store.region app1.store.region target 0 (take len (bytes_of app.store.region source)) → app1.store.buffers ≡ app.store.buffers
                 → app1.labels ≡ app.labels → app1.areas ≡ app.areas → app1.name ≡ app.name → Acts t app app1 row [] said.Ok []
+            unfolding answer
             copy_done target its_right app1 wrote buffers labels areas name grant = record {
               devices = refl;
               does = λ y g came told fresh sited h.
@@ -160,7 +161,6 @@ module _ (t : Told) (app : App) (b c : List ℕ) (len : ℕ) where
               where
                 done : (y : Beyond) (g : Given) (h : Holds (around y app))
                     → row y.machine g ≡ says (with_object y.machine c (Objects.buffer (record (its app c k to_is y h).buffer { bytes = written (its app c k to_is y h).buffer.bytes 0 (take len (its app b j from_is y h).buffer.bytes) }))) said.Ok
-                unfolding answer
                 done y g h =
                     let p = its app b j from_is y h in
                     let q = its app c k to_is y h in

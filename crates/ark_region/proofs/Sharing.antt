@@ -2,8 +2,8 @@
 use Rattle.std.proofs.Common.{◌≡◌, ◌<◌, ◌≤◌, ◌+◌, ◌-◌, ◌*◌, ◌++◌, ◌∙◌, ℕ, List, [], ◌∷◌, length, take, drop, refl, sym, ap, arith, slice_range, inl, inr}
 use Rattle.std.specs.Prelude.{◌⊎◌}
 use Rattle.std.proofs.lemmas.List.{take-append-drop, length-take}
-use Rattle.ark_region.specs.Frames.{Space, Piece, frames_of, bytes_of, Lies, Apart, put, Wrote}
-use Rattle.ark_region.proofs.Putting.{at_or_below, put_beside, part_put, take_less}
+use Rattle.ark_region.specs.Frames.{Space, Piece, frames_of, bytes_of, Lies, Apart, put, Wrote, written}
+use Rattle.ark_region.proofs.Putting.{at_or_below, put_beside, part_put, take_less, fitted_put}
 
 frames_hold : (n : ℕ) → n ≤ 512 * frames_of n
 frames_hold n = omega arith
@@ -79,3 +79,9 @@ part_front xs s len n le =
     let a : (s + n) - s ≡ n = omega arith in
     let b : (s + len) - s ≡ len = omega arith in
     rw (a, b) (sym (take_less n len (drop s xs) le))
+
+-- the same, as a lent part ends
+pub part_wrote : (r : Space) (b : Piece) (at : ℕ) (ys : List ℕ) → length r.bytes ≡ 512 * length r.taken → Lies r.taken b → at + length ys ≤ b.len → Wrote r (record r { bytes = written r.bytes (512 * b.start + at) ys }) b at ys
+part_wrote r b at ys whole lies fits =
+    let within = inside_bytes r b whole lies in
+    wrote_at r (record r { bytes = written r.bytes (512 * b.start + at) ys }) b at ys whole lies refl fits (fitted_put r.bytes ys (512 * b.start + at) (omega (arith, within, fits)))
