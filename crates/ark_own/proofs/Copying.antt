@@ -26,7 +26,7 @@ use Rattle.ark_held.specs.declared.buffer.Buffer as kept
 use Rattle.ark_held.proofs.Doing.{refused_first, refuses}
 use Rattle.ark_held.proofs.Rewriting.{rewritten}
 use Rattle.ark_own.specs.Keys.{buffer_key, both_keys}
-use Rattle.ark_own.proofs.OfBuffers.{FoundAs, found_buffer, its, never_gone, lent_same, place_same, far_true, far_false, inside}
+use Rattle.ark_own.proofs.OfBuffers.{HasBuffer, FoundAs, found_buffer, its, never_gone, lent_same, place_same, far_true, far_false, inside}
 
 abbrev conditions : Machine → List ℕ → List ℕ → ℕ → Conditions
 conditions m b c len = record none {
@@ -64,6 +64,7 @@ second_of (Ok keys) = Ok keys.1
 second_of (Err e) = Err e
 
 pub each_key : (j k : ℕ) (p q : Result ℕ Refusal) → Ok (j, k) ≡ both_keys p q → (Ok j ≡ p) × (Ok k ≡ q)
+unfolding first_of second_of
 each_key j k (Ok a) (Ok b) is = (ap first_of is, ap second_of is)
 each_key j k (Ok a) (Err e) is = absurd (false≢true (sym (ap is_ok is)))
 each_key j k (Err e) (Ok b) is = absurd (false≢true (sym (ap is_ok is)))
@@ -145,7 +146,7 @@ module _ (t : Told) (app : App) (b c : List ℕ) (len : ℕ) where
                   let was : bytes_of app.store.region source ≡ p.buffer.bytes = ap (λ (z : Piece). bytes_of app.store.region z) (place_same app b j from_is from here y p source right) ∙ sym p.fits.bytes in
                   let long : length (take len p.buffer.bytes) ≡ len = length-take-le len p.buffer.bytes (inside app b j from_is from here y p len enough) in
                   let room = inside app c k to_is to there y q len fits in
-                  rw (done y g h) (record {
+                  rw (done y g h.made p q) (record {
                     said = refl;
                     bytes = refl;
                     calls = ended;
@@ -159,13 +160,11 @@ module _ (t : Told) (app : App) (b c : List ℕ) (len : ℕ) where
                   });
             }
               where
-                done : (y : Beyond) (g : Given) (h : Holds (around y app))
-                    → row y.machine g ≡ says (with_object y.machine c (Objects.buffer (record (its app c k to_is y h).buffer { bytes = written (its app c k to_is y h).buffer.bytes 0 (take len (its app b j from_is y h).buffer.bytes) }))) said.Ok
-                done y g h =
-                    let p = its app b j from_is y h in
-                    let q = its app c k to_is y h in
+                done : (y : Beyond) (g : Given) → y.machine.made ≡ true → (p : HasBuffer (around y app) b j) (q : HasBuffer (around y app) c k)
+                    → row y.machine g ≡ says (with_object y.machine c (Objects.buffer (record q.buffer { bytes = written q.buffer.bytes 0 (take len p.buffer.bytes) }))) said.Ok
+                done y g made p q =
                     let near = far_false app b j from_is from here y p len enough in
                     let within = far_false app c k to_is to there y q len fits in
                     let free : is_lent y.machine b ≡ false = lent_same app b j from_is from here y p ∙ ap (λ o. is_none o) right in
                     let too : is_lent y.machine c ≡ false = lent_same app c k to_is to there y q ∙ ap (λ o. is_none o) its_right in
-                    rw (h.made, p.there, q.there, p.object, q.object, near, within, free, too) refl
+                    rw (made, p.there, q.there, p.object, q.object, near, within, free, too) refl

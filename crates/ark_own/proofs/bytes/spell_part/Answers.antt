@@ -2,7 +2,7 @@ use Rattle.std.proofs.Common.{◌≡◌, ◌+◌, ◌*◌, ◌-◌, ◌/◌, Lis
 use Rattle.ark_region.specs.Frames.{Wrote, written}
 use Rattle.ark_script.specs.Line.{spelled}
 use Rattle.ark_own.proofs.OfBytes.{spelled_room, half_digits}
-use Rattle.ark_own.proofs.bytes.spell_into.Goals as goal
+use Rattle.ark_own.proofs.bytes.spell_part.Goals as goal
 
 pub returns : goal.returns
 returns c =
