@@ -17,7 +17,7 @@ use Rattle.ark_machine.specs.Buffers as rows
 use Rattle.ark_machine.specs.Buffers.{is_lent, with_bytes}
 use Rattle.ark_machine.specs.Row.{Row, Given, says, answer}
 use Rattle.ark_machine.specs.Follow.{ended}
-use Rattle.ark_held.specs.Around.{Around}
+use Rattle.ark_held.specs.Around.{Around, piece_of}
 use Rattle.ark_held.specs.Held.{Holds}
 use Rattle.ark_held.specs.Beyond.{Beyond, around}
 use Rattle.ark_held.specs.Does.{Acts}
@@ -153,7 +153,7 @@ module _ (t : Told) (app : App) (b c : List ℕ) (len : ℕ) where
                     numbers = y.numbers;
                     grown = λ i n at. inl at;
                     holds = rewritten y app app1 c q.buffer q.held 0 bytes (omega (arith, long, room)) h q.there q.object
-                        (subst (λ (z : List ℕ). Wrote app.store.region app1.store.region _ 0 (take len z)) was
+                        (subst (λ (z : List ℕ). Wrote app.store.region app1.store.region (piece_of q.buffer) 0 (take len z)) was
                         (subst (λ (z : Piece). Wrote app.store.region app1.store.region z 0 (take len (bytes_of app.store.region source))) (place_same app c k to_is to there y q target its_right) wrote)) buffers labels areas;
                     areas = areas;
                     name = name;
