@@ -1,7 +1,7 @@
 -- What a table's list of pairs says of its labels.
-use Rattle.std.proofs.Common.{◌≡◌, ◌<◌, ◌+◌, ℕ, suc, Bool, true, false, cond, not, List, [], ◌∷◌, ◌++◌, length, take, drop, Option, None, Some, slice_get, is_some, refl, sym, ap, subst, ◌∙◌, true≢false}
+use Rattle.std.proofs.Common.{◌≡◌, ◌<◌, ◌+◌, ℕ, suc, Bool, true, false, cond, not, List, [], ◌∷◌, ◌++◌, length, take, drop, Option, None, Some, slice_get, is_some, refl, sym, ap, subst, ◌∙◌, true≢false, arith}
 use Rattle.std.specs.Str.{bytes_eq}
-use Rattle.std.specs.List.{IsDistinct}
+use Rattle.std.specs.List.{IsDistinct, AllByRecursion}
 use Rattle.std.specs.Map.{lookup, keys_of}
 use Rattle.std.specs.Cmp.Lexicographic.{nat_list_eq_equiv}
 use Rattle.std.proofs.lemmas.Slice.Eq.{bytes_eq-Decides}
@@ -54,6 +54,26 @@ module _ {V : Type 0} (l : List ℕ) where
       by false q below =
           let rest : value_at es l ≡ None = sym (ap (λ b. cond b (Some e.1) (lookup (bytes_eq l) es)) q) ∙ h in
           ap (λ b. cond (not b) (e ∷ others l es) (others l es)) q ∙ ap (λ t. e ∷ t) (below rest)
+
+  -- a label that equals none of a list's is not there
+  absent_all : (es : List (List ℕ × V)) → AllByRecursion (λ k. bytes_eq l k ≡ false) (keys_of es) → value_at es l ≡ None
+  absent_all [] h = refl
+  absent_all (e ∷ es) h = ap (λ b. cond b (Some e.1) (value_at es l)) h.0 ∙ absent_all es h.1
+
+  -- of distinct labels one goes
+  pub one_less : (es : List (List ℕ × V)) (v : V) → IsDistinct bytes_eq (keys_of es) → value_at es l ≡ Some v → length (others l es) + 1 ≡ length es
+  unfolding IsDistinct
+  one_less [] v d is = absurd (true≢false (sym (ap is_some is)))
+  one_less (e ∷ es) v d is = by (bytes_eq l e.0) refl (one_less es v d.1)
+    where
+      by : (b : Bool) → bytes_eq l e.0 ≡ b → (value_at es l ≡ Some v → length (others l es) + 1 ≡ length es) → length (others l (e ∷ es)) + 1 ≡ length (e ∷ es)
+      by true q below =
+          let none : value_at es l ≡ None = absent_all es (subst (λ k. AllByRecursion (λ y. bytes_eq k y ≡ false) (keys_of es)) (sym (same_label l e.0 q)) d.0) in
+          let all : length (others l es) ≡ length es = ap (λ (t : List (List ℕ × V)). length t) (others-absent es none) in
+          ap (λ b. length (cond (not b) (e ∷ others l es) (others l es)) + 1) q ∙ omega (arith, all)
+      by false q below =
+          let rest = below (sym (ap (λ b. cond b (Some e.1) (value_at es l)) q) ∙ is) in
+          ap (λ b. length (cond (not b) (e ∷ others l es) (others l es)) + 1) q ∙ omega (arith, rest)
 
 module _ {V : Type 0} (es : List (List ℕ × V)) (i : ℕ) (e : List ℕ × V) (at : slice_get es i ≡ Some e) where
   within : i < length es

@@ -1,9 +1,10 @@
-ghost use Rattle.std.specs.Prelude.{◌≡◌, ◌≤◌, ◌<◌, ◌+◌, ◌↔◌, [], ◌∷◌, ◌++◌, None, length, slice_get, IsOk, IfOk, OnOk, OnErr, filter, not, count_by};
+ghost use Rattle.std.specs.Prelude.{◌≡◌, ◌≤◌, ◌<◌, ◌+◌, ◌↔◌, [], ◌∷◌, ◌++◌, None, length, slice_get, Some, IsOk, IfOk, OnOk, OnErr, OnSome, filter, not, count_by};
 ghost use Rattle.indexmap.specs.IndexMap.{spare};
 ghost use Rattle.std.specs.Map.{keys_of, values_of};
 ghost use Rattle.std.specs.List.{IsDistinct};
 ghost use Rattle.std.specs.Str.{bytes_eq};
 ghost use Rattle.ark_caps.specs.Labels.{value_at, others, HasLabel};
+ghost use Rattle.ark_caps.specs.declared.capability.Capability.{Capability};
 
 use crate::capability::{CapKind, Capability};
 use ark_base::{Label, Memory};
@@ -54,6 +55,7 @@ fn copy_without(from: &Pairs, label: &Label, to: &mut Pairs)
     ensures entries { to.new.entries ≡ filter (λ e. not (bytes_eq label.now e.0)) from.now.entries }
     ensures within { length to.new.entries ≤ 64 }
     ensures room { 64 ≤ length to.new.entries + spare to.new }
+    ensures one { (cap : Capability) → value_at from.now.entries label.now ≡ Some cap → length to.new.entries + 1 ≡ length from.now.entries }
 {
     for i in 0..from.len() {
         if let Some((name, cap)) = from.get_index(i) {
@@ -113,6 +115,7 @@ impl CapTable {
     pub fn remove(&mut self, label: &Label) -> Option<Capability>
         ensures value { result ≡ value_at self.old label.now }
         ensures rest { self.new ≡ others label.now self.old }
+        ensures one { OnSome result (length self.new + 1 ≡ length self.old) }
     {
         let cap = self.pairs.get(label).copied()?;
         copy_without(&self.pairs, label, &mut self.spare);

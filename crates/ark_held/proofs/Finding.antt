@@ -65,7 +65,7 @@ kind_is x l c (Objects.rate q b) f = sym (ap is_area f.its_kind)
 kind_is x l c (Objects.buffer b) f = sym (ap is_area f.its_kind)
 kind_is x l c (Objects.socket k) f = sym (ap is_area f.its_kind)
 
-longer : {A B : Type 0} (t : Bool) (a : A) (xs : List A) (b : B) (ys : List B) → length xs ≡ length ys → length (cond t (a ∷ xs) xs) ≡ length (cond t (b ∷ ys) ys)
+pub longer : {A B : Type 0} (t : Bool) (a : A) (xs : List A) (b : B) (ys : List B) → length xs ≡ length ys → length (cond t (a ∷ xs) xs) ≡ length (cond t (b ∷ ys) ys)
 longer true a xs b ys same = ap suc same
 longer false a xs b ys same = same
 

@@ -5,3 +5,4 @@ pub mod Living
 pub mod Cuts
 pub mod TwoLent
 pub mod Following
+pub mod WrittenBack

@@ -1,9 +1,9 @@
 -- Buffers that share no frame share no byte.
-use Rattle.std.proofs.Common.{◌≡◌, ◌<◌, ◌≤◌, ◌+◌, ◌-◌, ◌*◌, ◌++◌, ◌∙◌, ℕ, List, [], ◌∷◌, length, take, drop, refl, ap, arith, slice_range, inl, inr}
+use Rattle.std.proofs.Common.{◌≡◌, ◌<◌, ◌≤◌, ◌+◌, ◌-◌, ◌*◌, ◌++◌, ◌∙◌, ℕ, List, [], ◌∷◌, length, take, drop, refl, sym, ap, arith, slice_range, inl, inr}
 use Rattle.std.specs.Prelude.{◌⊎◌}
 use Rattle.std.proofs.lemmas.List.{take-append-drop, length-take}
-use Rattle.ark_region.specs.Frames.{Space, Piece, frames_of, bytes_of, Lies, Apart, put}
-use Rattle.ark_region.proofs.Putting.{at_or_below, put_beside}
+use Rattle.ark_region.specs.Frames.{Space, Piece, frames_of, bytes_of, Lies, Apart, put, Wrote, written}
+use Rattle.ark_region.proofs.Putting.{at_or_below, put_beside, part_put, take_less, fitted_put}
 
 frames_hold : (n : ℕ) → n ≤ 512 * frames_of n
 frames_hold n = omega arith
@@ -65,3 +65,23 @@ apart_at a b i n j m ei en ej em p q apart = by (apart_bytes a b p q apart)
 
 pub same_range : (xs ys : List ℕ) (i n j m : ℕ) → xs ≡ ys → i ≡ j → n ≡ m → slice_range xs i (i + n) ≡ slice_range ys j (j + m)
 same_range xs ys i n j m e f g = cc
+
+-- what is put into a buffer was written there
+pub wrote_at : (r now : Space) (b : Piece) (at : ℕ) (ys : List ℕ) → length r.bytes ≡ 512 * length r.taken → Lies r.taken b → now.taken ≡ r.taken → at + length ys ≤ b.len → now.bytes ≡ put r.bytes (512 * b.start + at) ys → Wrote r now b at ys
+wrote_at r now b at ys whole lies taken fits is = record {
+  taken = taken;
+  here = ap (λ z. slice_range z (512 * b.start) (512 * b.start + b.len)) is ∙ part_put r.bytes ys (512 * b.start) b.len at fits (inside_bytes r b whole lies);
+  others = λ a apart. others_keep r ys b a (512 * b.start + at) whole lies (omega arith) (omega (arith, fits)) apart now.bytes is;
+}
+
+pub part_front : (xs : List ℕ) (s len n : ℕ) → n ≤ len → slice_range xs s (s + n) ≡ take n (slice_range xs s (s + len))
+part_front xs s len n le =
+    let a : (s + n) - s ≡ n = omega arith in
+    let b : (s + len) - s ≡ len = omega arith in
+    rw (a, b) (sym (take_less n len (drop s xs) le))
+
+-- the same, as a lent part ends
+pub part_wrote : (r : Space) (b : Piece) (at : ℕ) (ys : List ℕ) → length r.bytes ≡ 512 * length r.taken → Lies r.taken b → at + length ys ≤ b.len → Wrote r (record r { bytes = written r.bytes (512 * b.start + at) ys }) b at ys
+part_wrote r b at ys whole lies fits =
+    let within = inside_bytes r b whole lies in
+    wrote_at r (record r { bytes = written r.bytes (512 * b.start + at) ys }) b at ys whole lies refl fits (fitted_put r.bytes ys (512 * b.start + at) (omega (arith, within, fits)))

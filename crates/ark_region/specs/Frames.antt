@@ -73,3 +73,9 @@ fitted xs ys = take (length xs) (ys ++ drop (length ys) xs)
 -- xs, with ys from place i on, fitted to the length of xs
 abbrev pub written : {X : Type 0} → List X → ℕ → List X → List X
 written xs i ys = fitted xs (take i xs ++ (ys ++ drop (length ys) (drop i xs)))
+
+-- these bytes were written into a buffer from its byte at on; all others are as they were
+pub record Wrote (old new : Space) (b : Piece) (at : ℕ) (bytes : List ℕ) : Type 0 where
+  pub taken : new.taken ≡ old.taken
+  pub here : bytes_of new b ≡ put (bytes_of old b) at bytes
+  pub others : (a : Piece) → Apart b a → bytes_of new a ≡ bytes_of old a

@@ -1,5 +1,8 @@
-use Rattle.std.proofs.Common.{true≢false, sym, ◌∙◌, ◌≡◌, ◌+◌, ◌∷◌, [], ap, arith, length, length-append}
-use Rattle.ark_caps.proofs.LabelLemmas.{appended, after_kept, after_skipped}
+use Rattle.std.proofs.Common.{true≢false, sym, ◌∙◌, ◌≡◌, ◌≤◌, ◌+◌, ◌∷◌, [], ap, arith, rules, List, ℕ, length, length-append}
+use Rattle.std.proofs.lemmas.List.{take_all}
+use Rattle.ark_caps.specs.Labels.{others}
+use Rattle.ark_caps.specs.declared.capability.Capability.{Capability}
+use Rattle.ark_caps.proofs.LabelLemmas.{appended, after_kept, after_skipped, one_less}
 use Rattle.ark_caps.proofs.table.copy_without.Goals.{in-Some+then-ne+in-Ok, in-Some+else-ne, in_default}
 use Rattle.ark_caps.proofs.table.copy_without.Goals as goal
 
@@ -26,3 +29,10 @@ loop-i-preserved c = elim c.match-get_index.branch [
       })
   | in_default w ↦ absurd (true≢false (sym (w.in_default.ensures.found.1 (omega arith))))
 ]
+
+pub returns-clause-one : goal.returns-clause-one
+returns-clause-one c = λ cap there.
+    let es = c.args.from.now.entries in
+    let far : length es ≤ c.loop-i.i = search rules in
+    let all : c.loop-i.to.entries ≡ others c.args.label.now es = c.loop-i.invariant.entries ∙ ap (λ (xs : List (List ℕ × Capability)). others c.args.label.now xs) (take_all c.loop-i.i es far) in
+    ap (λ (xs : List (List ℕ × Capability)). length xs + 1) all ∙ one_less c.args.label.now es cap c.len-i-end.ensures.unique there

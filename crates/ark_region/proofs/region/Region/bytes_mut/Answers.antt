@@ -1,13 +1,7 @@
-use Rattle.std.proofs.Common.{◌≡◌, ◌*◌, ◌+◌, ◌++◌, refl, ap, ◌∙◌, take, drop, length, List, ℕ, slice_range, Vec}
-use Rattle.std.specs.Vec.{with_items_from}
+use Rattle.std.proofs.Common.{◌*◌, ◌+◌, refl, ap, ◌∙◌, slice_range}
 use Rattle.ark_region.specs.Frames.{Piece, written}
+use Rattle.ark_region.proofs.WrittenBack.{written_back}
 use Rattle.ark_region.proofs.region.Region.bytes_mut.Goals as goal
-
--- what a `Vec` ends with, as a list
-pub written_back : {Z : Type 0} (v : Vec ℕ Z) (i : ℕ) (w : List ℕ) → (with_items_from v i w).items ≡ written v.items i w
-written_back v i w =
-    let zs = take i v.items ++ (w ++ drop (length w) (drop i v.items)) in
-    ap (λ n. take n (zs ++ drop (length zs) v.items)) v.ok.0
 
 pub returns : goal.returns
 returns c = (

@@ -1,0 +1,204 @@
+-- The descriptors that have a buffer.
+use Rattle.std.proofs.Common.{◌≡◌, ℕ, ◌+◌, ◌<◌, Bool, true, false, not, nat_lt, List, [], ◌∷◌, refl, sym, ◌∙◌, ap, subst, arith, bytes_eq}
+use Rattle.std.specs.Prelude.{Option, Some, None, ◌||◌}
+use Rattle.std.specs.List.{list_any, AllByRecursion}
+use Rattle.std.proofs.lemmas.Bool.Decides.{nat_tests}
+use Rattle.ark_base.specs.declared.kind.Outcome.{Outcome}
+use Rattle.ark_caps.specs.Labels.{value_at}
+use Rattle.ark_caps.specs.declared.capability.CapKind.{CapKind}
+use Rattle.ark_caps.specs.declared.capability.CapKind.TheVariants as cap_kind
+use Rattle.ark_caps.specs.declared.capability.Capability.{Capability}
+use Rattle.ark_region.specs.Frames.{Piece}
+use Rattle.ark_vic.specs.declared.descriptor.Descriptor.{Descriptor}
+use Rattle.ark_vic.specs.declared.descriptor.Completion.{Completion}
+use Rattle.ark_caladan.specs.Chain.{Opened}
+use Rattle.ark_machine.specs.Objects
+use Rattle.ark_machine.specs.Objects.{Object, Job, transfer, flush, phase, Place, named as in_buffer, taken, Paced}
+use Rattle.ark_machine.specs.Machine.{Machine, Held}
+use Rattle.ark_machine.specs.Buffers.{is_lent, has_buffer, job_has, place_has}
+use Rattle.ark_held.specs.Words.{Labels}
+use Rattle.ark_held.specs.Totals.{bit, total, uses, lent_count}
+use Rattle.ark_held.specs.Kept.{PaceKept, ChainKept}
+use Rattle.ark_held.specs.Around.{Around, Names, IsGranted, Each, Both}
+use Rattle.ark_held.specs.Areas.{IsOpened}
+use Rattle.ark_held.specs.Cards.{IsPaced, IsWatched, IsJob, IsEnded}
+use Rattle.ark_held.specs.Network.{IsPlace, IsReceiving, IsReceived, IsSending, IsSent}
+use Rattle.ark_held.specs.Held.{Fits, AllMatch, Holds}
+use Rattle.ark_held.specs.Keeps.{JobWithin, PlaceWithin, PacedWithin, LabelWithin, OpenedWithin, Within, any_label}
+use Rattle.ark_held.proofs.Lists.{name_other, not_some, some_same}
+use Rattle.ark_held.proofs.Creating.{but}
+
+-- Whether a buffer is lent.
+
+split : {P : Type 0} (b : Bool) → (b ≡ true → P) → (b ≡ false → P) → P
+split true h k = h refl
+split false h k = k refl
+
+some_of : (a b : ℕ) → nat_lt 0 (a + b) ≡ (nat_lt 0 a || nat_lt 0 b)
+some_of a b = split (nat_lt 0 a)
+    (λ p. let lt : 0 < a = grind (arith, nat_tests, p) in let q : nat_lt 0 (a + b) ≡ true = grind (arith, nat_tests, lt) in rw (p, q) refl)
+    (λ p. let e : a ≡ 0 = grind (arith, nat_tests, p) in let q : a + b ≡ b = omega (arith, e) in rw (p, q) refl)
+
+bit_some : (b : Bool) → nat_lt 0 (bit b) ≡ b
+bit_some true = refl
+bit_some false = refl
+
+any_is : {X : Type 0} (p : X → Bool) (f : X → ℕ) → ((x : X) → p x ≡ nat_lt 0 (f x)) → (xs : List X) → list_any p xs ≡ nat_lt 0 (total f xs)
+any_is p f same [] = refl
+any_is p f same (x ∷ xs) = ap (λ b. b || list_any p xs) (same x) ∙ ap (λ b. nat_lt 0 (f x) || b) (any_is p f same xs) ∙ sym (some_of (f x) (total f xs))
+
+any_bit : {X : Type 0} (p : X → Bool) (xs : List X) → list_any p xs ≡ nat_lt 0 (total (λ x. bit (p x)) xs)
+any_bit p xs = any_is p (λ x. bit (p x)) (λ x. sym (bit_some (p x))) xs
+
+two_any : {X Y : Type 0} (p : X → Bool) (q : Y → Bool) (xs : List X) (ys : List Y) → (list_any p xs || list_any q ys) ≡ nat_lt 0 (total (λ x. bit (p x)) xs + total (λ y. bit (q y)) ys)
+two_any p q xs ys = ap (λ b. b || list_any q ys) (any_bit p xs) ∙ ap (λ b. nat_lt 0 (total (λ x. bit (p x)) xs) || b) (any_bit q ys) ∙ sym (some_of (total (λ x. bit (p x)) xs) (total (λ y. bit (q y)) ys))
+
+uses_is : (l : List ℕ) (o : Object) → has_buffer l o ≡ nat_lt 0 (uses l o)
+uses_is l (Objects.vsic v) = two_any (job_has l) (λ u. job_has l u.0) v.queue.posted v.queue.unreaped
+uses_is l (Objects.vnic v) =
+    ap (λ b. b || (list_any (λ p. place_has l p.0) v.tx.posted || list_any (λ u. place_has l u.0) v.tx.unreaped)) (two_any (place_has l) (λ u. place_has l u.0) v.rx.posted v.rx.unreaped)
+    ∙ ap (λ b. nat_lt 0 (total (λ p. bit (place_has l p)) v.rx.posted + total (λ u. bit (place_has l u.0)) v.rx.unreaped) || b) (two_any (λ p. place_has l p.0) (λ u. place_has l u.0) v.tx.posted v.tx.unreaped)
+    ∙ sym (some_of (total (λ p. bit (place_has l p)) v.rx.posted + total (λ u. bit (place_has l u.0)) v.rx.unreaped) (total (λ p. bit (place_has l p.0)) v.tx.posted + total (λ u. bit (place_has l u.0)) v.tx.unreaped))
+uses_is l (Objects.raw z) = refl
+uses_is l (Objects.log z) = refl
+uses_is l (Objects.filter z y) = refl
+uses_is l (Objects.door z) = refl
+uses_is l (Objects.rate z y) = refl
+uses_is l (Objects.buffer z) = refl
+uses_is l (Objects.socket z) = refl
+
+-- a buffer is lent where a descriptor has it
+pub lent_is : (m : Machine) (l : List ℕ) (b : Bool) → bit b ≡ lent_count m l → is_lent m l ≡ b
+lent_is m l b is = any_is (λ h. has_buffer l h.object) (λ h. uses l h.object) (λ h. uses_is l h.object) m.held ∙ ap (λ n. nat_lt 0 n) (sym is) ∙ bit_some b
+
+-- Nothing has a buffer under a label that is not there.
+
+each_zero : {X Y : Type 0} (P : X → Y → Type 0) (f : Y → ℕ) → ((x : X) (y : Y) → P x y → f y ≡ 0) → (xs : List X) (ys : List Y) → Each P xs ys → total f ys ≡ 0
+each_zero P f none [] [] e = refl
+each_zero P f none (x ∷ xs) (y ∷ ys) e = let one = none x y e.0 in let rest = each_zero P f none xs ys e.1 in omega (arith, one, rest)
+each_zero P f none [] (y ∷ ys) e = absurd e
+each_zero P f none (x ∷ xs) [] e = absurd e
+
+module _ (x : Around) (l : List ℕ) (absent : value_at x.labels l ≡ None) where
+  name_none : (b : List ℕ) (kind : CapKind) (key : ℕ) → Names x b kind key → bit (bytes_eq l b) ≡ 0
+  name_none b kind key n = ap bit (name_other l b (λ e. not_some (value_at x.labels b) n.cap (ap (λ k. value_at x.labels k) (sym e) ∙ absent) n.there))
+
+  job_none : (log : Option ℕ) (d : Descriptor) (j : Job) → IsJob x log d j → bit (job_has l j) ≡ 0
+  job_none log d (transfer t) is = name_none t.buffer cap_kind.Buf d.tag is.buffer.named
+  job_none log d flush is = refl
+  job_none log d (phase p) is = refl
+
+  ended_none : (c : Completion) (u : Job × Outcome) → IsEnded x c u → bit (job_has l u.0) ≡ 0
+  ended_none c (transfer t, o) is = name_none t.buffer cap_kind.Buf c.tag is.2.named
+  ended_none c (flush, o) is = refl
+  ended_none c (phase p, o) is = refl
+
+  place_none : (tag : ℕ) (given : Option Piece) (p : Place) → IsPlace x tag given p → bit (place_has l p) ≡ 0
+  place_none tag given (in_buffer b) is = name_none b cap_kind.Buf tag is.named
+  place_none tag given (taken b) is = refl
+
+  received_none : (c : Completion) (u : Place × ℕ) → IsReceived x c u → bit (place_has l u.0) ≡ 0
+  received_none c (p, len) is = place_none c.tag c.buf p is.1
+
+  sending_none : (d : Descriptor) (p : Place × ℕ) → IsSending x d p → bit (place_has l p.0) ≡ 0
+  sending_none d (p, len) is = place_none d.tag d.buf p is.2
+
+  sent_none : (c : Completion) (u : Place × Outcome) → IsSent x c u → bit (place_has l u.0) ≡ 0
+  sent_none c (p, o) is = place_none c.tag c.buf p is.1
+
+  none_uses : (k : List ℕ) (c : Capability) (o : Object) → Fits x k c o → uses l o ≡ 0
+  none_uses k c (Objects.vsic v) f =
+      let a = each_zero (IsJob x f.card.log) (λ j. bit (job_has l j)) (job_none f.card.log) f.card.ring.posted v.queue.posted f.posted in
+      let b = each_zero (IsEnded x) (λ u. bit (job_has l u.0)) ended_none f.card.ring.unreaped v.queue.unreaped f.unreaped in
+      omega (arith, a, b)
+  none_uses k c (Objects.vnic v) f =
+      let a = each_zero (IsReceiving x) (λ p. bit (place_has l p)) (λ d p is. place_none d.tag d.buf p is.1) f.net.rx.posted v.rx.posted f.rx_posted in
+      let b = each_zero (IsReceived x) (λ u. bit (place_has l u.0)) received_none f.net.rx.unreaped v.rx.unreaped f.rx_unreaped in
+      let d = each_zero (IsSending x) (λ p. bit (place_has l p.0)) sending_none f.net.tx.posted v.tx.posted f.tx_posted in
+      let e = each_zero (IsSent x) (λ u. bit (place_has l u.0)) sent_none f.net.tx.unreaped v.tx.unreaped f.tx_unreaped in
+      omega (arith, a, b, d, e)
+  none_uses k c (Objects.raw z) f = refl
+  none_uses k c (Objects.log z) f = refl
+  none_uses k c (Objects.filter z y) f = refl
+  none_uses k c (Objects.door z) f = refl
+  none_uses k c (Objects.rate z y) f = refl
+  none_uses k c (Objects.buffer z) f = refl
+  none_uses k c (Objects.socket z) f = refl
+
+  pub none_lent : (ps : Labels) (hs : List Held) → AllMatch x ps hs → total (λ h. uses l h.object) hs ≡ 0
+  none_lent [] [] all = refl
+  none_lent (p ∷ ps) (h ∷ hs) all = let a = none_uses p.0 p.1 h.object all.0.object in let b = none_lent ps hs all.1 in omega (arith, a, b)
+  none_lent [] (h ∷ hs) all = absurd all
+  none_lent (p ∷ ps) [] all = absurd all
+
+-- An object that does not have the buffer under a label names other labels alone.
+
+bit_zero : (b : Bool) → bit b ≡ 0 → not b ≡ true
+bit_zero true h = absurd (let z : ⊥ = omega (arith, h) in z)
+bit_zero false h = refl
+
+narrow : {X : Type 0} (P Q : X → Type 0) (f : X → ℕ) → ((x : X) → f x ≡ 0 → P x → Q x) → (xs : List X) → total f xs ≡ 0 → AllByRecursion P xs → AllByRecursion Q xs
+narrow P Q f step [] none all = tt
+narrow P Q f step (x ∷ xs) none all = (step x (omega (arith, none)) all.0, narrow P Q f step xs (omega (arith, none)) all.1)
+
+module _ (x : Around) (l : List ℕ) (cap : Capability) (there : value_at x.labels l ≡ Some cap) (its_kind : cap.kind ≡ cap_kind.Buf) (rests : Piece → Type 0) where
+  name_apart : (b : List ℕ) (c : Capability) (kind : CapKind) → value_at x.labels b ≡ Some c → c.kind ≡ kind → (kind ≡ cap_kind.Buf → ⊥) → but l b ≡ true
+  name_apart b c kind at is other = ap not (name_other l b (λ e. other (sym is ∙ ap (λ (z : Capability). z.kind) (some_same (value_at x.labels b) c cap at (ap (λ k. value_at x.labels k) (sym e) ∙ there)) ∙ its_kind)))
+
+  job_narrow : (j : Job) → bit (job_has l j) ≡ 0 → JobWithin any_label rests j → JobWithin (but l) rests j
+  job_narrow (transfer t) none w = bit_zero (bytes_eq l t.buffer) none
+  job_narrow flush none w = tt
+  job_narrow (phase p) none w = tt
+
+  place_narrow : (p : Place) → bit (place_has l p) ≡ 0 → PlaceWithin any_label rests p → PlaceWithin (but l) rests p
+  place_narrow (in_buffer b) none w = bit_zero (bytes_eq l b) none
+  place_narrow (taken b) none w = w
+
+  paced_narrow : (k : Option PaceKept) (p : Option Paced) → Both (IsPaced x) k p → PacedWithin (but l) rests p
+  paced_narrow None None is = tt
+  paced_narrow (Some k) (Some p) is = name_apart p.rate is.rate.cap cap_kind.Rate is.rate.there is.rate.its_kind (λ e. cc (e))
+  paced_narrow None (Some p) is = absurd is
+  paced_narrow (Some k) None is = absurd is
+
+  door_narrow : (k : Option ℕ) (d : Option (List ℕ)) → Both (IsWatched x) k d → LabelWithin (but l) rests d
+  door_narrow None None is = tt
+  door_narrow (Some k) (Some d) is = name_apart d is.cap cap_kind.Door is.there is.its_kind (λ e. cc (e))
+  door_narrow None (Some d) is = absurd is
+  door_narrow (Some k) None is = absurd is
+
+  card_narrow : (k : Option ℕ) (v : Option (List ℕ)) → Both (λ g v. IsGranted x v cap_kind.Vnic g) k v → LabelWithin (but l) rests v
+  card_narrow None None is = tt
+  card_narrow (Some k) (Some v) is = name_apart v is.cap cap_kind.Vnic is.there is.its_kind (λ e. cc (e))
+  card_narrow None (Some v) is = absurd is
+  card_narrow (Some k) None is = absurd is
+
+  opened_narrow : (grant : ℕ) (k : Option ChainKept) (o : Option Opened) → Both (IsOpened x grant) k o → OpenedWithin any_label rests o → OpenedWithin (but l) rests o
+  opened_narrow grant None None is w = tt
+  opened_narrow grant (Some k) (Some o) is w = (name_apart o.card is.card.cap cap_kind.Vsic is.card.there is.card.its_kind (λ e. cc (e)), w.1)
+  opened_narrow grant None (Some o) is w = absurd is
+  opened_narrow grant (Some k) None is w = absurd is
+
+  pub narrowed : (k : List ℕ) (c : Capability) (o : Object) → Fits x k c o → uses l o ≡ 0 → Within any_label rests o → Within (but l) rests o
+  narrowed k c (Objects.raw z) f none w = tt
+  narrowed k c (Objects.log g) f none w = opened_narrow c.grant (x.tables.chains c.grant) g.opened f.opened w
+  narrowed k c (Objects.vsic v) f none w = (
+    narrow (JobWithin any_label rests) (JobWithin (but l) rests) (λ j. bit (job_has l j)) job_narrow v.queue.posted (omega (arith, none)) w.0,
+    narrow (λ u. JobWithin any_label rests u.0) (λ u. JobWithin (but l) rests u.0) (λ u. bit (job_has l u.0)) (λ u. job_narrow u.0) v.queue.unreaped (omega (arith, none)) w.1,
+    paced_narrow f.card.pace v.pace f.pace,
+    door_narrow f.card.door v.door f.door,
+  )
+  narrowed k c (Objects.vnic v) f none w = (
+    narrow (PlaceWithin any_label rests) (PlaceWithin (but l) rests) (λ p. bit (place_has l p)) place_narrow v.rx.posted (omega (arith, none)) w.0,
+    narrow (λ u. PlaceWithin any_label rests u.0) (λ u. PlaceWithin (but l) rests u.0) (λ u. bit (place_has l u.0)) (λ u. place_narrow u.0) v.rx.unreaped (omega (arith, none)) w.1,
+    narrow (λ p. PlaceWithin any_label rests p.0) (λ p. PlaceWithin (but l) rests p.0) (λ p. bit (place_has l p.0)) (λ p. place_narrow p.0) v.tx.posted (omega (arith, none)) w.2,
+    narrow (λ u. PlaceWithin any_label rests u.0) (λ u. PlaceWithin (but l) rests u.0) (λ u. bit (place_has l u.0)) (λ u. place_narrow u.0) v.tx.unreaped (omega (arith, none)) w.3,
+    paced_narrow f.net.rx_pace v.rx_pace f.rx_pace,
+    paced_narrow f.net.tx_pace v.tx_pace f.tx_pace,
+    door_narrow f.net.rx_door v.rx_door f.rx_door,
+    door_narrow f.net.tx_door v.tx_door f.tx_door,
+  )
+  narrowed k c (Objects.filter z card) f none w = card_narrow f.live.vnic card f.card
+  narrowed k c (Objects.door z) f none w = tt
+  narrowed k c (Objects.rate z y) f none w = tt
+  narrowed k c (Objects.buffer z) f none w = w
+  narrowed k c (Objects.socket z) f none w = name_apart z.card f.card.cap cap_kind.Vnic f.card.there f.card.its_kind (λ e. cc (e))

@@ -1,0 +1,103 @@
+-- A buffer whose bytes were written.
+use Rattle.std.proofs.Common.{◌≡◌, ℕ, ◌+◌, ◌<◌, ◌≤◌, Bool, false, List, length, take, drop, map, refl, sym, ◌∙◌, ap, subst, arith, bytes_eq, nat_eq}
+use Rattle.std.specs.Prelude.{Option, Some, option_map, slice_index_or}
+use Rattle.std.specs.Map.{lookup}
+use Rattle.std.proofs.lemmas.List.{append_assoc}
+use Rattle.ark_caps.specs.Labels.{value_at}
+use Rattle.ark_caps.specs.declared.capability.Capability.{Capability}
+use Rattle.ark_region.specs.Frames.{Piece, Space, Apart, Wrote, Lies, bytes_of, frames_of, put}
+use Rattle.ark_region.proofs.Putting.{length_put}
+use Rattle.ark_machine.specs.Bytes.{written}
+use Rattle.ark_machine.specs.Objects
+use Rattle.ark_machine.specs.Objects.{Object, Buffer}
+use Rattle.ark_machine.specs.Machine.{Held, at, with_object}
+use Rattle.ark_machine.specs.Control.{is_open_on, is_socket_on}
+use Rattle.ark_held.specs.Words.{Labels, AreaList}
+use Rattle.ark_held.specs.Totals.{bit, uses, covers, object_covers}
+use Rattle.ark_held.specs.Kept.{BufferKept}
+use Rattle.ark_held.specs.Stored.{buffer_kept}
+use Rattle.ark_held.specs.Around.{Around, piece_of}
+use Rattle.ark_held.specs.Cards.{IsBuffer}
+use Rattle.ark_held.specs.Held.{Fits, Matches, Holds}
+use Rattle.ark_held.specs.Keeps.{Keeps, any_label}
+use Rattle.ark_held.specs.Beyond.{Beyond, around}
+use Rattle.ark_held.specs.declared.app.App.{App}
+use Rattle.ark_held.specs.declared.buffer.Buffer as kept
+use Rattle.ark_held.proofs.Besides.{same_history}
+use Rattle.ark_held.proofs.Creating.{but}
+use Rattle.ark_held.proofs.Changing.{changed, same_put}
+use Rattle.ark_held.proofs.Covering.{within_clear, other_clear}
+
+module _ (r : Beyond) (app app1 : App) (l : List ℕ) (b : Buffer) (held : Held) (off : ℕ) (bytes : List ℕ) (fits : off + length bytes ≤ length b.bytes)
+    (h : Holds (around r app)) (there : at r.machine l ≡ Some held) (object : held.object ≡ Objects.buffer b) where
+  abbrev now : Buffer
+  now = record b { bytes = written b.bytes off bytes }
+
+  abbrev x : Around
+  x = around r app
+
+  abbrev y : Around
+  y = around (record r { machine = with_object r.machine l (Objects.buffer now) }) app1
+
+  same_bytes : written b.bytes off bytes ≡ put b.bytes off bytes
+  same_bytes = append_assoc (take off b.bytes) bytes (drop (off + length bytes) b.bytes)
+
+  long : length (written b.bytes off bytes) ≡ length b.bytes
+  long = ap (λ (z : List ℕ). length z) same_bytes ∙ length_put b.bytes bytes off fits
+
+  place : piece_of b ≡ piece_of now
+  place = ap (λ n. record { start = b.start; len = n }) (sym long)
+
+  module _ (wrote : Wrote app.store.region app1.store.region (piece_of b) off bytes) (buffers : app1.store.buffers ≡ app.store.buffers) (labels : app1.labels ≡ app.labels) (areas : app1.areas ≡ app.areas) where
+    entries : (key : ℕ) → buffer_kept app1.store.buffers key ≡ buffer_kept app.store.buffers key
+    entries key = ap (λ (bs : List (Option kept.Buffer)). buffer_kept bs key) buffers
+
+    keeps : Keeps (but l) any_label (Apart (piece_of b)) x y
+    keeps = record {
+      now = omega arith;
+      numbers = λ i n is. is;
+      frames = ap (λ (t : List Bool). length t) wrote.taken;
+      bytes = λ p rests. wrote.others p rests;
+      labels = λ k c named is. ap (λ (ls : Labels). value_at ls k) labels ∙ is;
+      places = λ k c named is kind. ap (λ (o : Option BufferKept). option_map (λ z. z.piece) o) (entries c.key);
+      logs = λ k c named is kind. refl;
+      buffers = λ k c same is kind. entries c.key;
+      cards = λ k c same is kind. refl;
+      nets = λ k c same is kind. refl;
+      doors = λ k c same is kind. refl;
+      rates = λ k c same is kind. refl;
+      sockets = λ k c same is kind. refl;
+      rules = λ k c same is kind. refl;
+      areas = λ k c same is kind. ap (λ (es : AreaList). lookup (nat_eq c.grant) es) areas;
+      chains = λ k c same is kind. refl;
+      slots = λ k same. refl;
+      history = λ k u same is. same_history r.history u.blocks;
+      lent = λ k same. same_put x h l (Objects.buffer now) held (uses k) there (ap (uses k) object);
+      opened = λ k same. same_put x h l (Objects.buffer now) held (λ o. bit (is_open_on k o)) there (ap (λ o. bit (is_open_on k o)) object);
+      socketed = λ k same. same_put x h l (Objects.buffer now) held (λ o. bit (is_socket_on k o)) there (ap (λ o. bit (is_socket_on k o)) object);
+    }
+
+    its : (c : Capability) → IsBuffer x l c b → IsBuffer y l c now
+    its c f = record {
+      its_kind = f.its_kind;
+      entry = f.entry;
+      kept = entries c.key ∙ f.kept;
+      place = f.place ∙ place;
+      lies = subst (λ (p : Piece). Lies app1.store.region.taken p) place (subst (λ (t : List Bool). Lies t (piece_of b)) (sym wrote.taken) f.lies);
+      bytes = same_bytes ∙ ap (λ (z : List ℕ). put z off bytes) f.bytes ∙ sym wrote.here ∙ ap (λ (p : Piece). bytes_of app1.store.region p) place;
+      some = subst (λ (n : ℕ). 0 < n) (sym long) f.some;
+      owned = f.owned;
+      lent = f.lent ∙ sym (same_put x h l (Objects.buffer now) held (uses l) there (ap (uses l) object));
+    }
+
+    -- the machine has them too
+    pub rewritten : Holds y
+    rewritten = changed x y h l held (Objects.buffer now) there (Apart (piece_of b)) keeps
+        (λ p k apart inn m. within_clear (piece_of b) k.object (λ j has. other_clear x h l held b there object j has k inn (ap (λ (z : List ℕ). bytes_eq l z) m.label ∙ apart)))
+        refl labels refl refl (ap (λ (es : AreaList). length es) areas) (λ k. refl)
+        (λ j.
+        let size : object_covers j (Objects.buffer now) ≡ object_covers j (Objects.buffer b) = ap (λ n. bit (covers j (b.start, frames_of n)) + 0) long in
+        let was : object_covers j held.object ≡ object_covers j (Objects.buffer b) = ap (object_covers j) object in
+        let bits : bit (slice_index_or app1.store.region.taken j false) ≡ bit (slice_index_or app.store.region.taken j false) = ap (λ (t : List Bool). bit (slice_index_or t j false)) wrote.taken in
+        omega (arith, size, was, bits))
+        (λ c is m. its c (subst (λ (o : Object). Fits x l c o) object m.object))
