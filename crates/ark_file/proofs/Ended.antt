@@ -4,7 +4,7 @@ use Rattle.std.specs.Prelude.{Some}
 use Rattle.ark_base.specs.declared.status.Status.{Status}
 use Rattle.ark_base.specs.declared.status.Status.TheVariants.{Done, Usage, Source, Sink, Device, Memory, Damaged, Long}
 use Rattle.ark_media.specs.Journal.{Event, History, onto}
-use Rattle.ark_media.specs.Calls.{Opening, Told, Script, Adds, Takes, making}
+use Rattle.ark_media.specs.Calls.{Opening, Script, Adds, Takes, making}
 use Rattle.ark_media.specs.Parts.{parts}
 use Rattle.ark_script.specs.Lines.{lines_of}
 use Rattle.ark_cli.specs.Words.{IsRun}

@@ -1,11 +1,11 @@
 -- A closing line alone was put.
-use Rattle.std.proofs.Common.{◌≡◌, inl, inr, ℕ, ◌≤◌, Bool, true, false, List, [], ◌∷◌, ◌++◌, Result, Ok, Err, is_ok, refl, sym, le_of_eq, codes}
+use Rattle.std.proofs.Common.{◌≡◌, inl, inr, ℕ, true, List, [], ◌∷◌, ◌++◌, Result, Ok, Err, is_ok, refl, sym, le_of_eq}
 use Rattle.std.specs.Prelude.{◌⊎◌}
 use Rattle.ark_base.specs.declared.status.Status.TheVariants.{Memory}
-use Rattle.ark_media.specs.Journal.{Event, Out, HasFailed}
-use Rattle.ark_media.specs.Calls.{Told, Beside, Rose, HasCause, Puts, Goes, KeepsAtPut}
+use Rattle.ark_media.specs.Journal.{Out, HasFailed}
+use Rattle.ark_media.specs.Calls.{Told, Beside, Rose, HasCause, Puts, KeepsAtPut}
 use Rattle.ark_media.proofs.Composing.{takes_none}
-use Rattle.ark_cli.specs.Ending.{PutsLine, IsQuiet, closing_words}
+use Rattle.ark_cli.specs.Ending.{IsQuiet, closing_words}
 
 whole : {T E : Type 0} (more : List ℕ) (before now : ℕ) (outcome : Result T E) → (is_ok outcome ≡ true → more ≡ []) → HasCause before now outcome → (more ≡ []) ⊎ Rose before now
 whole more before now (Ok x) all cause = inl (all refl)

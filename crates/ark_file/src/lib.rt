@@ -5,6 +5,6 @@ mod running;
 mod starting;
 mod world;
 
-pub use starting::{program, start};
 pub use running::run;
+pub use starting::{program, start};
 pub use world::{FileHost, FileWorld};

@@ -1,13 +1,13 @@
 -- The laws of a disk that is told by its record, written out. No standard fixes them.
-use Rattle.std.specs.Prelude.{◌≡◌, ◌<◌, ◌==◌, ◌&&◌, ℕ, zero, suc, Bool, true, false, List, [], ◌∷◌, ◌++◌, length, replicate, Option, Some, None, refl}
+use Rattle.std.specs.Prelude.{◌≡◌, ◌==◌, ℕ, zero, suc, Bool, true, false, List, [], ◌∷◌, ◌++◌, length, replicate, Option, Some, None, refl}
 use Rattle.std.proofs.Common.{◌∙◌, subst, le_of_suc-le-suc, not-suc-le-zero}
 use Rattle.std.proofs.lemmas.Bool.{and_parts, and_from, eq-eqb, eqb-true}
 use Rattle.std.proofs.lemmas.List.{length-replicate}
-use Rattle.ark_media.specs.Journal.{Event, History, AllBlocks, block, zero_block}
+use Rattle.ark_media.specs.Journal.{Event, History, AllBlocks, zero_block}
 use Rattle.ark_media.specs.Going.{moves_none, moves_then}
 use Rattle.ark_record.specs.Answer.{Answer, Attached, Made, Got, Gave, Synced, Fetched, Put}
-use Rattle.ark_record.specs.Replay.{Supposed, Past, Model, next_image, are_blocks, is_image, after, replay, model_of}
-use Rattle.ark_record.specs.Watch.{told_if, told_of, told_by, beside_by, GoesOn}
+use Rattle.ark_record.specs.Replay.{Supposed, Past, Model, are_blocks, is_image, after, replay, model_of}
+use Rattle.ark_record.specs.Watch.{told_if, told_by, beside_by, GoesOn}
 
 pub goes_on_none : (p : Past) → GoesOn p [] p
 goes_on_none p = record { supposed = refl; moves = moves_none (told_by p) (beside_by p) }

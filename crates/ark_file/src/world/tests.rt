@@ -69,7 +69,14 @@ fn stays_attached_where_no_other_device_can_be(rt: HostRuntime) -> Result<(), Fa
     let mut host = FileHost::new(rt);
     assert_eq!(rt; host.make(name.as_str(), 130), Ok(130));
     assert_eq!(rt; host.write(0, &[7; 512]), Ok(()));
-    for other in [missing.as_str(), folder.as_str(), "/dev/null", "/dev/full", "", "\0"] {
+    for other in [
+        missing.as_str(),
+        folder.as_str(),
+        "/dev/null",
+        "/dev/full",
+        "",
+        "\0",
+    ] {
         assert_eq!(rt; host.attach(other), Err(AttachFailed), "{other:?}");
     }
     for other in [folder.as_str(), "/dev/null", "/dev/full", "", "\0"] {
@@ -114,7 +121,10 @@ fn passes_errors_of_the_system_on(rt: HostRuntime) -> Result<(), Fail> {
     assert_eq!(rt; write_whole(&mut full, b"ok\n"), Err(SinkFailed));
 
     let mut only_read = OpenOptions::new().read(true).open(&rt, "/dev/null")?;
-    assert_eq!(rt; write_block(Some(&only_read), 0, &[7; 512]), Err(DiskFailed));
+    assert_eq!(rt;
+        write_block(Some(&only_read), 0, &[7; 512]),
+        Err(DiskFailed)
+    );
     assert_eq!(rt; write_whole(&mut only_read, b"ok\n"), Err(SinkFailed));
 
     let mut folder = OpenOptions::new().read(true).open(&rt, "/")?;
@@ -179,14 +189,29 @@ impl Read for Slow {
 
 #[test]
 fn writes_all_and_goes_on_after_a_signal(rt: HostRuntime) {
-    let mut output = Slow { bytes: [0; 4], at: 0, end: 3, signalled: false };
+    let mut output = Slow {
+        bytes: [0; 4],
+        at: 0,
+        end: 3,
+        signalled: false,
+    };
     assert_eq!(rt; write_whole(&mut output, b"ok\n"), Ok(()));
     assert_eq!(rt; output.bytes, *b"ok\n\0");
-    let mut output = Slow { bytes: [0; 4], at: 0, end: 2, signalled: false };
+    let mut output = Slow {
+        bytes: [0; 4],
+        at: 0,
+        end: 2,
+        signalled: false,
+    };
     assert_eq!(rt; write_whole(&mut output, b"ok\n"), Err(SinkFailed));
     assert_eq!(rt; output.bytes, *b"ok\0\0");
 
-    let mut input = Slow { bytes: *b"app\n", at: 0, end: 1, signalled: false };
+    let mut input = Slow {
+        bytes: *b"app\n",
+        at: 0,
+        end: 1,
+        signalled: false,
+    };
     let mut out = [0; 4];
     assert_eq!(rt; read_some(&mut input, &mut out), Ok(1));
     assert_eq!(rt; out, *b"a\0\0\0");

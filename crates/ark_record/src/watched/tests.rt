@@ -92,11 +92,25 @@ fn makes_each_call_once(rt: HostRuntime) {
     let mut world = watched(false);
     let mut out = [0; 4];
     assert_eq!(rt; world.call_attach("old"), Ok(9));
-    assert_eq!(rt; (world.host.calls, world.host.bytes, world.size()), (1, *b"old\0", 9));
+    assert_eq!(rt;
+        (world.host.calls, world.host.bytes, world.size()),
+        (1, *b"old\0", 9)
+    );
     assert_eq!(rt; world.call_make("new", 130), Ok(()));
-    assert_eq!(rt; (world.host.calls, world.host.bytes, world.host.number, world.size()), (2, *b"new\0", 130, 130));
+    assert_eq!(rt;
+        (
+            world.host.calls,
+            world.host.bytes,
+            world.host.number,
+            world.size()
+        ),
+        (2, *b"new\0", 130, 130)
+    );
     assert_eq!(rt; world.call_write(5, &[3; 512]), Ok(()));
-    assert_eq!(rt; (world.host.calls, world.host.number, world.host.block), (3, 5, [3; 512]));
+    assert_eq!(rt;
+        (world.host.calls, world.host.number, world.host.block),
+        (3, 5, [3; 512])
+    );
     assert_eq!(rt; world.call_read(6), Ok([3; 512]));
     assert_eq!(rt; (world.host.calls, world.host.number), (4, 6));
     assert_eq!(rt; world.call_sync(), Ok(()));
