@@ -25,7 +25,7 @@ use Rattle.ark_laws.proofs.Privacy.{own_machine}
 use Rattle.ark_laws.proofs.Setting.{each_found, vsic_raw, rung_left}
 use Rattle.ark_laws.proofs.Contents.{settled_raw}
 
-abbrev Syncs : Move → Type 0
+abbrev pub Syncs : Move → Type 0
 Syncs x = x.calls ≡ syncs ∷ []
 
 -- the area of label l with the content alone
@@ -43,14 +43,14 @@ ended_settles m v l x j js y false is h = absurd cc
 
 -- Moves that make another call.
 
-tried_calls : (now : ℕ) (ok : Bool) (count : ℕ) (m : Machine) (v : List ℕ) (x : Vsic) (j : Job) (js : List Job) (c : Call) → (tried now ok count m v x j js (c ∷ [])).calls ≡ c ∷ []
+pub tried_calls : (now : ℕ) (ok : Bool) (count : ℕ) (m : Machine) (v : List ℕ) (x : Vsic) (j : Job) (js : List Job) (c : Call) → (tried now ok count m v x j js (c ∷ [])).calls ≡ c ∷ []
 tried_calls now ok count m v x j js c = by _ _ _ (ok && nat_lt (x.queue.moved + 1) count)
   where
     by : (k n : Machine) (o : Outcome) (b : Bool) → (cond b (moves k said.Moved (c ∷ [])) (moves n (said.Done o) (c ∷ []))).calls ≡ c ∷ []
     by k n o true = refl
     by k n o false = refl
 
-gated_syncs : (m : Machine) (v : List ℕ) (x : Vsic) (j : Job) (js : List Job) (g : Bool) (next : Move) → Syncs (gated m v x j js g next) → Syncs next
+pub gated_syncs : (m : Machine) (v : List ℕ) (x : Vsic) (j : Job) (js : List Job) (g : Bool) (next : Move) → Syncs (gated m v x j js g next) → Syncs next
 gated_syncs m v x j js g next = by g (is_over_burst x.pace 512) (may_pass x.pace m.now 512)
   where
     by : (a b c : Bool) → Syncs (cond (not a) (ends m v x j js outcome.NoGrant []) (cond b (ends m v x j js outcome.OverBurst []) (cond (not c) (moves m said.Held []) next))) → Syncs next
@@ -66,10 +66,10 @@ transfer_no_sync m t k = by (label_numbered m t.vsa) (t.off + k) (block_of (byte
     by l n bytes true h = cc
     by l n bytes false h = cc
 
-in_no_sync : (l : List ℕ) → reads_in l ∷ [] ≡ syncs ∷ [] → ⊥
+pub in_no_sync : (l : List ℕ) → reads_in l ∷ [] ≡ syncs ∷ [] → ⊥
 in_no_sync l h = cc
 
-out_no_sync : (l : List ℕ) → writes_in l ∷ [] ≡ syncs ∷ [] → ⊥
+pub out_no_sync : (l : List ℕ) → writes_in l ∷ [] ≡ syncs ∷ [] → ⊥
 out_no_sync l h = cc
 
 frame_calls : (m : Machine) (v : List ℕ) (x : Vnic) (own : Option Own) (p : Place) (len : ℕ) (ps : List (Place × ℕ)) (frame : List ℕ) → (frame_moves m v x own p len ps frame).calls ≡ []

@@ -27,6 +27,7 @@ pub mod Rows
 pub mod SendRows
 pub mod Sent
 pub mod Setting
+pub mod SettleSynced
 pub mod Settling
 pub mod Steady
 pub mod Stored

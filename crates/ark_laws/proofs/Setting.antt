@@ -12,13 +12,13 @@ use Rattle.ark_machine.specs.Rates.{rung}
 use Rattle.ark_laws.proofs.Listed.{same_bytes}
 
 -- the object that is found first under a label
-abbrev found_at : List ℕ → List Held → Option Object
+abbrev pub found_at : List ℕ → List Held → Option Object
 found_at l hs = option_map (λ h. h.object) (find (λ h. bytes_eq l h.label) hs)
 
-abbrev set_in : List ℕ → Object → List Held → List Held
+abbrev pub set_in : List ℕ → Object → List Held → List Held
 set_in l o hs = map (λ h. cond (bytes_eq l h.label) (holding o h) h) hs
 
-set_here : (l : List ℕ) (o : Object) (hs : List Held) → found_at l (set_in l o hs) ≡ option_map (λ (x : Object). o) (found_at l hs)
+pub set_here : (l : List ℕ) (o : Object) (hs : List Held) → found_at l (set_in l o hs) ≡ option_map (λ (x : Object). o) (found_at l hs)
 set_here l o [] = refl
 set_here l o (x ∷ xs) = by (set_here l o xs) (bytes_eq l x.label) refl
   where
@@ -27,7 +27,7 @@ set_here l o (x ∷ xs) = by (set_here l o xs) (bytes_eq l x.label) refl
     by rest true is = rw is refl
     by rest false is = rw is rest
 
-set_there : (l d : List ℕ) (o : Object) (hs : List Held) → bytes_eq l d ≡ false → found_at l (set_in d o hs) ≡ found_at l hs
+pub set_there : (l d : List ℕ) (o : Object) (hs : List Held) → bytes_eq l d ≡ false → found_at l (set_in d o hs) ≡ found_at l hs
 set_there l d o [] apart = refl
 set_there l d o (x ∷ xs) apart = by (set_there l d o xs apart) (bytes_eq d x.label) refl
   where

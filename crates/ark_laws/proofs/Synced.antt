@@ -58,7 +58,7 @@ heeds m (w.drop a x) g is h = (_, (called m _ _ syncs h).0)
 heeds m _ g is h = absurd (false≢true is)
 
 -- then each area that it holds has but one content for each block
-settled_is : (o : Option Object) (x : Raw) → option_and_then as_raw (option_map settled o) ≡ Some x → x.maybe ≡ map (λ b. b ∷ []) x.content
+pub settled_is : (o : Option Object) (x : Raw) → option_and_then as_raw (option_map settled o) ≡ Some x → x.maybe ≡ map (λ b. b ∷ []) x.content
 settled_is None x h = absurd cc
 settled_is (Some (Objects.raw y)) x h = subst (λ (z : Raw). z.maybe ≡ map (λ b. b ∷ []) z.content) (the_raw (record y { maybe = map (λ b. b ∷ []) y.content }) x h) refl
   where

@@ -1,18 +1,18 @@
 -- A second frame that is above its card's rate is held; a run that shows it as sent all the same is not confined.
 use Rattle.std.proofs.Common.{◌≡◌, ◌≤◌, ℕ, ◌+◌, ◌*◌, false, List, [], ◌∷◌, ◌++◌, length, codes, length-append, refl, sym, ◌∙◌, ap, arith}
 use Rattle.std.specs.Fmt.{digits}
-use Rattle.std.specs.Prelude.{Ok}
+use Rattle.std.specs.Prelude.{Ok, Some}
 use Rattle.hex.specs.Hex.{lower_digits, encode_with, encode_lower}
 use Rattle.hex.proofs.HexLemmas.{length-encode_with}
 use Rattle.ark_media.specs.Journal.{Event, Out}
-use Rattle.ark_vic.specs.Pace.{Keeps}
 use Rattle.ark_script.specs.Line as w
 use Rattle.ark_script.specs.Text.{text}
 use Rattle.ark_script.specs.declared.said.Said.TheVariants as said
 use Rattle.ark_machine.specs.Row.{answer}
 use Rattle.ark_machine.specs.Step.{step}
 use Rattle.ark_machine.specs.System.{System, fresh_system, line_turn}
-use Rattle.ark_machine.specs.Sending.{IsPacedOut}
+use Rattle.ark_machine.specs.Objects.{Paced}
+use Rattle.ark_machine.specs.Sending.{KeepsWith, IsPacedOut}
 use Rattle.ark_machine.specs.Confined.{IsPartConfined}
 use Rattle.ark_worked.proofs.Playing.{played}
 use Rattle.ark_worked.proofs.Scripts.{quiet}
@@ -45,8 +45,12 @@ shown_length (b ∷ bs) h =
     let m = length-append (encode_lower (b ∷ bs)) (10 ∷ []) in
     omega (arith, h, n, m)
 
-above : (n : ℕ) → Keeps 10 20 ((0, 15) ∷ (0, n) ∷ []) → n ≡ 15 → ⊥
-above n keeps is = let most = keeps 0 0 (omega arith) in absurd (omega (arith, most, is))
+-- the pace of the card, and what the first frame took
+abbrev pace : Paced
+pace = record { rate = codes "q"; q = 10; burst = 20; passes = (0, 15) ∷ [] }
+
+above : (n : ℕ) → KeepsWith (Some pace) ((0, n) ∷ []) → n ≡ 15 → ⊥
+above n keeps is = let most : 15 + (n + 0) ≤ 20 + 10 * 0 = keeps 0 0 (omega arith) in absurd (omega (arith, most, is))
 
 too_much : (sent : List ℕ) → IsPacedOut once (Ok (w.dev a v)) sent → length sent ≡ 15 → ⊥
 unfolding step answer
@@ -57,4 +61,5 @@ unfolding encode_with digits
 text_length = refl
 
 pub second-refused : IsPartConfined once (Ok (w.dev a v)) again → ⊥
+unfolding encode_with digits
 second-refused c = let s = c.sends frame refl in too_much s.0 s.3 (shown_length s.0 (sym (ap (λ (x : List ℕ). length x) s.1) ∙ text_length))
