@@ -72,7 +72,7 @@ in_no_sync l h = cc
 pub out_no_sync : (l : List ℕ) → writes_in l ∷ [] ≡ syncs ∷ [] → ⊥
 out_no_sync l h = cc
 
-frame_calls : (m : Machine) (v : List ℕ) (x : Vnic) (own : Option Own) (p : Place) (len : ℕ) (ps : List (Place × ℕ)) (frame : List ℕ) → (frame_moves m v x own p len ps frame).calls ≡ []
+pub frame_calls : (m : Machine) (v : List ℕ) (x : Vnic) (own : Option Own) (p : Place) (len : ℕ) (ps : List (Place × ℕ)) (frame : List ℕ) → (frame_moves m v x own p len ps frame).calls ≡ []
 frame_calls m v x own p len ps frame = by (is_let_out m v own frame) (is_over_burst x.tx_pace len) (may_pass x.tx_pace m.now len)
   where
     unfit : Move

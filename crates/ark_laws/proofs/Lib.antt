@@ -20,6 +20,7 @@ pub mod Owned
 pub mod Paced
 pub mod Passing
 pub mod Privacy
+pub mod PutWritten
 pub mod Ranks
 pub mod Reaching
 pub mod Refusing

@@ -275,7 +275,8 @@ same_end : (c d : Ended) → ◌≡◌ {A = Option Ended} (Some c) (Some d) → 
 same_end c d h = cc
 
 none_there : (cs : List Call) (i : ℕ) → cs ≡ [] → slice_get cs i ≡ Some syncs → ⊥
-none_there cs i none h = let e : slice_get {A = Call} [] i ≡ Some syncs = subst (λ (l : List Call). slice_get l i ≡ Some syncs) none h in cc (e)
+none_there [] i none h = cc
+none_there (c ∷ cs) i none h = cc
 
 settling_syncs : (es : List Ended) (s : List ℕ) (n : Next) → NextCalls s n → (i : ℕ) (e : Ended) → slice_get (settling es s n).calls i ≡ Some syncs → slice_get es i ≡ Some e → e.ok ≡ true → Settled (settling es s n).machine
 settling_syncs [] s n calls i e at with_end ok = absurd (cc (with_end))

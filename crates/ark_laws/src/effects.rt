@@ -1,5 +1,5 @@
 // Laws of what lines leave: those that fail, those that send, and those that write.
-ghost use Rattle.std.specs.Prelude.{◌≡◌, ◌<◌, ◌⊎◌, ◌||◌, ◌++◌, ℕ, Bool, true, false, List, [], ◌∷◌, Some, Ok, Contains, bytes_eq, length, map, slice_index_or};
+ghost use Rattle.std.specs.Prelude.{◌≡◌, ◌<◌, ◌⊎◌, ◌||◌, ◌++◌, ℕ, Bool, true, false, List, [], ◌∷◌, Some, Ok, Contains, bytes_eq, length, map, slice_get, slice_index_or};
 ghost use Rattle.ark_base.specs.declared.kind.Kind.{Kind};
 ghost use Rattle.ark_base.specs.declared.kind.Outcome.TheVariants as outcome;
 ghost use Rattle.ark_base.specs.declared.refusal.Refusal.TheVariants as r;
@@ -13,7 +13,7 @@ ghost use Rattle.ark_script.specs.declared.said.Said.TheVariants as said;
 ghost use Rattle.ark_machine.specs.Bytes.{padded};
 ghost use Rattle.ark_machine.specs.Objects.{Raw, Vnic, is_vsa};
 ghost use Rattle.ark_machine.specs.Machine.{Machine, object_at, is_so, raw_at, vnic_at};
-ghost use Rattle.ark_machine.specs.Row.{Ended, syncs, synced_by};
+ghost use Rattle.ark_machine.specs.Row.{Ended, syncs, synced_by, writes};
 ghost use Rattle.ark_machine.specs.Areas.{raw_written};
 ghost use Rattle.ark_machine.specs.Plane.{blocks_at, slot_of};
 ghost use Rattle.ark_machine.specs.Granting.{change_of, failed_change};
@@ -23,6 +23,7 @@ ghost use Rattle.ark_machine.specs.Grants.{GrantsApart};
 ghost use Rattle.ark_machine.specs.Sending.{IsLetOut};
 ghost use Rattle.ark_machine.specs.Paced.{StandsPaced};
 ghost use Rattle.ark_machine.specs.Refused.{is_gain, gives_up};
+ghost use Rattle.ark_machine.specs.Labels.{AreLabelled};
 ghost use Rattle.ark_machine.specs.Left.{left_by};
 ghost use Rattle.ark_machine.specs.Frames.{LetsOut, IsCounted};
 
@@ -57,8 +58,9 @@ pub fn stop_laws()
 
 /// What a machine knows of its raw areas follows what is done to them. A write that is tried adds its content to what a stop may
 /// leave of its block, and stands where it took effect; every other block is as it was. A sync that succeeds leaves of each
-/// block its content alone. So it is with the write of a `poke`, with a sync that a move of a card makes, and with one of a
-/// line that grants, opens or drops.
+/// block its content alone. So it is with the write of a `poke` and with that which a move of a card makes for a `put`, where
+/// no label stands twice; and with a sync that a move of a card makes, with one of a line that grants, opens or drops, and with
+/// each that settling a log makes.
 pub fn area_laws()
     ensures tried { (off : ℕ) (block : List ℕ) (took : Bool) (r : Raw) → off < length r.maybe → slice_index_or (raw_written off block took r).maybe off [] ≡ slice_index_or r.maybe off [] ++ block ∷ [] }
     ensures others_tried { (off k : ℕ) (block : List ℕ) (took : Bool) (r : Raw) → (k ≡ off → ⊥) → slice_index_or (raw_written off block took r).maybe k [] ≡ slice_index_or r.maybe k [] }
@@ -69,5 +71,7 @@ pub fn area_laws()
     ensures poked { (s : System) (a l : List ℕ) (off : ℕ) (bytes : List ℕ) (e : Ended) (memory : Bool) (x : Raw) → raw_at (machine_of s a) l ≡ Some x → ((line_turn s (w.poke a l off bytes) (e ∷ []) memory).said ≡ said.Ok) ⊎ ((line_turn s (w.poke a l off bytes) (e ∷ []) memory).said ≡ said.Refused r.DeviceFault) → raw_at (machine_of (line_turn s (w.poke a l off bytes) (e ∷ []) memory).after a) l ≡ Some (raw_written off (padded bytes) e.took x) }
     ensures flushed { (s : System) (a v l : List ℕ) (ends : List Ended) (memory : Bool) (y : Raw) → (line_turn s (w.dev a v) ends memory).calls ≡ syncs ∷ [] → (line_turn s (w.dev a v) ends memory).said ≡ said.Done outcome.Ok → raw_at (machine_of s a) l ≡ Some y → raw_at (machine_of (line_turn s (w.dev a v) ends memory).after a) l ≡ Some (record y { maybe = map (λ b. b ∷ []) y.content }) }
     ensures synced_line { (s : System) (a : List ℕ) (line : Line) (ends : List Ended) (memory : Bool) (e : Ended) → owner line ≡ Some a → (is_gain line || gives_up line) ≡ true → Contains (line_turn s line ends memory).calls syncs → Contains ends e → e.ok ≡ true → e.verb ≡ syncing → (l : List ℕ) (x : Raw) → raw_at (machine_of (line_turn s line ends memory).after a) l ≡ Some x → x.maybe ≡ map (λ b. b ∷ []) x.content }
+    ensures put { (s : System) (a v l : List ℕ) (k : ℕ) (content : List ℕ) (e : Ended) (memory : Bool) (x : Raw) → AreLabelled (machine_of s a) → raw_at (machine_of s a) l ≡ Some x → (line_turn s (w.dev a v) (e ∷ []) memory).calls ≡ writes l k content ∷ [] → raw_at (machine_of (line_turn s (w.dev a v) (e ∷ []) memory).after a) l ≡ Some (raw_written k content e.took x) }
+    ensures settle_synced { (s : System) (a b : List ℕ) (ends : List Ended) (memory : Bool) (i : ℕ) (e : Ended) → slice_get (line_turn s (w.settle a b) ends memory).calls i ≡ Some syncs → slice_get ends i ≡ Some e → e.ok ≡ true → (l : List ℕ) (x : Raw) → raw_at (machine_of (line_turn s (w.settle a b) ends memory).after a) l ≡ Some x → x.maybe ≡ map (λ b. b ∷ []) x.content }
     ensures settled { (x : Raw) (k : ℕ) → k < length x.content → slice_index_or (map (λ b. b ∷ []) x.content) k [] ≡ slice_index_or x.content k [] ∷ [] }
 {}

@@ -1,6 +1,8 @@
 use Rattle.std.proofs.Common.{refl}
 use Rattle.ark_laws.proofs.Contents.{tried_may, other_may, taken_stands, other_stands, synced_may, poked_may, settled_may}
 use Rattle.ark_laws.proofs.Flushing.{flushed_may}
+use Rattle.ark_laws.proofs.PutWritten.{put_may}
+use Rattle.ark_laws.proofs.SettleSynced.{settle_may}
 use Rattle.ark_laws.proofs.Synced.{synced_line}
 use Rattle.ark_laws.proofs.effects.area_laws.Goals as goal
 
@@ -15,5 +17,7 @@ returns c = record {
   poked = poked_may;
   flushed = flushed_may;
   synced_line = synced_line;
+  put = put_may;
+  settle_synced = settle_may;
   settled = settled_may;
 }
