@@ -52,7 +52,7 @@ pub record Paced : Type 0 where
 pub record Vsic : Type 0 where
   pub size : ℕ
   pub queue : Queue Job (Job × Outcome)
-  -- the areas, by the numbers of their objects, that descriptors may name
+  -- the areas, by the numbers of their objects, that descriptors may name; while a log is open on the card, its number too
   pub bound : List ℕ
   pub pace : Option Paced
   pub door : Option (List ℕ)
