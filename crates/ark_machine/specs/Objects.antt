@@ -166,7 +166,7 @@ buffer_frames b = (b.start, frames_of (length b.bytes))
 
 abbrev pub opened_frames : Option Opened → List Frames
 opened_frames None = []
-opened_frames (Some o) = (o.header, 1) ∷ flat_map (λ w. w.room) o.waiting
+opened_frames (Some o) = (o.header_frame, 1) ∷ flat_map (λ w. w.room) o.waiting
 
 abbrev pub place_frames : Place → List Frames
 place_frames (named b) = []
