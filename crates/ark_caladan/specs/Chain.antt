@@ -61,7 +61,8 @@ pub record Waiting : Type 0 where
 pub record Opened : Type 0 where
   pub card : List ℕ
   pub failed : Bool
-  pub header : ℕ
+  -- the frame of the application's region in which the header's block stands
+  pub header_frame : ℕ
   pub waiting : List Waiting
   -- how many phases of the oldest are finished and polled
   pub done : ℕ
@@ -70,6 +71,7 @@ pub record Opened : Type 0 where
 
 pub record Log : Type 0 where
   pub kind : Kind
+  -- of its area, with the header's
   pub blocks : ℕ
   pub list : Found
   pub opened : Option Opened

@@ -88,7 +88,7 @@ pub record IsOpened (x : Around) (grant : ℕ) (k : ChainKept) (o : Opened) : Ty
   pub card : Names x o.card cap_kind.Vsic k.card
   pub on : option_and_then (λ card. card.log) (x.tables.cards k.card) ≡ Some grant
   pub failed : k.failed ≡ o.failed
-  pub header : IsRoom x k.header (o.header, 1)
+  pub header : IsRoom x k.header (o.header_frame, 1)
   pub waiting : Each (IsWaiting x) k.waiting o.waiting
   pub done : k.done ≡ o.done
 

@@ -19,7 +19,7 @@ use Rattle.ark_machine.specs.Control.{lets_go, is_in_use}
 use Rattle.ark_machine.specs.Plane.{Plane, LiveFilter, Change}
 use Rattle.ark_machine.specs.Granting.{is_filter_of, is_on, assigned, changed, change_of}
 use Rattle.ark_machine.specs.Step.{step}
-use Rattle.ark_machine.specs.Follow.{Follow, ended, fails, goes_on, again, passes, ends_of}
+use Rattle.ark_machine.specs.Follow.{Follows, Follow, ended, fails, goes_on, again, passes, ends_of}
 use Rattle.ark_machine.specs.System.{System, listed_machine, set_machine, machine_of, own_turn}
 use Rattle.ark_machine.specs.Filters.{as_assigned, held_at, listed_at, EachOnce, FiltersAgree}
 use Rattle.ark_laws.proofs.Listed.{same_bytes, bytes_eq-same, set_there as machine_there}
@@ -233,7 +233,7 @@ module _ (s : System) (a x : List ℕ) (g : Given) (h : FiltersAgree s) where
           (λ b apart. machine_there s.machines s.now b a row.machine apart) refl (changed_filters s.plane (change_of s.plane m (w.drop a x)))
 
 -- only an area that is dropped calls the device
-none_made : {s : System} {a : List ℕ} {line : Line} {cs : List Call} {es : List Event} → cs ≡ [] → Follow s a line cs es → es ≡ []
+none_made : {M : Call → Event → Type 0} {cs : List Call} {es : List Event} → cs ≡ [] → Follows M cs es → es ≡ []
 none_made is ended = refl
 none_made is (fails makes bad) = absurd cc
 none_made is (goes_on makes good once more) = absurd cc

@@ -25,7 +25,7 @@ use Rattle.ark_machine.specs.System.{System, machine_of, owner, takes, quiet_tur
 use Rattle.ark_machine.specs.Built.{turn, is_built, so_far}
 use Rattle.ark_machine.specs.Follow.{ends_of}
 use Rattle.ark_machine.specs.Replies.{turn_for, has_lacked, Answers}
-use Rattle.ark_machine.specs.Sending.{KeepsWith, tx_pace_at, rx_pace_at, FrameWithin, IsLetOut, IsPacedOut, SendsWithin, taker, IsLetIn, IsDelivered, DeliversWithin}
+use Rattle.ark_machine.specs.Sending.{KeepsWith, tx_pace_at, rx_pace_at, FrameWithin, IsLetOut, IsPacedOut, SendsWithin, IsLetIn, IsDelivered, DeliversWithin}
 use Rattle.ark_machine.specs.Frames.{IsCounted}
 use Rattle.ark_machine.specs.Paced.{IsPacedAt, MachinePacedAt, StandsPaced}
 use Rattle.ark_laws.proofs.Paced.{VnicPaced, vnic_at_paced}

@@ -71,11 +71,11 @@ plane_apart p m line _ h room = h
 
 -- A new area is granted only where a slot is free.
 
-when_none : (b : Bool) (x : Refusal) (later : Option Refusal) → when b x later ≡ None → (b ≡ false) × (later ≡ None)
+pub when_none : (b : Bool) (x : Refusal) (later : Option Refusal) → when b x later ≡ None → (b ≡ false) × (later ≡ None)
 when_none true x later h = absurd cc
 when_none false x later h = (refl, h)
 
-when_some_none : {A : Type 0} (o : Option A) (f : A → Refusal) (later : Option Refusal) → when_some o f later ≡ None → later ≡ None
+pub when_some_none : {A : Type 0} (o : Option A) (f : A → Refusal) (later : Option Refusal) → when_some o f later ≡ None → later ≡ None
 when_some_none (Some x) f later h = absurd cc
 when_some_none None f later h = h
 

@@ -3,7 +3,7 @@ use Rattle.std.proofs.Common.{◌≡◌, ◌≤◌, ℕ, Bool, true, false, not,
 use Rattle.std.proofs.lemmas.Bool.{and_parts, false≢true}
 use Rattle.std.proofs.lemmas.List.{length-take, length-take-le}
 use Rattle.std.proofs.lemmas.List.Folds.{Any-from_list_any}
-use Rattle.std.specs.Prelude.{Option, Some, None, Ok, IsTrue, Contains, option_and_then, bytes_eq}
+use Rattle.std.specs.Prelude.{Option, Some, None, Ok, IsTrue, Contains, option_map, option_and_then, unwrap_or, bytes_eq}
 use Rattle.ark_base.specs.Conditions.{Conditions, early, late}
 use Rattle.ark_base.specs.declared.kind.Outcome.TheVariants as outcome
 use Rattle.ark_base.specs.declared.refusal.Refusal.{Refusal}
@@ -26,7 +26,7 @@ use Rattle.ark_machine.specs.Plane.{recorded}
 use Rattle.ark_machine.specs.Step.{step}
 use Rattle.ark_machine.specs.System.{System, machine_of, line_turn}
 use Rattle.ark_machine.specs.Sending.{IsLetOut, tx_pace_at}
-use Rattle.ark_machine.specs.Frames.{LetsOut, IsCounted}
+use Rattle.ark_machine.specs.Frames.{LetsOut, frames_at, FramesThere, IsCounted}
 use Rattle.ark_laws.proofs.Listed.{same_bytes}
 use Rattle.ark_laws.proofs.Privacy.{own_machine}
 use Rattle.ark_laws.proofs.Setting.{vnic_set, rung_left}
@@ -146,3 +146,13 @@ pub sent_counted : (s : System) (a v : List ℕ) (ends : List Ended) (memory : B
 sent_counted s a v ends memory x at h =
     let g : Given = recorded s.plane (w.dev a v) ends memory in
     subst (λ (n : Machine). IsCounted (machine_of s a) v x (step (machine_of s a) (w.dev a v) g).bytes n) (sym (own_machine s a (w.dev a v) g)) (dev_counted a v (machine_of s a) g x at h)
+
+-- exactly so many bytes as went out, where what is posted is there
+pub sent_exactly : (s : System) (a v : List ℕ) (ends : List Ended) (memory : Bool) (x : Vnic) → FramesThere (machine_of s a) → vnic_at (machine_of s a) v ≡ Some x → (line_turn s (w.dev a v) ends memory).said ≡ said.Sent
+    → tx_pace_at (machine_of (line_turn s (w.dev a v) ends memory).after a) v ≡ passed (machine_of s a).now (length (line_turn s (w.dev a v) ends memory).bytes) x.tx_pace
+sent_exactly s a v ends memory x there at h =
+    let c : IsCounted (machine_of s a) v x (line_turn s (w.dev a v) ends memory).bytes (machine_of (line_turn s (w.dev a v) ends memory).after a) = sent_counted s a v ends memory x at h in
+    let posted : Contains (frames_at (machine_of s a) v) (c.place, c.len) =
+    subst (λ o. Contains (unwrap_or (option_map (λ (y : Vnic). y.tx.posted) o) []) (c.place, c.len)) (sym at) (subst (λ (ps : List (Place × ℕ)). Contains ps (c.place, c.len)) (sym c.oldest) (0, omega arith, refl)) in
+    let same : length (line_turn s (w.dev a v) ends memory).bytes ≡ c.len = c.exact (there v (c.place, c.len) posted) in
+    c.pace ∙ ap (λ (n : ℕ). passed (machine_of s a).now n x.tx_pace) (sym same)

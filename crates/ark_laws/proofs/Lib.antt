@@ -8,9 +8,12 @@ pub mod Early
 pub mod Faults
 pub mod Flushing
 pub mod Following
+pub mod FramesKept
+pub mod FramesThere
 pub mod FramesWithin
 pub mod Framing
 pub mod Granted
+pub mod Growing
 pub mod Keeping
 pub mod Labels
 pub mod Leading

@@ -47,7 +47,7 @@ each_found f l (x ∷ xs) =
 
 -- Objects of one kind, as `p` tells them.
 
-kind_set : {X : Type 0} (p : Object → Option X) (m : Machine) (l : List ℕ) (o : Object) (x y : X) → option_and_then p (object_at m l) ≡ Some x → p o ≡ Some y → option_and_then p (object_at (with_object m l o) l) ≡ Some y
+pub kind_set : {X : Type 0} (p : Object → Option X) (m : Machine) (l : List ℕ) (o : Object) (x y : X) → option_and_then p (object_at m l) ≡ Some x → p o ≡ Some y → option_and_then p (object_at (with_object m l o) l) ≡ Some y
 kind_set {X = X} p m l o x y is new = ap (λ q. option_and_then p q) (set_here l o m.held) ∙ by (object_at m l) is
   where
     by : (q : Option Object) → option_and_then p q ≡ Some x → option_and_then p (option_map (λ (z : Object). o) q) ≡ Some y
@@ -55,7 +55,7 @@ kind_set {X = X} p m l o x y is new = ap (λ q. option_and_then p q) (set_here l
     by (Some z) h = new
 
 -- one that is set in the place of one, neither of the kind, leaves those of the kind
-kind_left : {X : Type 0} (p : Object → Option X) (m : Machine) (l d : List ℕ) (o : Object) → option_and_then p (object_at m d) ≡ None → p o ≡ None → option_and_then p (object_at (with_object m d o) l) ≡ option_and_then p (object_at m l)
+pub kind_left : {X : Type 0} (p : Object → Option X) (m : Machine) (l d : List ℕ) (o : Object) → option_and_then p (object_at m d) ≡ None → p o ≡ None → option_and_then p (object_at (with_object m d o) l) ≡ option_and_then p (object_at m l)
 kind_left {X = X} p m l d o old new = by (bytes_eq l d) refl
   where
     none : (q : Option Object) → option_and_then p (option_map (λ (z : Object). o) q) ≡ None
@@ -77,7 +77,7 @@ raw_set m l f x is =
     subst (λ o. raw_at (unwrap_or (option_map (λ y. with_object m l (Objects.raw (f y))) o) m) l ≡ Some (f x)) (sym is) (kind_set as_raw m l (Objects.raw (f x)) x (f x) is refl)
 
 -- a storage card is no area
-vsic_alone : {X : Type 0} (p : Object → Option X) → ((x : Vsic) → p (Objects.vsic x) ≡ None) → (o : Option Object) (x : Vsic) → option_and_then as_vsic o ≡ Some x → option_and_then p o ≡ None
+pub vsic_alone : {X : Type 0} (p : Object → Option X) → ((x : Vsic) → p (Objects.vsic x) ≡ None) → (o : Option Object) (x : Vsic) → option_and_then as_vsic o ≡ Some x → option_and_then p o ≡ None
 vsic_alone p lacks None x h = refl
 vsic_alone p lacks (Some (Objects.vsic y)) x h = lacks y
 vsic_alone p lacks (Some _) x h = absurd cc

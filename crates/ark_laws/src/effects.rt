@@ -17,15 +17,17 @@ ghost use Rattle.ark_machine.specs.Row.{Ended, syncs, synced_by, writes};
 ghost use Rattle.ark_machine.specs.Areas.{raw_written};
 ghost use Rattle.ark_machine.specs.Plane.{blocks_at, slot_of};
 ghost use Rattle.ark_machine.specs.Granting.{change_of, failed_change};
-ghost use Rattle.ark_machine.specs.System.{System, machine_of, set_machine, owner, line_turn};
+ghost use Rattle.ark_machine.specs.Rates.{passed};
+ghost use Rattle.ark_machine.specs.Start.{start_system};
+ghost use Rattle.ark_machine.specs.System.{System, fresh_system, machine_of, set_machine, owner, line_turn};
 ghost use Rattle.ark_machine.specs.Confined.{AllAllowed};
 ghost use Rattle.ark_machine.specs.Grants.{GrantsApart};
-ghost use Rattle.ark_machine.specs.Sending.{IsLetOut};
+ghost use Rattle.ark_machine.specs.Sending.{IsLetOut, tx_pace_at};
 ghost use Rattle.ark_machine.specs.Paced.{StandsPaced};
 ghost use Rattle.ark_machine.specs.Refused.{is_gain, gives_up};
 ghost use Rattle.ark_machine.specs.Labels.{AreLabelled};
 ghost use Rattle.ark_machine.specs.Left.{left_by};
-ghost use Rattle.ark_machine.specs.Frames.{LetsOut, IsCounted};
+ghost use Rattle.ark_machine.specs.Frames.{LetsOut, FramesThere, IsCounted};
 
 /// A line that is refused because a device call failed leaves the rest of the system as it was, but for what a failed change of
 /// the table leaves of the plane, and for what the line leaves of its application's machine. Where the line asked for such a
@@ -42,11 +44,16 @@ pub fn failure_laws()
 {}
 
 /// A frame that goes out is let out by a filter that its application holds. The rate of the card's transmit queue counts it at
-/// the machine's tick, which is the system's, with no fewer bytes than went out.
+/// the machine's tick, which is the system's, with exactly so many bytes as went out, where the frames that are posted stand whole
+/// in their buffers. So they do at the start of a run, on a fresh device or a stored one, and after each line if before it.
 pub fn frame_laws()
     ensures let_out { (s : System) (a v frame : List ℕ) → IsLetOut s (Ok (w.dev a v)) frame → LetsOut s a v frame }
     ensures tick { (s : System) (a : List ℕ) → StandsPaced s → (machine_of s a).now ≡ s.now }
     ensures counted { (s : System) (a v : List ℕ) (ends : List Ended) (memory : Bool) (x : Vnic) → vnic_at (machine_of s a) v ≡ Some x → (line_turn s (w.dev a v) ends memory).said ≡ said.Sent → IsCounted (machine_of s a) v x (line_turn s (w.dev a v) ends memory).bytes (machine_of (line_turn s (w.dev a v) ends memory).after a) }
+    ensures counted_exactly { (s : System) (a v : List ℕ) (ends : List Ended) (memory : Bool) (x : Vnic) → FramesThere (machine_of s a) → vnic_at (machine_of s a) v ≡ Some x → (line_turn s (w.dev a v) ends memory).said ≡ said.Sent → tx_pace_at (machine_of (line_turn s (w.dev a v) ends memory).after a) v ≡ passed (machine_of s a).now (length (line_turn s (w.dev a v) ends memory).bytes) x.tx_pace }
+    ensures posted_fresh { (size : ℕ) (a : List ℕ) → FramesThere (machine_of (fresh_system size) a) }
+    ensures posted_stored { (image : List (List ℕ)) (slots : List Slot) (a : List ℕ) → FramesThere (machine_of (start_system image slots) a) }
+    ensures posted_kept { (s : System) (line : Line) (ends : List Ended) (memory : Bool) (a : List ℕ) → FramesThere (machine_of s a) → FramesThere (machine_of (line_turn s line ends memory).after a) }
 {}
 
 /// What a stop may leave of a block of another application's area is no more after the device events of a line than before,

@@ -1,4 +1,4 @@
--- What a line leaves of its machine where a device call failed. Ours.
+-- What a line leaves of its machine where a device call failed.
 use Rattle.std.specs.Prelude.{List}
 use Rattle.ark_script.specs.Line as w
 use Rattle.ark_script.specs.Line.{Line}

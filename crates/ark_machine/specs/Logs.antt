@@ -53,7 +53,7 @@ abbrev pub opening : List ℕ → Option ℕ → Log → Log
 opening v (Some start) g = record g {
   list = stored g;
   left = None;
-  opened = Some (record { card = v; failed = false; header = start; waiting = []; done = 0; decided = false });
+  opened = Some (record { card = v; failed = false; header_frame = start; waiting = []; done = 0; decided = false });
 }
 opening v None g = g
 

@@ -52,7 +52,7 @@ pub record Paced : Type 0 where
 pub record Vsic : Type 0 where
   pub size : ℕ
   pub queue : Queue Job (Job × Outcome)
-  -- the areas, by the numbers of their objects, that descriptors may name
+  -- the areas, by the numbers of their objects, that descriptors may name; while a log is open on the card, its number too
   pub bound : List ℕ
   pub pace : Option Paced
   pub door : Option (List ℕ)
@@ -166,7 +166,7 @@ buffer_frames b = (b.start, frames_of (length b.bytes))
 
 abbrev pub opened_frames : Option Opened → List Frames
 opened_frames None = []
-opened_frames (Some o) = (o.header, 1) ∷ flat_map (λ w. w.room) o.waiting
+opened_frames (Some o) = (o.header_frame, 1) ∷ flat_map (λ w. w.room) o.waiting
 
 abbrev pub place_frames : Place → List Frames
 place_frames (named b) = []

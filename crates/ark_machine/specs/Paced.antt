@@ -1,4 +1,4 @@
--- What holds of rates from the start of a run on: each queue keeps its rate, and nothing has passed in the time to come. Ours.
+-- What holds of rates from the start of a run on: each queue keeps its rate, and nothing has passed in the time to come.
 use Rattle.std.specs.Prelude.{◌≡◌, ℕ, List, Option, Some, None}
 use Rattle.std.specs.List.{AllByRecursion}
 use Rattle.ark_vic.specs.Pace.{Keeps, NoneAfter}

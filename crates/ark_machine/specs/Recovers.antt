@@ -1,4 +1,5 @@
--- What a stop leaves of every grant: the table, each log and queue, and each block of a raw area. Ours.
+-- What a stop leaves of every grant: the table, each log and queue, and each block of a raw area. `Recovers` takes any change of the
+-- table for the one that was begun; `RunRecovers` says it of a run, with the change that its next line began.
 use Rattle.std.specs.Prelude.{◌≡◌, ◌⊎◌, ℕ, Bool, false, ◌||◌, List, [], ◌∷◌, ◌++◌, slice_get, slice_index_or, ◌==◌, if◌then◌else◌, Option, Some, None, option_map, option_and_then, unwrap_or, Ok, Err, Contains, Any}
 use Rattle.std.specs.List.{list_any}
 use Rattle.ark_base.specs.declared.kind.Kind.{Kind}
@@ -117,8 +118,8 @@ ContentStands s c rest image t kind.Raw = BlocksStand s c rest image t
 ContentStands s c rest image t kind.Log = LogStands s c image t
 ContentStands s c rest image t kind.Queue = LogStands s c image t
 
--- An image that a stop leaves, by the system after the whole parts, the change that the next line began, and the events of
--- the unfinished part.
+-- An image that a stop leaves, by the system after the whole parts, the change that is said to have begun, and the events of the
+-- unfinished part.
 pub record Recovers (s : System) (c : Option Change) (rest : List Event) (image : List (List ℕ)) : Type 0 where
   pub slots : List Slot
   pub readable : slots_of image ≡ Ok slots

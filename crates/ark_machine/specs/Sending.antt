@@ -1,5 +1,5 @@
 -- The rates that queues keep, what passes them in a line, and the frames that go out and come in.
-use Rattle.std.specs.Prelude.{◌≡◌, ℕ, List, [], ◌∷◌, ◌++◌, length, IsTrue, Option, Some, None, option_and_then, find, Ok}
+use Rattle.std.specs.Prelude.{◌≡◌, ℕ, List, [], ◌∷◌, ◌++◌, length, IsTrue, Option, Some, None, option_and_then, Ok}
 use Rattle.std.specs.List.{AllByRecursion}
 use Rattle.ark_media.specs.Journal.{Event, Read, Write, Sync, Out}
 use Rattle.ark_vic.specs.Pace.{Pass, Keeps}
@@ -14,7 +14,8 @@ use Rattle.ark_machine.specs.Machine.{Machine, Held, vsic_at, vnic_at}
 use Rattle.ark_machine.specs.Network.{is_let_out}
 use Rattle.ark_machine.specs.Logs.{card_of}
 use Rattle.ark_machine.specs.Plane.{LiveFilter}
-use Rattle.ark_machine.specs.System.{System, machine_of, takes}
+use Rattle.ark_machine.specs.System.{System, machine_of}
+use Rattle.ark_machine.specs.Private.{taker}
 
 -- the passes of a queue keep the law of its rate
 abbrev pub KeepsRate : Option Paced → Type 0
@@ -96,15 +97,11 @@ IsPacedOut s _ frame = ⊥
 abbrev pub SendsWithin : System → Meaning → List ℕ → Type 0
 SendsWithin s m output = (frame : List ℕ) → output ≡ text said.Sent frame → (sent : List ℕ) × (output ≡ text said.Sent sent) × IsLetOut s m sent × IsPacedOut s m sent
 
--- the receive filter that takes a frame, where this end has its addresses
-abbrev pub taker : System → List ℕ → Option LiveFilter
-taker s frame = option_and_then (λ own. find (λ f. takes own frame f) s.plane.filters) s.plane.own
-
 -- A frame comes to card v of application a: a receive filter that is assigned to the card takes it, and it is within the rate
 -- of the card's receive queue.
 pub record IsLetIn (s : System) (a v frame : List ℕ) : Type 0 where
   pub filter : LiveFilter
-  pub takes : taker s frame ≡ Some filter
+  pub takes : taker s frame s.plane.own ≡ Some filter
   pub owner : filter.owner ≡ a
   pub card : filter.card ≡ Some v
   pub paced : FrameWithin (rx_pace_at (machine_of s a) v) s.now frame

@@ -9,11 +9,14 @@ use Rattle.ark_machine.specs.Row.{answer}
 use Rattle.ark_machine.specs.Step.{step}
 use Rattle.ark_machine.specs.System.{System, Turn, fresh_system, machine_of, line_turn}
 use Rattle.ark_machine.specs.Sending.{tx_pace_at}
-use Rattle.ark_machine.specs.Frames.{LetsOut, IsCounted}
-use Rattle.ark_worked.proofs.Playing.{played}
+use Rattle.ark_machine.specs.Follow.{ends_of}
+use Rattle.ark_machine.specs.Rates.{passed}
+use Rattle.ark_machine.specs.Frames.{LetsOut, FramesThere, IsCounted}
+use Rattle.ark_worked.proofs.Playing.{Played, turn_played, played}
 use Rattle.ark_worked.proofs.Sending.{paced, sends}
 use Rattle.ark_laws.proofs.Sent.{line_sends}
-use Rattle.ark_laws.proofs.Letting.{let_out_by_filter, sent_counted}
+use Rattle.ark_laws.proofs.FramesKept.{fresh_there, line_there}
+use Rattle.ark_laws.proofs.Letting.{let_out_by_filter, sent_counted, sent_exactly}
 
 abbrev a : List ℕ
 a = codes "a"
@@ -54,6 +57,13 @@ has_card = refl
 
 pub goes-counted : IsCounted (machine_of before a) n card goes.bytes (machine_of goes.after a)
 goes-counted = sent_counted before a n [] false card has_card goes-sent
+
+played_there : (t : System) (ps : List Played) → FramesThere (machine_of t a) → FramesThere (machine_of (played t ps) a)
+played_there t [] h = h
+played_there t (p ∷ ps) h = played_there (turn_played t p).after ps (line_there t p.0 (ends_of p.1) false a h)
+
+pub goes-counted_exactly : tx_pace_at (machine_of goes.after a) n ≡ passed (machine_of before a).now (length goes.bytes) card.tx_pace
+goes-counted_exactly = sent_exactly before a n [] false card (played_there (fresh_system 200) (paced ++ (sends (codes "b1") 200 ∷ [])) (fresh_there 200 a)) has_card goes-sent
 
 pub goes-pace : tx_pace_at (machine_of goes.after a) n ≡ Some (pace ((0, 200) ∷ []))
 unfolding step answer

@@ -1,0 +1,400 @@
+-- Every line keeps the frames that are posted to transmit whole in their buffers.
+use Rattle.std.proofs.Common.{◌≡◌, ◌≤◌, ◌⊎◌, inl, inr, ℕ, zero, suc, ◌+◌, Bool, true, false, not, ◌&&◌, ◌||◌, List, [], ◌∷◌, ◌++◌, length, map, take, refl, sym, ◌∙◌, ap, subst, arith, cond}
+use Rattle.std.proofs.lemmas.Bool.{false≢true}
+use Rattle.std.proofs.lemmas.Bool.Decides.{nat_tests}
+use Rattle.std.proofs.lemmas.List.Elements.{Contains-append_cases}
+use Rattle.std.specs.Prelude.{Option, Some, None, is_some, is_none, option_map, option_and_then, find, unwrap_or, bytes_eq, nat_lt, Contains, Result, Ok, Err}
+use Rattle.std.specs.List.{AllByRecursion, list_any}
+use Rattle.ark_base.specs.Conditions.{Conditions, early, late, when, when_some}
+use Rattle.ark_base.specs.declared.kind.Kind.{Kind}
+use Rattle.ark_base.specs.declared.kind.Kind.TheVariants as kind
+use Rattle.ark_base.specs.declared.kind.Outcome.{Outcome}
+use Rattle.ark_base.specs.declared.refusal.Refusal.{Refusal}
+use Rattle.ark_base.specs.declared.refusal.Refusal.TheVariants as r
+use Rattle.ark_packet.specs.Frame.{packet_in}
+use Rattle.ark_packet.specs.Udp as udp
+use Rattle.ark_packet.specs.Udp.{datagram_in}
+use Rattle.ark_packet.specs.declared.own.Own.{Own}
+use Rattle.ark_packet.specs.declared.udp.Bad.{Bad}
+use Rattle.ark_filters.specs.declared.filter.Direction.{Direction}
+use Rattle.ark_filters.specs.declared.filter.Direction.TheVariants as direction
+use Rattle.ark_filters.specs.declared.filter.Filter.{Filter}
+use Rattle.ark_vic.specs.declared.door.Counts.{Counts}
+use Rattle.ark_table.specs.Slots.{Slot}
+use Rattle.ark_script.specs.Line as w
+use Rattle.ark_script.specs.Line.{Line}
+use Rattle.ark_script.specs.declared.step.Side.{Side}
+use Rattle.ark_script.specs.declared.step.Side.TheVariants as side
+use Rattle.ark_machine.specs.Bytes.{padded}
+use Rattle.ark_machine.specs.Objects
+use Rattle.ark_machine.specs.Objects.{Object, Vnic, Place, Paced, Job, Datagram, as_filter, is_buffer}
+use Rattle.ark_machine.specs.Machine.{Machine, Held, unmade, at, object_at, door_at, vnic_at, filter_at, serial_at, bytes_at, is_so, holds_any, missing, with_object, each_object, without, with_vnic, with_log, room_for}
+use Rattle.ark_machine.specs.Row.{Row, Given, Ended, says, synced, synced_by, has_fault, is_sync, answer, unless_refused}
+use Rattle.ark_machine.specs.Control.{lets_go}
+use Rattle.ark_machine.specs.Areas.{new_area, grown, raw_written, block_written}
+use Rattle.ark_machine.specs.Buffers.{job_has, place_has, has_buffer, is_lent, with_new_buffer}
+use Rattle.ark_machine.specs.Rates.{no_rings, pace_of, with_pace, with_door}
+use Rattle.ark_machine.specs.Cards.{reap_oldest, unreaped_at}
+use Rattle.ark_machine.specs.Network.{bytes_in, is_socketed, posting_rx, posting_tx, take_received, take_sent, take_oldest, received_at, sent_at, assigned_to, arrive}
+use Rattle.ark_machine.specs.Sockets.{with_buffers, socketed_at, with_socket_card, card_places, card_at, tx_reaped, sent_reaped, posted_at, framed, frame_frames, send_reaped, has_port, delivered, with_datagram, with_received, all_received, rx_reaped, unreaped_rx, pulled, give_oldest, datagrams_at, max_datagrams}
+use Rattle.ark_machine.specs.Logs.{opening, opened_on, opened_machine, found_in, damage_of, closing, card_of}
+use Rattle.ark_machine.specs.Devices.{card_moves}
+use Rattle.ark_machine.specs.Step.{step, ticked}
+use Rattle.ark_machine.specs.System.{System, fresh_system, listed_machine, machine_of, line_turn}
+use Rattle.ark_machine.specs.Private.{Play, Input, asks, comes, passes, inputs_of, private_row, private_machine}
+use Rattle.ark_machine.specs.Start.{view, stored_area, with_slot, with_stored, all_stored, start_system}
+use Rattle.ark_machine.specs.Frames.{frames_at, IsThere, FramesThere}
+use Rattle.ark_machine.proofs.Grants.{or_false, clash}
+use Rattle.ark_laws.proofs.Listed.{same_bytes, bytes_eq-same}
+use Rattle.ark_laws.proofs.Privacy.{machine_private}
+use Rattle.ark_laws.proofs.Granted.{when_none, when_some_none, kind_and_limit}
+use Rattle.ark_laws.proofs.Growing.{size_in, frames_in, Grows, grown_there, same_grows, then_grows, cond_grows, plain_grows, door_is, vsic_grows, log_grows, raw_grows, socket_grows, vnic_grows, each_grows, synced_grows, new_grows, without_grows, without_at}
+use Rattle.ark_laws.proofs.FramesThere.{bytes_grow, opened_grows, polled_grows, settles_grow, card_grows, arrive_grows}
+
+-- Rows.
+
+answer_there : (m : Machine) (c : Conditions) (row : Row) → FramesThere m → (early c ≡ None → FramesThere row.machine) → FramesThere (answer m c row).machine
+unfolding answer
+answer_there m c row h there = by (early c) (late c) refl
+  where
+    by : (one two : Option Refusal) → early c ≡ one → FramesThere (unless_refused one two m row).machine
+    by (Some x) two is = h
+    by None (Some x) is = there is
+    by None None is = there is
+
+grown_row : (m : Machine) (c : Conditions) (row : Row) → FramesThere m → Grows m row.machine → FramesThere (answer m c row).machine
+grown_row m c row h g = answer_there m c row h (λ is. grown_there g h)
+
+-- the conditions that come before none
+range_and_lent : (c : Conditions) → early c ≡ None → (c.out_of_range ≡ false) × (c.lent ≡ false)
+range_and_lent c h =
+    let a = when_none c.too_long r.TooLong _ h in
+    let b = when_none c.unknown_word r.UnknownWord _ a.1 in
+    let d = when_none c.syntax_fault r.Syntax _ b.1 in
+    let e = when_none c.no_application r.NoApplication _ d.1 in
+    let f = when_none c.name_taken r.NameTaken _ e.1 in
+    let g = when_some_none c.no_grant (λ l. r.NoGrant l) _ f.1 in
+    let i = when_none c.wrong_kind r.WrongKind _ g in
+    let j = when_none c.limit r.Limit _ i.1 in
+    let k = when_none c.no_nic r.NoNic _ j.1 in
+    let l = when_none c.out_of_range r.OutOfRange _ k.1 in
+    let n = when_none c.table_failed r.TableFailed _ l.1 in
+    let o = when_none c.log_failed r.LogFailed _ n.1 in
+    let p = when_none c.busy r.Busy _ o.1 in
+    (l.0, (when_none c.lent r.Lent _ p.1).0)
+
+-- by what was asked of the kind, the range and the buffers
+asked_row : (m : Machine) (c : Conditions) (row : Row) → FramesThere m → (c.wrong_kind ≡ false → c.out_of_range ≡ false → c.lent ≡ false → FramesThere row.machine) → FramesThere (answer m c row).machine
+asked_row m c row h there = answer_there m c row h (λ is. there (kind_and_limit c is).0 (range_and_lent c is).0 (range_and_lent c is).1)
+
+area_frames : (k : Kind) (n : ℕ) → frames_in (Some (new_area k n)) ≡ []
+area_frames kind.Raw n = refl
+area_frames kind.Log n = refl
+area_frames kind.Queue n = refl
+
+synced_after : {m k : Machine} (ends : List Ended) → Grows m k → Grows m (synced_by ends k)
+synced_after {m = m} {k = k} ends g = then_grows g (synced_grows (list_any (λ e. e.ok && is_sync e.verb) ends) k)
+
+filter_old : (o : Option Object) (x : Filter) → option_and_then as_filter o ≡ Some x → (c : Option (List ℕ)) × (o ≡ Some (Objects.filter x c))
+filter_old None x e = absurd cc
+filter_old (Some (Objects.filter y c)) x e = (c, ap (λ (z : Filter). Some (Objects.filter z c)) (the_filter y x e))
+  where
+    the_filter : (y x : Filter) → ◌≡◌ {A = Option Filter} (Some y) (Some x) → y ≡ x
+    the_filter y x e = cc
+filter_old (Some _) x e = absurd cc
+
+assigned_grows : (m : Machine) (v f : List ℕ) → Grows m (assigned_to m v f (filter_at m f))
+assigned_grows m v f = by (filter_at m f) refl
+  where
+    by : (o : Option Filter) → filter_at m f ≡ o → Grows m (assigned_to m v f o)
+    by None e = same_grows m
+    by (Some rule) e = let old = filter_old (object_at m f) rule e in plain_grows m f (Objects.filter rule (Some v)) (Objects.filter rule old.0) old.1 refl refl
+
+pace_grows : (m : Machine) (v : List ℕ) (q : Side) (p : Option Paced) → Grows m (with_pace m v q p)
+pace_grows m v side.Rx p = vnic_grows m v _ (λ x e q has. inl has)
+pace_grows m v side.Tx p = vnic_grows m v _ (λ x e q has. inl has)
+pace_grows m v side.Io p = vsic_grows m v _
+
+door_side_grows : (m : Machine) (v : List ℕ) (q : Side) (d : Option (List ℕ)) → Grows m (with_door m v q d)
+door_side_grows m v side.Rx d = vnic_grows m v _ (λ x e q has. inl has)
+door_side_grows m v side.Tx d = vnic_grows m v _ (λ x e q has. inl has)
+door_side_grows m v side.Io d = vsic_grows m v _
+
+-- what is dropped has no bytes
+no_bytes : (o : Option Object) → is_so is_buffer o ≡ false → size_in o ≡ 0
+no_bytes None h = refl
+no_bytes (Some (Objects.buffer b)) h = absurd (false≢true (sym h))
+no_bytes (Some (Objects.raw x)) h = refl
+no_bytes (Some (Objects.log x)) h = refl
+no_bytes (Some (Objects.vsic x)) h = refl
+no_bytes (Some (Objects.vnic x)) h = refl
+no_bytes (Some (Objects.filter f c)) h = refl
+no_bytes (Some (Objects.door x)) h = refl
+no_bytes (Some (Objects.rate q b)) h = refl
+no_bytes (Some (Objects.socket x)) h = refl
+
+lets_go_size : (x : List ℕ) (n : ℕ) (o : Object) → size_in (Some (lets_go x n o)) ≡ size_in (Some o)
+lets_go_size x n (Objects.filter f (Some v)) = refl
+lets_go_size x n (Objects.filter f None) = refl
+lets_go_size x n (Objects.vsic v) = refl
+lets_go_size x n (Objects.buffer b) = refl
+lets_go_size x n _ = refl
+
+lets_go_frames : (x : List ℕ) (n : ℕ) (o : Object) → frames_in (Some (lets_go x n o)) ≡ frames_in (Some o)
+lets_go_frames x n (Objects.filter f (Some v)) = refl
+lets_go_frames x n (Objects.filter f None) = refl
+lets_go_frames x n (Objects.vsic v) = refl
+lets_go_frames x n (Objects.vnic v) = refl
+lets_go_frames x n _ = refl
+
+drop_grows : (m : Machine) (x : List ℕ) (ends : List Ended) → is_so is_buffer (object_at m x) ≡ false → Grows m (synced_by ends (each_object (lets_go x (serial_at m x)) (without m x)))
+drop_grows m x ends other =
+    synced_after ends (then_grows (without_grows m x (no_bytes (object_at m x) other)) (each_grows (without m x) (lets_go x (serial_at m x)) (lets_go_size x (serial_at m x)) (lets_go_frames x (serial_at m x))))
+
+buffer_new_grows : (m : Machine) (b : List ℕ) (len : ℕ) (o : Option ℕ) → Grows m (with_new_buffer m b len o)
+buffer_new_grows m b len None = same_grows m
+buffer_new_grows m b len (Some start) = new_grows m b _ refl
+
+block_grows : (m : Machine) (s : List ℕ) (off : ℕ) (block : List ℕ) (es : List Ended) → Grows m (block_written m s off block es)
+block_grows m s off block [] = same_grows m
+block_grows m s off block (e ∷ es) = raw_grows m s (raw_written off block e.took)
+
+reap_grows : (m : Machine) (v : List ℕ) (us : List (Job × Outcome)) → Grows m (reap_oldest m v us).machine
+reap_grows m v [] = same_grows m
+reap_grows m v (u ∷ us) = vsic_grows m v _
+
+received_grow : (m : Machine) (v : List ℕ) (us : List (Place × ℕ)) → Grows m (take_received m v us).machine
+received_grow m v [] = same_grows m
+received_grow m v (u ∷ us) = vnic_grows m v _ (λ x e q has. inl has)
+
+sent_grow : (m : Machine) (v : List ℕ) (us : List (Place × Outcome)) → Grows m (take_sent m v us).machine
+sent_grow m v [] = same_grows m
+sent_grow m v (u ∷ us) = vnic_grows m v _ (λ x e q has. inl has)
+
+oldest_grows : (d : Direction) (m : Machine) (v : List ℕ) → Grows m (take_oldest d m v).machine
+oldest_grows direction.Rx m v = received_grow m v (received_at m v)
+oldest_grows direction.Tx m v = sent_grow m v (sent_at m v)
+
+-- `free`: a buffer that no descriptor has
+
+find_object : (q : Held → Bool) (p : Object → Bool) (hs : List Held) (o : Object) → list_any (λ h. p h.object) hs ≡ false → option_map (λ h. h.object) (find q hs) ≡ Some o → p o ≡ false
+find_object q p [] o none is = absurd cc
+find_object q p (x ∷ xs) o none is = by (q x) is (λ e. find_object q p xs o apart.1 e)
+  where
+    apart : (p x.object ≡ false) × (list_any (λ h. p h.object) xs ≡ false)
+    apart = or_false (p x.object) (list_any (λ h. p h.object) xs) none
+
+    the_object : (a b : Object) → ◌≡◌ {A = Option Object} (Some a) (Some b) → a ≡ b
+    the_object a b e = cc
+
+    by : (b : Bool) → option_map (λ h. h.object) (cond b (Some x) (find q xs)) ≡ Some o → (option_map (λ h. h.object) (find q xs) ≡ Some o → p o ≡ false) → p o ≡ false
+    by true e next = subst (λ z. p z ≡ false) (the_object x.object o e) apart.0
+    by false e next = next e
+
+not_named : (b : List ℕ) (ps : List (Place × ℕ)) (c : List ℕ) (len : ℕ) → list_any (λ p. place_has b p.0) ps ≡ false → Contains ps (Objects.named c, len) → bytes_eq b c ≡ false
+not_named b [] c len none has = absurd (omega (arith, has.1))
+not_named b (p ∷ ps) c len none (zero, lt, e) =
+    subst (λ (q : Place × ℕ). place_has b q.0 ≡ false) e (or_false (place_has b p.0) (list_any (λ q. place_has b q.0) ps) none).0
+not_named b (p ∷ ps) c len none (suc i, lt, e) = not_named b ps c len (or_false (place_has b p.0) (list_any (λ q. place_has b q.0) ps) none).1 (i, omega (arith, lt), e)
+
+posted_not : (b : List ℕ) (o : Object) (c : List ℕ) (len : ℕ) → has_buffer b o ≡ false → Contains (frames_in (Some o)) (Objects.named c, len) → bytes_eq b c ≡ false
+posted_not b (Objects.vnic v) c len none has =
+    let rx : Bool = list_any (λ p. place_has b p) v.rx.posted || list_any (λ u. place_has b u.0) v.rx.unreaped in
+    let tx : Bool = list_any (λ p. place_has b p.0) v.tx.posted || list_any (λ u. place_has b u.0) v.tx.unreaped in
+    not_named b v.tx.posted c len (or_false (list_any (λ p. place_has b p.0) v.tx.posted) (list_any (λ u. place_has b u.0) v.tx.unreaped) (or_false rx tx none).1).0 has
+posted_not b _ c len none has = absurd (omega (arith, has.1))
+
+free_there : (m : Machine) (b : List ℕ) → is_lent m b ≡ false → FramesThere m → FramesThere (without m b)
+free_there m b unlent h v p has = by p (bytes_eq v b) (subst (λ q. Contains (frames_in q) p) (without_at b v m.held) has)
+  where
+    kept : (p : Place × ℕ) → Contains (frames_in (object_at m v)) p → (o : Option Object) → object_at m v ≡ o → IsThere (without m b) p
+    kept p old None is = absurd (none (subst (λ q. Contains (frames_in q) p) is old))
+      where
+        none : Contains (frames_in None) p → ⊥
+        none c = omega (arith, c.1)
+    kept (Objects.taken y, len) old (Some o) is = h v (Objects.taken y, len) old
+    kept (Objects.named c, len) old (Some o) is =
+        let lent : bytes_eq b c ≡ false = posted_not b o c len (find_object (λ x. bytes_eq v x.label) (has_buffer b) m.held o unlent is) (subst (λ q. Contains (frames_in q) (Objects.named c, len)) is old) in
+        let there : len ≤ size_in (object_at m c) = h v (Objects.named c, len) old in
+        let same : object_at (without m b) c ≡ object_at m c = without_at b c m.held ∙ ap (λ t. cond t None (object_at m c)) (apart (bytes_eq c b) refl lent) in
+        subst (λ q. len ≤ size_in q) (sym same) there
+      where
+        apart : (t : Bool) → bytes_eq c b ≡ t → bytes_eq b c ≡ false → bytes_eq c b ≡ false
+        apart true e f = absurd (clash (subst (λ y. bytes_eq b y ≡ true) (sym (same_bytes c b e)) (bytes_eq-same b)) f)
+        apart false e f = e
+
+    by : (p : Place × ℕ) (t : Bool) → Contains (frames_in (cond t None (object_at m v))) p → IsThere (without m b) p
+    by p true gone = absurd (omega (arith, gone.1))
+    by p false old = kept p old (object_at m v) refl
+
+-- `send` and `sendto`
+
+posted_one : (m : Machine) (x : Vnic) (p q : Place × ℕ) → IsThere m p → Contains (x.tx.posted ++ p ∷ []) q → Contains x.tx.posted q ⊎ IsThere m q
+posted_one m x p q there has = elim (Contains-append_cases x.tx.posted (p ∷ []) q has) [ inl old ↦ inl old | inr new ↦ inr (subst (λ z. IsThere m z) (only q new) there) ]
+  where
+    only : (q : Place × ℕ) → Contains (p ∷ []) q → p ≡ q
+    only q (zero, lt, e) = e
+    only q (suc i, lt, e) = absurd (omega (arith, lt))
+
+le_of : (n k : ℕ) → nat_lt n k ≡ false → k ≤ n
+le_of n k h = grind (arith, nat_tests)
+
+send_grows : (m : Machine) (v b : List ℕ) (len : ℕ) → nat_lt (length (bytes_at m b)) len ≡ false → Grows m (with_vnic m v (posting_tx (Objects.named b) len))
+send_grows m v b len fits = vnic_grows m v _ (λ x e q has. posted_one m x (Objects.named b, len) q (le_of (length (bytes_at m b)) len fits) has)
+
+posted_grows : (m : Machine) (v frame : List ℕ) (o : Option ℕ) → Grows m (posted_at m v frame o)
+posted_grows m v frame None = same_grows m
+posted_grows m v frame (Some s) = vnic_grows m v _ (λ x e q has. posted_one m x (Objects.taken (record { start = s; bytes = frame }), length frame) q (omega arith) has)
+
+-- sockets
+
+socketed_grows : (m : Machine) (v : List ℕ) (o : Option (List ℕ)) → Grows m (socketed_at m v o)
+socketed_grows m v None = same_grows m
+socketed_grows m v (Some ss) = vnic_grows m v _ (λ x e q has. inl has)
+
+socket_card_grows : (m : Machine) (v : List ℕ) → Grows m (with_socket_card m v)
+socket_card_grows m v = cond_grows (is_socketed m v) (same_grows m) (socketed_grows m v (card_places m v))
+
+delivered_size : (v : List ℕ) (d : udp.Datagram) (o : Object) → size_in (Some (delivered v d o)) ≡ size_in (Some o)
+delivered_size v d (Objects.socket k) = elim (has_port v d.to_port (Objects.socket k) && nat_lt (length k.datagrams) max_datagrams) as (λ t. size_in (Some (cond t (Objects.socket (record k { datagrams = k.datagrams ++ (record { ip = d.from; port = d.from_port; payload = d.payload }) ∷ [] })) (Objects.socket k))) ≡ 0) [ true ↦ refl | false ↦ refl ]
+delivered_size v d (Objects.buffer b) = refl
+delivered_size v d _ = refl
+
+delivered_frames : (v : List ℕ) (d : udp.Datagram) (o : Object) → frames_in (Some (delivered v d o)) ≡ frames_in (Some o)
+delivered_frames v d (Objects.socket k) = elim (has_port v d.to_port (Objects.socket k) && nat_lt (length k.datagrams) max_datagrams) as (λ t. frames_in (Some (cond t (Objects.socket (record k { datagrams = k.datagrams ++ (record { ip = d.from; port = d.from_port; payload = d.payload }) ∷ [] })) (Objects.socket k))) ≡ []) [ true ↦ refl | false ↦ refl ]
+delivered_frames v d (Objects.vnic x) = refl
+delivered_frames v d _ = refl
+
+datagram_grows : (m : Machine) (v : List ℕ) (own : Own) (x : Result udp.Datagram Bad) → Grows m (with_datagram m v own x)
+datagram_grows m v own (Err e) = same_grows m
+datagram_grows m v own (Ok d) = cond_grows (bytes_eq own.ip d.to) (each_grows m (delivered v d) (delivered_size v d) (delivered_frames v d)) (same_grows m)
+
+all_received_grows : (m : Machine) (v : List ℕ) (own : Own) (us : List (Place × ℕ)) → Grows m (all_received m v own us)
+all_received_grows m v own [] = same_grows m
+all_received_grows m v own (u ∷ us) =
+    let frame : List ℕ = take u.1 (bytes_in m u.0) in
+    then_grows (datagram_grows m v own (datagram_in (packet_in frame))) (all_received_grows (with_received m v own frame) v own us)
+
+pulled_grows : (m : Machine) (v : List ℕ) (o : Option Own) → Grows m (pulled m v o)
+pulled_grows m v None = same_grows m
+pulled_grows m v (Some own) = then_grows (all_received_grows m v own (unreaped_rx m v)) (vnic_grows (all_received m v own (unreaped_rx m v)) v rx_reaped (λ x e q has. inl has))
+
+give_grows : (m : Machine) (k : List ℕ) (ds : List Datagram) → Grows m (give_oldest m k ds).machine
+give_grows m k [] = same_grows m
+give_grows m k (d ∷ ds) = socket_grows m k _
+
+look_grows : (m : Machine) (d : List ℕ) → is_none (door_at m d) ≡ false → Grows m (with_object m d (Objects.door no_rings))
+look_grows m d has = by (door_at m d) refl has
+  where
+    by : (o : Option Counts) → door_at m d ≡ o → is_none o ≡ false → Grows m (with_object m d (Objects.door no_rings))
+    by None e lacks = absurd (false≢true (sym lacks))
+    by (Some c) e lacks = plain_grows m d (Objects.door no_rings) (Objects.door c) (door_is (object_at m d) c e) refl refl
+
+opened_machine_grows : (m : Machine) (s v : List ℕ) (g : Given) → Grows m (opened_machine m s v g)
+opened_machine_grows m s v g =
+    cond_grows (has_fault g.ended) (synced_after g.ended (same_grows m)) (cond_grows (is_some (damage_of (found_in _))) (same_grows m)
+    (synced_after g.ended (then_grows (log_grows m s (opening v (room_for m 1))) (vsic_grows (with_log m s (opening v (room_for m 1))) v _))))
+
+-- the row of every line
+row_there : (m : Machine) (line : Line) (g : Given) → FramesThere m → FramesThere (step m line g).machine
+unfolding step
+row_there m (w.app a x1) g h = answer_there m _ _ h (λ is. h)
+row_there m (w.vsic a x1 x2) g h = grown_row m _ _ h (new_grows m x1 _ refl)
+row_there m (w.vnic a x1 x2 x3) g h = grown_row m _ _ h (new_grows m x1 _ refl)
+row_there m (w.vsa a x1 x2 x3) g h = grown_row m _ _ h (synced_after g.ended (cond_grows (has_fault g.ended) (same_grows m) (new_grows m x1 (new_area x3 x2) (area_frames x3 x2))))
+row_there m (w.grow a x1 x2) g h = grown_row m _ _ h (synced_after g.ended (cond_grows (has_fault g.ended) (same_grows m) (raw_grows m x1 (grown x2))))
+row_there m (w.bind a x1 x2) g h = grown_row m _ _ h (vsic_grows m x1 _)
+row_there m (w.unbind a x1 x2) g h = grown_row m _ _ h (vsic_grows m x1 _)
+row_there m (w.filter a x1 x2) g h = grown_row m _ _ h (new_grows m x1 _ refl)
+row_there m (w.assign a x1 x2) g h = grown_row m _ _ h (assigned_grows m x1 x2)
+row_there m (w.rate a x1 x2 x3) g h = grown_row m _ _ h (new_grows m x1 _ refl)
+row_there m (w.pace a x1 x2 x3) g h = grown_row m _ _ h (pace_grows m x1 x3 (pace_of m x2))
+row_there m (w.door a x1) g h = grown_row m _ _ h (new_grows m x1 _ refl)
+row_there m (w.watch a x1 x2 x3) g h = grown_row m _ _ h (door_side_grows m x1 x3 x2)
+row_there m (w.drop a x) g h = asked_row m _ _ h (λ kind range lent. grown_there (drop_grows m x g.ended kind) h)
+row_there m (w.buf a x1 x2) g h = grown_row m _ _ h (buffer_new_grows m x1 x2 _)
+row_there m (w.fill a x1 x2 x3) g h = grown_row m _ _ h (bytes_grow m x1 x2 x3)
+row_there m (w.show a x1 x2 x3) g h = answer_there m _ _ h (λ is. h)
+row_there m (w.copy a x1 x2 x3) g h = grown_row m _ _ h (bytes_grow m x2 0 (take x3 (bytes_at m x1)))
+row_there m (w.free a x1) g h = asked_row m _ _ h (λ kind range lent. free_there m x1 lent h)
+row_there m (w.peek a x1 x2) g h = answer_there m _ _ h (λ is. h)
+row_there m (w.poke a x1 x2 x3) g h = grown_row m _ _ h (block_grows m x1 x2 (padded x3) g.ended)
+row_there m (w.get a x1 x2 x3 x4 x5) g h = grown_row m _ _ h (vsic_grows m x1 _)
+row_there m (w.put a x1 x2 x3 x4 x5) g h = grown_row m _ _ h (vsic_grows m x1 _)
+row_there m (w.flush a x1) g h = grown_row m _ _ h (vsic_grows m x1 _)
+row_there m (w.reap a x1) g h = grown_row m _ _ h (reap_grows m x1 (unreaped_at m x1))
+row_there m (w.post a x1 x2) g h = grown_row m _ _ h (vnic_grows m x1 (posting_rx (Objects.named x2)) (λ x e q has. inl has))
+row_there m (w.send a x1 x2 x3) g h = asked_row m _ _ h (λ kind range lent. grown_there (send_grows m x1 x2 x3 range) h)
+row_there m (w.take a x1 x2) g h = grown_row m _ _ h (oldest_grows x2 m x1)
+row_there m (w.sock a x1 x2 x3) g h = grown_row m _ _ h (then_grows (socket_card_grows m x2) (new_grows (with_socket_card m x2) x1 _ refl))
+row_there m (w.sendto a k ip port payload) g h =
+    let n : Machine = sent_reaped m k in
+    let there : FramesThere n = grown_there (vnic_grows m (card_at m k) tx_reaped (λ x e q has. inl has)) h in
+    answer_there m _ _ h (λ is. grown_row n _ _ there (posted_grows n (card_at n k) (framed n k g.own ip port payload) (room_for n (frame_frames payload))))
+row_there m (w.recv a x1) g h =
+    let k : Machine = pulled m (card_at m x1) g.own in
+    grown_row m _ _ h (then_grows (pulled_grows m (card_at m x1) g.own) (give_grows k x1 (datagrams_at k x1)))
+row_there m (w.look a x1) g h = asked_row m _ _ h (λ kind range lent. grown_there (look_grows m x1 kind) h)
+row_there m (w.log a x1 x2) g h = grown_row m _ _ h (opened_machine_grows m x1 x2 g)
+row_there m (w.queue a x1 x2) g h = grown_row m _ _ h (opened_machine_grows m x1 x2 g)
+row_there m (w.append a x1 x2) g h = grown_row m _ _ h (opened_grows m x1 _)
+row_there m (w.push a x1 x2) g h = grown_row m _ _ h (opened_grows m x1 _)
+row_there m (w.trim a x1 x2) g h = grown_row m _ _ h (opened_grows m x1 _)
+row_there m (w.pop a x1) g h = grown_row m _ _ h (opened_grows m x1 _)
+row_there m (w.walk a x1 x2) g h = answer_there m _ _ h (λ is. h)
+row_there m (w.poll a x1) g h = grown_row m _ _ h (polled_grows m x1)
+row_there m (w.settle a x1) g h = grown_row m _ _ h (settles_grow m g.ended x1)
+row_there m (w.close a x1) g h = grown_row m _ _ h (then_grows (log_grows m x1 closing) (vsic_grows (with_log m x1 closing) (card_of m x1) _))
+row_there m (w.dev a x1) g h = grown_row m _ _ h (card_grows m x1 g)
+row_there m (w.nic own) g h = h
+row_there m (w.wire frame) g h = h
+row_there m (w.tick n) g h = h
+
+-- Systems.
+
+inputs_there : (a : List ℕ) (m : Machine) (is : List Input) → FramesThere m → FramesThere (private_machine a m is)
+inputs_there a m [] h = h
+inputs_there a m (asks line g ∷ is) h = inputs_there a (step m line g).machine is (row_there m line g h)
+inputs_there a m (comes v frame ∷ is) h = inputs_there a (arrive a m v frame).machine is (grown_there (arrive_grows a m v frame) h)
+inputs_there a m (passes n ∷ is) h = inputs_there a (ticked n m) is h
+
+pub line_there : (s : System) (line : Line) (ends : List Ended) (memory : Bool) (a : List ℕ) → FramesThere (machine_of s a) → FramesThere (machine_of (line_turn s line ends memory).after a)
+line_there s line ends memory a h =
+    let x : Play = record { line = line; ends = ends; memory = memory } in
+    subst (λ m. FramesThere m) (sym (machine_private a s (x ∷ []))) (inputs_there a (machine_of s a) (inputs_of a s (x ∷ [])) h)
+
+-- at the start of a run
+pub fresh_there : (size : ℕ) (a : List ℕ) → FramesThere (machine_of (fresh_system size) a)
+fresh_there size a v p has = absurd (omega (arith, has.1))
+
+abbrev AllThere : List (List ℕ × Machine) → Type 0
+AllThere ms = AllByRecursion (λ p. FramesThere p.1) ms
+
+stored_frames : (k : Kind) (blocks : List (List ℕ)) → frames_in (Some (stored_area k blocks)) ≡ []
+stored_frames kind.Raw blocks = refl
+stored_frames kind.Log blocks = refl
+stored_frames kind.Queue blocks = refl
+
+slot_there : (image : List (List ℕ)) (m : Machine) (t : Slot) → FramesThere m → FramesThere (with_slot image m t)
+slot_there image m t h = grown_there (new_grows m t.label (stored_area t.kind (view image t.blocks)) (stored_frames t.kind (view image t.blocks))) h
+
+unmade_there : FramesThere unmade
+unmade_there v p has = absurd (omega (arith, has.1))
+
+with_stored_there : (image : List (List ℕ)) (ms : List (List ℕ × Machine)) (t : Slot) → AllThere ms → AllThere (with_stored image ms t)
+with_stored_there image [] t h = (slot_there image unmade t unmade_there, tt)
+with_stored_there image (p ∷ ps) t h = elim (bytes_eq t.app p.0) as (λ b. AllThere (cond b ((p.0, with_slot image p.1 t) ∷ ps) (p ∷ with_stored image ps t))) [
+  | true ↦ (slot_there image p.1 t h.0, h.1)
+  | false ↦ (h.0, with_stored_there image ps t h.1)
+]
+
+all_stored_there : (image : List (List ℕ)) (ms : List (List ℕ × Machine)) (ts : List Slot) → AllThere ms → AllThere (all_stored image ms ts)
+all_stored_there image ms [] h = h
+all_stored_there image ms (t ∷ ts) h = all_stored_there image (with_stored image ms t) ts (with_stored_there image ms t h)
+
+listed_there : (t : ℕ) (ms : List (List ℕ × Machine)) (a : List ℕ) → AllThere ms → FramesThere (listed_machine ms t a)
+listed_there t [] a h = λ v p has. absurd (omega (arith, has.1))
+listed_there t (p ∷ ps) a h = elim (bytes_eq a p.0) as (λ b. FramesThere (unwrap_or (option_map (λ q. q.1) (cond b (Some p) (find (λ q. bytes_eq a q.0) ps))) (record unmade { now = t }))) [ true ↦ h.0 | false ↦ listed_there t ps a h.1 ]
+
+pub start_there : (image : List (List ℕ)) (slots : List Slot) (a : List ℕ) → FramesThere (machine_of (start_system image slots) a)
+start_there image slots a = listed_there 0 (all_stored image [] slots) a (all_stored_there image [] slots tt)
