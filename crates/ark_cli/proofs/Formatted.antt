@@ -1,19 +1,18 @@
 -- A new device that was formatted is zero but for its first block.
-use Rattle.std.proofs.Common.{◌≡◌, inl, inr, ℕ, ◌<◌, ◌-◌, true, List, [], ◌∷◌, ◌++◌, length, sym, ◌∙◌, ap, subst, arith, Contains}
+use Rattle.std.proofs.Common.{◌≡◌, inl, inr, ℕ, ◌<◌, ◌-◌, true, List, [], ◌∷◌, ◌++◌, length, sym, ◌∙◌, subst, arith, Contains}
 use Rattle.std.proofs.lemmas.Bool.{false≢true}
 use Rattle.std.proofs.lemmas.List.{length-replicate, get_or-replicate}
-use Rattle.ark_media.specs.Journal.{Event, Out, History, block, current, fresh, zero_block}
-use Rattle.ark_media.specs.Calls.{Told, Beside, Makes, Syncs}
-use Rattle.ark_media.specs.Stops.{MayHold, Whole}
+use Rattle.ark_media.specs.Journal.{Event, Out, History, block, fresh, zero_block}
+use Rattle.ark_media.specs.Calls.{Makes, Syncs}
 use Rattle.ark_extents.specs.Free.{free_at_first}
 use Rattle.ark_extents.proofs.Holding.{contains_range}
 use Rattle.ark_table.specs.Superblock.{format_calls}
 use Rattle.ark_script.specs.Text.{text}
 use Rattle.ark_script.specs.declared.said.Said.TheVariants.{Ready}
+use Rattle.ark_held.specs.After.{after}
 use Rattle.ark_held.specs.Beside.{AreBeside}
 use Rattle.ark_held.proofs.Besides.{current_beside, may_beside}
-use Rattle.ark_host.specs.Stands.{IsZero, IsBased}
-use Rattle.ark_cli.specs.Opening.{IsReady}
+use Rattle.ark_host.specs.Stands.{IsZero}
 
 one_sync : (es : List Event) (bytes blocks : List ℕ) → Makes (Syncs ∷ []) true es → AreBeside blocks (es ++ Out bytes ∷ [])
 one_sync [] bytes blocks h = absurd h
@@ -34,17 +33,20 @@ below_size : (size n : ℕ) → Contains (free_at_first size) n → n < size
 below_size size n has = let bounds = contains_range 129 (size - 129) n has in omega (arith, bounds.0, bounds.1)
 
 -- the base has the blocks that were asked for
-pub ready_based : (size : ℕ) (told : Told) (b0 b1 : Beside) → IsReady size told b0 b1 → IsBased told
-ready_based size told b0 b1 ready = λ h is. ap (λ (x : History). length x.base) (ready.since.begins h is) ∙ length-replicate size zero_block ∙ sym ready.since.blocks
+pub fresh_based : (size : ℕ) → length (fresh size).base ≡ size
+fresh_based size = length-replicate size zero_block
+
+-- what its history is then
+abbrev pub formatted : (size : ℕ) → List Event → History
+formatted size events = after (fresh size) (events ++ Out (text (Ready size 0) []) ∷ [])
 
 -- the blocks for areas are zero, and a stop leaves them so
-pub ready_zero : (size : ℕ) (told : Told) (b0 b1 : Beside) → IsReady size told b0 b1 → IsZero told (free_at_first size)
-ready_zero size told b0 b1 ready = λ h is n has.
-    let es = ready.events ++ Out (text (Ready size 0) []) ∷ [] in
-    let beside = format_beside size ready.events (text (Ready size 0) []) (free_at_first size) ready.calls (not_first size) in
+pub ready_zero : (size : ℕ) (events : List Event) → Makes (format_calls size) true events → IsZero (formatted size events) (free_at_first size)
+ready_zero size events calls n has =
+    let es = events ++ Out (text (Ready size 0) []) ∷ [] in
+    let beside = format_beside size events (text (Ready size 0) []) (free_at_first size) calls (not_first size) in
     let zero : block (fresh size).base n ≡ zero_block = get_or-replicate size n zero_block [] (below_size size n has) in
     let inside : n < length (fresh size).base = subst (λ (m : ℕ). n < m) (sym (length-replicate size zero_block)) (below_size size n has) in (
-      subst (λ (x : History). block (current x.base x.journal) n ≡ zero_block) (sym (ready.since.begins h is))
-          (current_beside (fresh size).base (free_at_first size) es [] n has beside ∙ zero),
-      λ c left. may_beside (fresh size).base (free_at_first size) es [] n inside has beside c (subst (λ (x : History). MayHold Whole x.base x.journal n c) (ready.since.begins h is) left) ∙ zero,
+      current_beside (fresh size).base (free_at_first size) es [] n has beside ∙ zero,
+      λ c left. may_beside (fresh size).base (free_at_first size) es [] n inside has beside c left ∙ zero,
     )

@@ -8,7 +8,6 @@ use Rattle.ark_media.specs.Journal.{Event}
 use Rattle.ark_media.specs.Calls.{Told, Beside, Script, Rests, Goes, Takes, StillTold, Fetches, KeepsAtFetch}
 use Rattle.ark_media.proofs.Composing.{takes_none, takes_fetched, goes_none, goes_fetched, goes_then}
 use Rattle.ark_script.specs.Lines.{newlines}
-use Rattle.ark_machine.specs.System.{System}
 use Rattle.ark_host.specs.declared.host.Host.{Host}
 use Rattle.ark_cli.specs.Line.{limit, within_limit}
 use Rattle.ark_cli.specs.Session.{Acts, Fed, Replied, Stopped, Ended, Feeds, Finishes, IsAtEnd, IsFault, Turns, Going, Ran, is_done}
@@ -16,10 +15,10 @@ use Rattle.ark_cli.proofs.Kept.{within_limit-more}
 use Rattle.ark_cli.proofs.Feeding.{fed_first, fed_rests, fed_stopped}
 
 -- the lines whose newline came were answered, and nothing else came
-source_ended : (s : System) (fed : List ℕ) (added : List Event) (host : Host) (told : Told) (line : List ℕ) → Fed s fed added host told line → Ended s (fed ++ []) (added ++ []) told Source
-source_ended s fed added host told line f =
-    subst (λ n. Stopped s (fed ++ []) (added ++ []) told n) (ap newlines (sym (append-nil fed)))
-    (subst (λ a. Stopped s (fed ++ []) a told (newlines fed)) (sym (append-nil added)) (fed_stopped s fed added host told line f []))
+source_ended : (first : Host) (fed : List ℕ) (added : List Event) (host : Host) (told : Told) (line : List ℕ) → Fed first fed added host told line → Ended first (fed ++ []) (added ++ []) told Source
+source_ended first fed added host told line f =
+    subst (λ n. Stopped first (fed ++ []) (added ++ []) told n) (ap newlines (sym (append-nil fed)))
+    (subst (λ a. Stopped first (fed ++ []) a told (newlines fed)) (sym (append-nil added)) (fed_stopped first fed added host told line f []))
 
 -- at the end of the script nothing is left, also after calls that take none of it
 pub end_after : (a b c : Option Script) (out : List ℕ) → Fetches a b 0 out → Takes b c [] → IsAtEnd c
@@ -35,8 +34,8 @@ turn_source room t0 t1 b0 b1 host line still rests keeps later = record {
   taken = search rules;
   at_end = search rules;
   short = omega arith;
-  fed = λ s fed added f. search rules;
-  failed = λ s fed added f. source_ended s fed added host t1 line (fed_rests s fed added host t0 line f t1 rests);
+  fed = λ first fed added f. search rules;
+  failed = λ first fed added f. source_ended first fed added host t1 line (fed_rests first fed added host t0 line f t1 rests);
 }
 
 module _ (room : ℕ) (t0 tm t1 : Told) (b0 bm b1 : Beside) (host now : Host) (line held : List ℕ) (count : ℕ) (out : List ℕ) (few : length out ≤ room)
@@ -46,7 +45,7 @@ module _ (room : ℕ) (t0 tm t1 : Told) (b0 bm b1 : Beside) (host now : Host) (l
       (goes_then [] events (take count out) [] t0 tm t1 b0 bm b1 (goes_fetched t0 tm b0 bm (take count out) rests keeps later (takes_fetched b0.script bm.script count out fetches)) goes)
 
   -- a fetch brought bytes, and they were fed
-  pub turn_ok : Acts tm t1 bm b1 (λ more. (s : System) (fed : List ℕ) (added : List Event) → Fed s fed added host tm line → Feeds s fed (take count out) added more now t1 held true) →
+  pub turn_ok : Acts tm t1 bm b1 (λ more. (first : Host) (fed : List ℕ) (added : List Event) → Fed first fed added host tm line → Feeds first fed (take count out) added more now t1 held true) →
       Turns room t0 t1 b0 b1 host now line held (Ok count)
   turn_ok a = record {
     bytes = take count out;
@@ -55,12 +54,12 @@ module _ (room : ℕ) (t0 tm t1 : Told) (b0 bm b1 : Beside) (host now : Host) (l
     taken = length-take count out ∙ omega (arith, fetches.fits);
     at_end = λ none. end_after b0.script bm.script b1.script out (subst (λ n. Fetches b0.script bm.script n out) none fetches) a.goes.takes;
     short = search rules;
-    fed = λ s fed added f. (a.does s fed added (fed_rests s fed added host t0 line f tm rests)).done refl;
-    failed = λ s fed added f. search rules;
+    fed = λ first fed added f. (a.does first fed added (fed_rests first fed added host t0 line f tm rests)).done refl;
+    failed = λ first fed added f. search rules;
   }
 
   -- and a put failed
-  pub turn_sink : Acts tm t1 bm b1 (λ more. (s : System) (fed : List ℕ) (added : List Event) → Fed s fed added host tm line → Feeds s fed (take count out) added more now t1 held false) →
+  pub turn_sink : Acts tm t1 bm b1 (λ more. (first : Host) (fed : List ℕ) (added : List Event) → Fed first fed added host tm line → Feeds first fed (take count out) added more now t1 held false) →
       Turns room t0 t1 b0 b1 host now line held (Err Sink)
   turn_sink a = record {
     bytes = take count out;
@@ -69,8 +68,8 @@ module _ (room : ℕ) (t0 tm t1 : Told) (b0 bm b1 : Beside) (host now : Host) (l
     taken = search rules;
     at_end = search rules;
     short = omega (arith, length-take count out, few);
-    fed = λ s fed added f. search rules;
-    failed = λ s fed added f. subst (λ b. Replied s (fed ++ b) (added ++ a.events) t1) (append-nil (take count out)) ((a.does s fed added (fed_rests s fed added host t0 line f tm rests)).failed refl []);
+    fed = λ first fed added f. search rules;
+    failed = λ first fed added f. subst (λ b. Replied first (fed ++ b) (added ++ a.events) t1) (append-nil (take count out)) ((a.does first fed added (fed_rests first fed added host t0 line f tm rests)).failed refl []);
   }
 
 pub going_first : (told : Told) (beside : Beside) (host : Host) (line : List ℕ) → Going told told beside beside host host line line 0
@@ -79,7 +78,7 @@ going_first told beside host line = record {
   events = [];
   goes = goes_none told told beside beside refl refl;
   counted = refl;
-  fed = λ s st none. fed_first s host told line st none;
+  fed = λ none. fed_first host told line none;
 }
 
 fault_is : (before now : Beside) (e : Status) → IsFault before now e → (e ≡ Source) ⊎ (e ≡ Sink)
@@ -103,7 +102,7 @@ module _ (t0 tm t1 : Told) (b0 bm b1 : Beside) (host0 host : Host) (line0 line :
     events = g.events ++ t.events;
     goes = goes_then g.events t.events g.script t.bytes t0 tm t1 b0 bm b1 g.goes t.goes;
     counted = omega (arith, length-append g.script t.bytes, g.counted, t.taken);
-    fed = λ s st none. t.fed s g.script g.events (g.fed s st none);
+    fed = λ none. t.fed host0 g.script g.events (g.fed none);
   }
 
   -- a fetch brought nothing
@@ -114,7 +113,7 @@ module _ (t0 tm t1 : Told) (b0 bm b1 : Beside) (host0 host : Host) (line0 line :
     goes = subst (λ es. Goes es g.script t0 t1 b0 b1) (append-nil g.events) (subst (λ b. Goes (g.events ++ []) b t0 t1 b0 b1) (append-nil g.script)
         (goes_then g.events [] g.script [] t0 tm t1 b0 bm b1 g.goes (goes_fetched tm t1 bm b1 [] rests keeps later takes)));
     counted = g.counted;
-    fed = λ s st none. fed_rests s g.script g.events host tm line (g.fed s st none) t1 rests;
+    fed = λ none. fed_rests host0 g.script g.events host tm line (g.fed none) t1 rests;
   }
 
   -- it ended in this turn
@@ -123,7 +122,7 @@ module _ (t0 tm t1 : Told) (b0 bm b1 : Beside) (host0 host : Host) (line0 line :
     script = g.script ++ t.bytes;
     events = g.events ++ t.events;
     goes = goes_then g.events t.events g.script t.bytes t0 tm t1 b0 bm b1 g.goes t.goes;
-    ended = λ s st none. t.failed s g.script g.events (g.fed s st none);
+    ended = λ none. t.failed host0 g.script g.events (g.fed none);
     at_end = λ h. elim (fault_is bm b1 e fault) [ inl x ↦ cc | inr x ↦ cc ];
     long = λ h. elim (fault_is bm b1 e fault) [ inl x ↦ cc | inr x ↦ cc ];
     short = λ h. omega (arith, length-append g.script t.bytes, g.counted, t.short, fits);
@@ -139,8 +138,8 @@ module _ (t0 tm t1 : Told) (b0 bm b1 : Beside) (host0 host : Host) (line0 line :
         events = g.events;
         goes = subst (λ es. Goes es (g.script ++ take n out) t0 t1 b0 b1) (append-nil g.events)
             (goes_then g.events [] g.script (take n out) t0 tm t1 b0 bm b1 g.goes (goes_fetched tm t1 bm b1 (take n out) rests keeps later (takes_fetched bm.script b1.script n out f)));
-        ended = λ s st none. subst (λ b. Stopped s (g.script ++ take n out) g.events t1 (newlines b)) (sym first)
-            (fed_stopped s g.script g.events host t1 line (fed_rests s g.script g.events host tm line (g.fed s st none) t1 rests) (take n out));
+        ended = λ none. subst (λ b. Stopped host0 (g.script ++ take n out) g.events t1 (newlines b)) (sym first)
+            (fed_stopped host0 g.script g.events host t1 line (fed_rests host0 g.script g.events host tm line (g.fed none) t1 rests) (take n out));
         at_end = λ h. cc;
         long = λ h. more;
         short = λ other. absurd (other refl);
@@ -154,25 +153,25 @@ module _ (t0 tm t1 : Told) (b0 bm b1 : Beside) (host0 host : Host) (line0 line :
         script = h.script;
         events = h.events;
         goes = h.goes;
-        ended = λ s st none. subst (λ b. Stopped s b h.events t1 (newlines h.script)) (append-nil h.script) (fed_stopped s h.script h.events host t1 line (h.fed s st none) []);
+        ended = λ none. subst (λ b. Stopped host0 b h.events t1 (newlines h.script)) (append-nil h.script) (fed_stopped host0 h.script h.events host t1 line (h.fed none) []);
         at_end = λ e. cc;
         long = λ e. cc;
         short = λ e. omega (arith, h.counted, fits);
       }
 
   -- the script came to its end
-  pub ran_finish : (status : Status) → IsAtEnd bm.script → Acts tm t1 bm b1 (λ more. (s : System) (fed : List ℕ) (added : List Event) → Fed s fed added host tm line → Finishes s fed added more t1 (is_done status)) →
+  pub ran_finish : (status : Status) → IsAtEnd bm.script → Acts tm t1 bm b1 (λ more. (first : Host) (fed : List ℕ) (added : List Event) → Fed first fed added host tm line → Finishes first fed added more t1 (is_done status)) →
       (status ≡ Done) ⊎ (status ≡ Sink) → count ≤ limit → Ran t0 t1 b0 b1 host0 line0 status
   ran_finish status end a how fits = record {
     script = g.script;
     events = g.events ++ a.events;
     goes = subst (λ b. Goes (g.events ++ a.events) b t0 t1 b0 b1) (append-nil g.script) (goes_then g.events a.events g.script [] t0 tm t1 b0 bm b1 g.goes a.goes);
-    ended = λ s st none. how_ended s how (a.does s g.script g.events (g.fed s st none));
+    ended = λ none. how_ended how (a.does host0 g.script g.events (g.fed none));
     at_end = λ h. still_at_end bm.script b1.script end a.goes.takes;
     long = λ h. elim how [ inl x ↦ cc | inr x ↦ cc ];
     short = λ h. omega (arith, g.counted, fits);
   }
     where
-      how_ended : (s : System) → (status ≡ Done) ⊎ (status ≡ Sink) → Finishes s g.script g.events a.events t1 (is_done status) → Ended s g.script (g.events ++ a.events) t1 status
-      how_ended s (inl done) f = subst (λ (x : Status). Ended s g.script (g.events ++ a.events) t1 x) (sym done) (f.done (ap is_done done))
-      how_ended s (inr sink) f = subst (λ (x : Status). Ended s g.script (g.events ++ a.events) t1 x) (sym sink) (f.failed (ap is_done sink))
+      how_ended : (status ≡ Done) ⊎ (status ≡ Sink) → Finishes host0 g.script g.events a.events t1 (is_done status) → Ended host0 g.script (g.events ++ a.events) t1 status
+      how_ended (inl done) f = subst (λ (x : Status). Ended host0 g.script (g.events ++ a.events) t1 x) (sym done) (f.done (ap is_done done))
+      how_ended (inr sink) f = subst (λ (x : Status). Ended host0 g.script (g.events ++ a.events) t1 x) (sym sink) (f.failed (ap is_done sink))

@@ -1,8 +1,8 @@
-ghost use Rattle.std.specs.Prelude.{◌≡◌, ◌≤◌, ◌⊎◌, ℕ, List, [], map, string_bytes};
-ghost use Rattle.ark_media.specs.Journal.{Event};
-ghost use Rattle.ark_media.specs.Calls.{Told, Goes, Rose};
+ghost use Rattle.std.specs.Prelude.{◌≡◌, ◌≤◌, ◌⊎◌, ℕ, List, [], length, map, string_bytes};
+ghost use Rattle.ark_media.specs.Journal.{Event, History};
+ghost use Rattle.ark_media.specs.Calls.{Goes, Rose};
 ghost use Rattle.ark_machine.specs.System.{fresh_system};
-ghost use Rattle.ark_host.specs.Stands.{Stands, IsZero, IsBased};
+ghost use Rattle.ark_host.specs.Stands.{Stands, IsZero};
 ghost use Rattle.ark_extents.specs.Free.{free_at_first};
 ghost use Rattle.ark_host.specs.Time.{IsSound};
 ghost use Rattle.ark_cli.specs.Words.{IsRun};
@@ -31,7 +31,7 @@ fn run_with<W: Outside>(
 ) -> Status
     requires low { 130 ≤ blocks }
     requires high { blocks ≤ 1048576 }
-    requires host { (told : Told) → told.blocks ≡ blocks → IsBased told → IsZero told (free_at_first blocks) → Stands host.old told (fresh_system told.blocks) }
+    requires host { (h : History) → length h.base ≡ blocks → IsZero h (free_at_first blocks) → Stands host.old blocks h (fresh_system blocks) }
     requires sound { IsSound host.old }
     requires none { host.old.lines ≡ 0 }
     requires line { line.old ≡ [] }

@@ -4,8 +4,6 @@ ghost use Rattle.ark_media.specs.Calls.{Rose, GoesBy};
 ghost use Rattle.ark_script.specs.Reply.{bytes_shown};
 ghost use Rattle.ark_script.specs.Text.{IsSaid};
 ghost use Rattle.ark_script.specs.declared.said.Said.TheVariants as said;
-ghost use Rattle.ark_machine.specs.System.{System};
-ghost use Rattle.ark_host.specs.Stands.{Stands};
 ghost use Rattle.ark_host.specs.Time.{IsSound};
 ghost use Rattle.ark_cli.specs.Line.{kept};
 ghost use Rattle.ark_cli.specs.Session.{Acts, ServesLine, AnswersLine, Fed, Feeds, Finishes, Turns, Ran, is_done, IsFault, IsScriptEnd};
@@ -21,8 +19,8 @@ use ark_script::{MAX_LINE, Reply, Said, read_line};
 fn serve_line<D: Disk>(host: &mut Host, line: &[u8], out: &mut Reply, disk: &mut D)
     requires sound { IsSound host.old }
     requires few { host.old.lines < 2 ^ 31 }
-    ensures serves { GoesBy D.goes disk.old disk.new (λ es. (s : System) (whole : List ℕ) → Stands host.old (D.told disk.old) s → line.now ≡ kept whole →
-        ServesLine s whole es host.new (D.told disk.new) out.new.said (bytes_shown out.new)) }
+    ensures serves { GoesBy D.goes disk.old disk.new (λ es. (whole : List ℕ) → line.now ≡ kept whole →
+        ServesLine host.old whole es host.new (D.told disk.new) out.new.said (bytes_shown out.new)) }
     ensures said { IsSaid out.new.said }
     ensures sound { IsSound host.new }
     ensures counted { host.new.lines ≤ host.old.lines + 1 }
@@ -54,8 +52,8 @@ fn answer_line<W: Outside>(
 ) -> Result<(), SinkFailed>
     requires sound { IsSound host.old }
     requires few { host.old.lines < 2 ^ 31 }
-    ensures answers { Acts (W.told world.old) (W.told world.new) (W.beside world.old) (W.beside world.new) (λ part. (s : System) (whole : List ℕ) →
-        Stands host.old (W.told world.old) s → line.now ≡ kept whole → AnswersLine s whole part host.new (W.told world.new) (is_ok result)) }
+    ensures answers { Acts (W.told world.old) (W.told world.new) (W.beside world.old) (W.beside world.new) (λ part. (whole : List ℕ) →
+        line.now ≡ kept whole → AnswersLine host.old whole part host.new (W.told world.new) (is_ok result)) }
     ensures cause { OnErr result (Rose (W.beside world.old).sink_faults (W.beside world.new).sink_faults) }
     ensures sound { IsSound host.new }
     ensures counted { host.new.lines ≤ host.old.lines + 1 }
@@ -75,8 +73,8 @@ fn run_byte<W: Outside>(
 ) -> Result<(), SinkFailed>
     requires sound { IsSound host.old }
     requires few { host.old.lines < 2 ^ 31 }
-    ensures feeds { Acts (W.told world.old) (W.told world.new) (W.beside world.old) (W.beside world.new) (λ more. (s : System) (fed : List ℕ) (added : List Event) →
-        Fed s fed added host.old (W.told world.old) line.old → Feeds s fed (b ∷ []) added more host.new (W.told world.new) line.new (is_ok result)) }
+    ensures feeds { Acts (W.told world.old) (W.told world.new) (W.beside world.old) (W.beside world.new) (λ more. (first : Host) (fed : List ℕ) (added : List Event) →
+        Fed first fed added host.old (W.told world.old) line.old → Feeds first fed (b ∷ []) added more host.new (W.told world.new) line.new (is_ok result)) }
     ensures cause { OnErr result (Rose (W.beside world.old).sink_faults (W.beside world.new).sink_faults) }
     ensures sound { IsSound host.new }
     ensures counted { host.new.lines ≤ host.old.lines + 1 }
@@ -100,8 +98,8 @@ fn run_bytes<W: Outside>(
 ) -> Result<(), SinkFailed>
     requires sound { IsSound host.old }
     requires few { host.old.lines + length bytes.now ≤ 2 ^ 31 }
-    ensures feeds { Acts (W.told world.old) (W.told world.new) (W.beside world.old) (W.beside world.new) (λ more. (s : System) (fed : List ℕ) (added : List Event) →
-        Fed s fed added host.old (W.told world.old) line.old → Feeds s fed bytes.now added more host.new (W.told world.new) line.new (is_ok result)) }
+    ensures feeds { Acts (W.told world.old) (W.told world.new) (W.beside world.old) (W.beside world.new) (λ more. (first : Host) (fed : List ℕ) (added : List Event) →
+        Fed first fed added host.old (W.told world.old) line.old → Feeds first fed bytes.now added more host.new (W.told world.new) line.new (is_ok result)) }
     ensures cause { OnErr result (Rose (W.beside world.old).sink_faults (W.beside world.new).sink_faults) }
     ensures sound { IsSound host.new }
     ensures counted { host.new.lines ≤ host.old.lines + length bytes.now }
@@ -121,8 +119,8 @@ fn finish<W: Outside>(
 ) -> Result<(), SinkFailed>
     requires sound { IsSound host.old }
     requires few { host.old.lines < 2 ^ 31 }
-    ensures finishes { Acts (W.told world.old) (W.told world.new) (W.beside world.old) (W.beside world.new) (λ more. (s : System) (fed : List ℕ) (added : List Event) →
-        Fed s fed added host.old (W.told world.old) line.now → Finishes s fed added more (W.told world.new) (is_ok result)) }
+    ensures finishes { Acts (W.told world.old) (W.told world.new) (W.beside world.old) (W.beside world.new) (λ more. (first : Host) (fed : List ℕ) (added : List Event) →
+        Fed first fed added host.old (W.told world.old) line.now → Finishes first fed added more (W.told world.new) (is_ok result)) }
     ensures cause { OnErr result (Rose (W.beside world.old).sink_faults (W.beside world.new).sink_faults) }
 {
     if line.bytes().is_empty() {
@@ -169,8 +167,8 @@ fn end_script<W: Outside>(
 ) -> Status
     requires sound { IsSound host.old }
     requires few { host.old.lines < 2 ^ 31 }
-    ensures finishes { Acts (W.told world.old) (W.told world.new) (W.beside world.old) (W.beside world.new) (λ more. (s : System) (fed : List ℕ) (added : List Event) →
-        Fed s fed added host.old (W.told world.old) line.now → Finishes s fed added more (W.told world.new) (is_done result)) }
+    ensures finishes { Acts (W.told world.old) (W.told world.new) (W.beside world.old) (W.beside world.new) (λ more. (first : Host) (fed : List ℕ) (added : List Event) →
+        Fed first fed added host.old (W.told world.old) line.now → Finishes first fed added more (W.told world.new) (is_done result)) }
     ensures cause { (result ≡ Status.Done) ⊎ ((result ≡ Status.Sink) × Rose (W.beside world.old).sink_faults (W.beside world.new).sink_faults) }
 {
     match finish(host, line, out, world) {

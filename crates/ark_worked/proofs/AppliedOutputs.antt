@@ -12,11 +12,10 @@ use Rattle.ark_machine.specs.Bytes.{padded}
 use Rattle.ark_machine.specs.Row.{answer}
 use Rattle.ark_machine.specs.Step.{step}
 use Rattle.ark_machine.specs.System.{fresh_system}
-use Rattle.ark_machine.specs.Follow.{ended}
+use Rattle.ark_machine.specs.Follow.{ended, goes_on}
 use Rattle.ark_machine.specs.Replies.{EachAnswers}
 use Rattle.ark_machine.specs.Start.{start_system}
 use Rattle.ark_machine.specs.Told.{outputs_to}
-use Rattle.ark_worked.proofs.Playing.{follows_is}
 use Rattle.ark_worked.proofs.Scripts.{area}
 use Rattle.ark_laws.proofs.Told.{outputs_alike, start_outputs_alike}
 
@@ -56,7 +55,7 @@ alone-answered = (
   record { output = refl; calls = ended; memory = tt },
   (
     record { output = refl; calls = ended; memory = tt },
-    (record { output = refl; calls = follows_is _ _ _ _ (Write 130 content true true ∷ []) refl; memory = tt }, (record { output = refl; calls = follows_is _ _ _ _ (Read 130 true ∷ []) refl; memory = tt }, tt)),
+    (record { output = refl; calls = goes_on (refl, refl, λ well. refl) refl refl ended; memory = tt }, (record { output = refl; calls = goes_on refl refl refl ended; memory = tt }, tt)),
   ),
 )
 
@@ -80,8 +79,8 @@ together-answered = (
       (
         record { output = refl; calls = ended; memory = tt },
         (
-          record { output = refl; calls = follows_is _ _ _ _ (Write 133 content true true ∷ []) refl; memory = tt },
-          (record { output = refl; calls = follows_is _ _ _ _ (Read 130 true ∷ []) refl; memory = tt }, (record { output = refl; calls = follows_is _ _ _ _ (Read 133 true ∷ []) refl; memory = tt }, tt)),
+          record { output = refl; calls = goes_on (refl, refl, λ well. refl) refl refl ended; memory = tt },
+          (record { output = refl; calls = goes_on refl refl refl ended; memory = tt }, (record { output = refl; calls = goes_on refl refl refl ended; memory = tt }, tt)),
         ),
       ),
     ),
@@ -115,7 +114,7 @@ looks_parts = ok ∷ says (Read 130 true ∷ []) (codes "ok -") ∷ []
 
 pub looks-answered : EachAnswers (start_system image own_slot) looks looks_parts
 unfolding step answer encode_with digits
-looks-answered = (record { output = refl; calls = ended; memory = tt }, (record { output = refl; calls = follows_is _ _ _ _ (Read 130 true ∷ []) refl; memory = tt }, tt))
+looks-answered = (record { output = refl; calls = ended; memory = tt }, (record { output = refl; calls = goes_on refl refl refl ended; memory = tt }, tt))
 
 abbrev both_look : List Meaning
 both_look = Ok (w.app b None) ∷ Ok (w.app a None) ∷ Ok (w.peek a s 1) ∷ []
@@ -127,7 +126,7 @@ pub both_look-answered : EachAnswers (start_system image both_slots) both_look b
 unfolding step answer encode_with digits
 both_look-answered = (
   record { output = refl; calls = ended; memory = tt },
-  (record { output = refl; calls = ended; memory = tt }, (record { output = refl; calls = follows_is _ _ _ _ (Read 132 true ∷ []) refl; memory = tt }, tt)),
+  (record { output = refl; calls = ended; memory = tt }, (record { output = refl; calls = goes_on refl refl refl ended; memory = tt }, tt)),
 )
 
 pub looks-alike : outputs_to a (start_system image own_slot) looks looks_parts ≡ outputs_to a (start_system image both_slots) both_look both_parts

@@ -59,7 +59,7 @@ written = Write 130 (padded (7 ∷ [])) true true ∷ []
 
 pub writes-follow : Follow both a writes (line_turn both writes (ends_of written) false).calls written
 unfolding step answer
-writes-follow = follows_is _ _ _ (line_turn both writes (ends_of written) false).calls written refl
+writes-follow = follows_is both a writes (line_turn both writes (ends_of written) false).calls written refl
 
 abbrev made : System
 made = played (fresh_system 200) (app a ∷ [])
@@ -69,7 +69,7 @@ grants = w.vsa a s 2 kind.Raw
 
 pub grants-follow : Follow made a grants (line_turn made grants (ends_of failed_grant) false).calls failed_grant
 unfolding step answer
-grants-follow = follows_is _ _ _ (line_turn made grants (ends_of failed_grant) false).calls failed_grant refl
+grants-follow = follows_is made a grants (line_turn made grants (ends_of failed_grant) false).calls failed_grant refl
 
 -- The write leaves what a stop may leave of another application's blocks.
 

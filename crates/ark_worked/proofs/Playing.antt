@@ -137,9 +137,9 @@ reads_at_is place (Out bytes) h = absurd (false≢true h)
 
 writes_at_is : (place : Option ℕ) (content : List ℕ) (e : Event) → writes_at place content e ≡ true → WritesAt place content e
 writes_at_is place content (Write n c took ok) h =
-    let parts = and_parts (is_at place n) (bytes_eq c content && (not ok || took)) h in
-    let rest = and_parts (bytes_eq c content) (not ok || took) parts.1 in
-    (at_is place n parts.0, bytes_are c content rest.0, took_is took ok rest.1)
+    let parts = and_parts (is_at place n && bytes_eq c content) (not ok || took) h in
+    let rest = and_parts (is_at place n) (bytes_eq c content) parts.0 in
+    (at_is place n rest.0, bytes_are c content rest.1, took_is took ok parts.1)
 writes_at_is place content (Read n ok) h = absurd (false≢true h)
 writes_at_is place content (Sync ok) h = absurd (false≢true h)
 writes_at_is place content (Out bytes) h = absurd (false≢true h)
@@ -158,9 +158,9 @@ writes_in_is area (Out bytes) h = absurd (false≢true h)
 
 zeroes_in_is : (area : List ℕ) (e : Event) → zeroes_in area e ≡ true → ZeroesIn area e
 zeroes_in_is area (Write n c took ok) h =
-    let parts = and_parts (has area n) (bytes_eq c zero_block && (not ok || took)) h in
-    let rest = and_parts (bytes_eq c zero_block) (not ok || took) parts.1 in
-    (has_is area n parts.0, bytes_are c zero_block rest.0, took_is took ok rest.1)
+    let parts = and_parts (has area n && bytes_eq c zero_block) (not ok || took) h in
+    let rest = and_parts (has area n) (bytes_eq c zero_block) parts.0 in
+    (has_is area n rest.0, bytes_are c zero_block rest.1, took_is took ok parts.1)
 zeroes_in_is area (Read n ok) h = absurd (false≢true h)
 zeroes_in_is area (Sync ok) h = absurd (false≢true h)
 zeroes_in_is area (Out bytes) h = absurd (false≢true h)

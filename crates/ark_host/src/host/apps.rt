@@ -23,13 +23,13 @@ pub fn place_of(apps: &[App], name: &AppName) -> Option<usize>
 }
 
 impl Host {
-    ghost use Rattle.ark_host.specs.Stands.{Stands, Turned, app_row};
+    ghost use Rattle.ark_host.specs.Stands.{Stands, RowDone, app_row};
 
     // The word `app`.
     pub(super) fn make_app(&mut self, name: &AppName, frames: Option<u64>) -> Said
         requires { IfSome frames (λ f. f ≤ 4096) }
         ensures turned { (size : ℕ) (h : History) (s : System) → Stands self.old size h s →
-            Turned self.new size h s name.now (w.app name.now frames) (app_row s name.now frames [] result) [] result [] }
+            RowDone self.new size h s name.now (w.app name.now frames) (app_row s name.now frames [] result) [] result [] }
         ensures said { IsSaid result }
         ensures clock { self.new.clock ≡ self.old.clock }
         ensures lines { self.new.lines ≡ self.old.lines }

@@ -7,12 +7,12 @@ use super::Host;
 use ark_script::Said;
 
 impl Host {
-    ghost use Rattle.ark_host.specs.Stands.{Stands, TurnedCommon};
+    ghost use Rattle.ark_host.specs.Stands.{Stands, TurnDone};
 
     // The word `tick`: time goes on for every machine.
     pub(super) fn tick(&mut self, ticks: u64) -> Said
         requires room { self.old.clock + ticks < 2 ^ 64 }
-        ensures turned { (size : ℕ) (h : History) (s : System) → Stands self.old size h s → TurnedCommon self.new size h (tick_turn s ticks) result [] }
+        ensures turned { (size : ℕ) (h : History) (s : System) → Stands self.old size h s → TurnDone self.new size h (tick_turn s ticks) result [] }
         ensures said { IsSaid result }
         ensures clock { self.new.clock ≡ self.old.clock + ticks }
         ensures lines { self.new.lines ≡ self.old.lines }

@@ -19,5 +19,5 @@ returns-clause-answers g c =
     record {
       events = _;
       goes = goes_then served.events (Out puts.part ∷ []) [] [] (g.W.Disk.told w0) (g.W.Disk.told w1) (g.W.Disk.told w2) (g.W.Outside.beside w0) (g.W.Outside.beside w1) (g.W.Outside.beside w2) first then;
-      does = λ s whole st e. answer s whole served.events (g.W.Disk.told w1) (g.W.Disk.told w2) c.serve_line.new.host _ _ (served.does s whole st e) (is_ok c.put.result) c.serve_line.ensures.said puts;
+      does = λ whole e. answer c.args.host.now whole served.events (g.W.Disk.told w1) (g.W.Disk.told w2) c.serve_line.new.host _ _ (served.does whole e) (is_ok c.put.result) c.serve_line.ensures.said puts;
     }

@@ -2,7 +2,6 @@ use Rattle.std.proofs.Common.{◌≡◌, [], length, refl, sym, ap, ◌∙◌, a
 use Rattle.std.proofs.lemmas.Grind.{common_steps}
 use Rattle.std.specs.Prelude.{is_ok}
 use Rattle.ark_media.proofs.Composing.{goes_none}
-use Rattle.ark_machine.specs.Replies.{system_after}
 use Rattle.ark_cli.proofs.Feeding.{finish_none, finish_line, none_of_length}
 use Rattle.ark_cli.proofs.script.finish.Goals as goal
 
@@ -14,7 +13,7 @@ returns-then-is_empty-clause-finishes g c =
     record {
       events = [];
       goes = goes_none told told beside beside refl refl;
-      does = λ s fed added f. finish_none s fed added c.args.host.now told c.args.line.now f (sym c.bytes.ensures.same ∙ none_of_length c.bytes.result.now none);
+      does = λ first fed added f. finish_none first fed added c.args.host.now told c.args.line.now f (sym c.bytes.ensures.same ∙ none_of_length c.bytes.result.now none);
     }
 
 pub returns-clause-finishes : goal.returns-clause-finishes
@@ -23,8 +22,8 @@ returns-clause-finishes g c =
     record {
       events = a.events;
       goes = a.goes;
-      does = λ s fed added f.
-          finish_line s fed added c.args.host.now c.answer_line.new.host (g.W.Disk.told c.args.world.now) (g.W.Disk.told c.answer_line.new.world) c.args.line.now a.events (is_ok c.answer_line.result) a.goes.tells.adds f
+      does = λ first fed added f.
+          finish_line first fed added c.args.host.now c.answer_line.new.host (g.W.Disk.told c.args.world.now) (g.W.Disk.told c.answer_line.new.world) c.args.line.now a.events (is_ok c.answer_line.result) a.goes.tells f
           (λ e. let none : length c.bytes.result.now ≡ 0 = ap length (c.bytes.ensures.same ∙ e) in grind (arith, common_steps, none, c.if-is_empty.false, c.is_empty.ensures))
-          (a.does (system_after s f.meanings f.whole) f.tail f.stands (c.bytes-2.ensures.same ∙ f.held));
+          (a.does f.tail (c.bytes-2.ensures.same ∙ f.held));
     }

@@ -2,7 +2,6 @@ use Rattle.std.proofs.Common.{◌≡◌, ◌∷◌, [], nat_eq, true, false, sub
 use Rattle.std.specs.Prelude.{is_ok}
 use Rattle.ark_cli.specs.Session.{Feeds}
 use Rattle.ark_media.proofs.Composing.{goes_none}
-use Rattle.ark_machine.specs.Replies.{system_after}
 use Rattle.ark_cli.proofs.Feeding.{feeds_byte, feeds_line}
 use Rattle.ark_cli.proofs.script.run_byte.Goals as goal
 
@@ -13,10 +12,10 @@ returns-then-b-ne10-clause-feeds g c =
     record {
       events = [];
       goes = goes_none told told beside beside refl refl;
-      does = λ s fed added f.
+      does = λ first fed added f.
           let other : nat_eq c.args.b 10 ≡ false = search rules in
-          subst (λ l. Feeds s fed (c.args.b ∷ []) added [] c.args.host.now told l true) (sym c.push.ensures)
-          (feeds_byte s fed added c.args.host.now told c.args.line.now c.args.b f other);
+          subst (λ l. Feeds first fed (c.args.b ∷ []) added [] c.args.host.now told l true) (sym c.push.ensures)
+          (feeds_byte first fed added c.args.host.now told c.args.line.now c.args.b f other);
     }
 
 pub returns-clause-feeds : goal.returns-clause-feeds
@@ -28,9 +27,9 @@ returns-clause-feeds g c =
     record {
       events = a.events;
       goes = a.goes;
-      does = λ s fed added f.
+      does = λ first fed added f.
           let ten : 10 ≡ c.args.b = search rules in
-          subst (λ b. Feeds s fed (b ∷ []) added a.events c.answer_line-answered.new.host after c.clear.new.self ok) ten
-          (feeds_line s fed added c.args.host.now c.answer_line-answered.new.host told after c.args.line.now c.clear.new.self a.events ok a.goes.tells.adds f
-          (a.does (system_after s f.meanings f.whole) f.tail f.stands (c.bytes.ensures.same ∙ f.held)) c.clear.ensures);
+          subst (λ b. Feeds first fed (b ∷ []) added a.events c.answer_line-answered.new.host after c.clear.new.self ok) ten
+          (feeds_line first fed added c.args.host.now c.answer_line-answered.new.host told after c.args.line.now c.clear.new.self a.events ok a.goes.tells f
+          (a.does f.tail (c.bytes.ensures.same ∙ f.held)) c.clear.ensures);
     }

@@ -14,7 +14,7 @@ loop-b-init g c =
       feeds = record {
         events = [];
         goes = goes_none told told beside beside refl refl;
-        does = λ s fed added f. feeds_none s fed added c.args.host.now told c.args.line.now f;
+        does = λ first fed added f. feeds_none first fed added c.args.host.now told c.args.line.now f;
       };
       sound = c.requires.sound;
       counted = omega arith;
@@ -33,13 +33,13 @@ returns-in_err-run_byte-clause-feeds g c =
     rw p.1 (record {
       events = before.events ++ now.events;
       goes = goes_then before.events now.events [] [] (g.W.Disk.told w0) (g.W.Disk.told w1) (g.W.Disk.told w2) (g.W.Outside.beside w0) (g.W.Outside.beside w1) (g.W.Outside.beside w2) before.goes now.goes;
-      does = λ s fed added f.
+      does = λ first fed added f.
           let lt : i < length bytes = omega arith in
-          let first = before.does s fed added f in
-          subst (λ b. Feeds s fed b added (before.events ++ now.events) c.run_byte.new.host (g.W.Disk.told w2) c.run_byte.new.line false) (split_at bytes i lt)
-          (feeds_cut s fed added (take i bytes ++ get_or bytes i 0 ∷ []) (drop (i + 1) bytes) (before.events ++ now.events) c.run_byte.new.host (g.W.Disk.told w2) c.run_byte.new.line
-          (feeds_then s fed added (take i bytes) (get_or bytes i 0 ∷ []) before.events now.events c.loop-b.host c.run_byte.new.host (g.W.Disk.told w1) (g.W.Disk.told w2) c.loop-b.line c.run_byte.new.line false
-          first (now.does s (fed ++ take i bytes) (added ++ before.events) (first.done refl))));
+          let done = before.does first fed added f in
+          subst (λ b. Feeds first fed b added (before.events ++ now.events) c.run_byte.new.host (g.W.Disk.told w2) c.run_byte.new.line false) (split_at bytes i lt)
+          (feeds_cut first fed added (take i bytes ++ get_or bytes i 0 ∷ []) (drop (i + 1) bytes) (before.events ++ now.events) c.run_byte.new.host (g.W.Disk.told w2) c.run_byte.new.line
+          (feeds_then first fed added (take i bytes) (get_or bytes i 0 ∷ []) before.events now.events c.loop-b.host c.run_byte.new.host (g.W.Disk.told w1) (g.W.Disk.told w2) c.loop-b.line c.run_byte.new.line false
+          done (now.does first (fed ++ take i bytes) (added ++ before.events) (done.done refl))));
     })
 
 pub loop-b-preserved : goal.loop-b-preserved
@@ -55,12 +55,12 @@ loop-b-preserved g c =
       feeds = record {
         events = before.events ++ now.events;
         goes = goes_then before.events now.events [] [] (g.W.Disk.told w0) (g.W.Disk.told w1) (g.W.Disk.told w2) (g.W.Outside.beside w0) (g.W.Outside.beside w1) (g.W.Outside.beside w2) before.goes now.goes;
-        does = λ s fed added f.
+        does = λ first fed added f.
             let lt : i < length bytes = omega arith in
-            let first = before.does s fed added f in
-            subst (λ b. Feeds s fed b added (before.events ++ now.events) c.run_byte.new.host (g.W.Disk.told w2) c.run_byte.new.line true) (sym (take_more bytes i 0 lt))
-            (feeds_then s fed added (take i bytes) (get_or bytes i 0 ∷ []) before.events now.events c.loop-b.host c.run_byte.new.host (g.W.Disk.told w1) (g.W.Disk.told w2) c.loop-b.line c.run_byte.new.line true
-            first (now.does s (fed ++ take i bytes) (added ++ before.events) (first.done refl)));
+            let done = before.does first fed added f in
+            subst (λ b. Feeds first fed b added (before.events ++ now.events) c.run_byte.new.host (g.W.Disk.told w2) c.run_byte.new.line true) (sym (take_more bytes i 0 lt))
+            (feeds_then first fed added (take i bytes) (get_or bytes i 0 ∷ []) before.events now.events c.loop-b.host c.run_byte.new.host (g.W.Disk.told w1) (g.W.Disk.told w2) c.loop-b.line c.run_byte.new.line true
+            done (now.does first (fed ++ take i bytes) (added ++ before.events) (done.done refl)));
       };
       sound = c.run_byte.ensures.sound;
       counted = omega (arith, c.loop-b.invariant.counted, c.run_byte.ensures.counted);
@@ -73,7 +73,7 @@ returns-clause-feeds g c =
     record {
       events = before.events;
       goes = before.goes;
-      does = λ s fed added f.
-          subst (λ b. Feeds s fed b added before.events c.loop-b.host (g.W.Disk.told c.loop-b.world) c.loop-b.line true)
-          (take_all c.loop-b.b-index bytes (omega arith)) (before.does s fed added f);
+      does = λ first fed added f.
+          subst (λ b. Feeds first fed b added before.events c.loop-b.host (g.W.Disk.told c.loop-b.world) c.loop-b.line true)
+          (take_all c.loop-b.b-index bytes (omega arith)) (before.does first fed added f);
     }

@@ -3,4 +3,4 @@ use Rattle.ark_host.proofs.Standing.{fresh_stands}
 use Rattle.ark_host.proofs.host.Host.new.Goals as goal
 
 pub returns-in-Ok-clause-stands : goal.returns-in-Ok-clause-stands
-returns-in-Ok-clause-stands c = λ told size zero. fresh_stands _ told c.args.blocks (search rules) (search rules) refl refl size zero
+returns-in-Ok-clause-stands c = λ h based zero. fresh_stands _ c.args.blocks h (search rules) (search rules) refl refl based zero

@@ -2,4 +2,4 @@ use Rattle.ark_host.proofs.Ticking.{ticks}
 use Rattle.ark_host.proofs.host.Host.tick.Goals as goal
 
 pub returns-clause-turned : goal.returns-clause-turned
-returns-clause-turned c = λ told s st. ticks s c.args.self.now told c.args.ticks st
+returns-clause-turned c = λ size h s st. ticks s c.args.self.now size h c.args.ticks st
