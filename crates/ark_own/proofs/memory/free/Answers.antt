@@ -1,4 +1,4 @@
-use Rattle.std.proofs.Common.{Some, None, refl, rules, arith}
+use Rattle.std.proofs.Common.{refl, rules, arith}
 use Rattle.ark_own.proofs.OfBuffers.{no_key, no_buffer_there, is_away}
 use Rattle.ark_own.proofs.Freeing.{freed, free_row, free_done}
 use Rattle.ark_own.proofs.memory.free.Goals as goal
