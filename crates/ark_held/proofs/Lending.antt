@@ -1,5 +1,5 @@
 -- The descriptors that have a buffer.
-use Rattle.std.proofs.Common.{◌≡◌, ℕ, ◌+◌, ◌<◌, Bool, true, false, not, nat_lt, List, [], ◌∷◌, refl, sym, ◌∙◌, ap, subst, arith, bytes_eq}
+use Rattle.std.proofs.Common.{◌≡◌, ℕ, ◌+◌, ◌<◌, Bool, true, false, not, nat_lt, List, [], ◌∷◌, refl, sym, ◌∙◌, ap, arith, bytes_eq}
 use Rattle.std.specs.Prelude.{Option, Some, None, ◌||◌}
 use Rattle.std.specs.List.{list_any, AllByRecursion}
 use Rattle.std.proofs.lemmas.Bool.Decides.{nat_tests}
@@ -23,7 +23,7 @@ use Rattle.ark_held.specs.Around.{Around, Names, IsGranted, Each, Both}
 use Rattle.ark_held.specs.Areas.{IsOpened}
 use Rattle.ark_held.specs.Cards.{IsPaced, IsWatched, IsJob, IsEnded}
 use Rattle.ark_held.specs.Network.{IsPlace, IsReceiving, IsReceived, IsSending, IsSent}
-use Rattle.ark_held.specs.Held.{Fits, AllMatch, Holds}
+use Rattle.ark_held.specs.Held.{Fits, AllMatch}
 use Rattle.ark_held.specs.Keeps.{JobWithin, PlaceWithin, PacedWithin, LabelWithin, OpenedWithin, Within, any_label}
 use Rattle.ark_held.proofs.Lists.{name_other, not_some, some_same}
 use Rattle.ark_held.proofs.Creating.{but}

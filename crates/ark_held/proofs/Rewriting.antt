@@ -1,11 +1,11 @@
 -- A buffer whose bytes were written.
-use Rattle.std.proofs.Common.{◌≡◌, ℕ, ◌+◌, ◌<◌, ◌≤◌, Bool, false, List, length, take, drop, map, refl, sym, ◌∙◌, ap, subst, arith, bytes_eq, nat_eq}
+use Rattle.std.proofs.Common.{◌≡◌, ℕ, ◌+◌, ◌<◌, ◌≤◌, Bool, false, List, length, take, drop, refl, sym, ◌∙◌, ap, subst, arith, bytes_eq, nat_eq}
 use Rattle.std.specs.Prelude.{Option, Some, option_map, slice_index_or}
 use Rattle.std.specs.Map.{lookup}
 use Rattle.std.proofs.lemmas.List.{append_assoc}
 use Rattle.ark_caps.specs.Labels.{value_at}
 use Rattle.ark_caps.specs.declared.capability.Capability.{Capability}
-use Rattle.ark_region.specs.Frames.{Piece, Space, Apart, Wrote, Lies, bytes_of, frames_of, put}
+use Rattle.ark_region.specs.Frames.{Piece, Apart, Wrote, Lies, bytes_of, frames_of, put}
 use Rattle.ark_region.proofs.Putting.{length_put}
 use Rattle.ark_machine.specs.Bytes.{written}
 use Rattle.ark_machine.specs.Objects
@@ -18,7 +18,7 @@ use Rattle.ark_held.specs.Kept.{BufferKept}
 use Rattle.ark_held.specs.Stored.{buffer_kept}
 use Rattle.ark_held.specs.Around.{Around, piece_of}
 use Rattle.ark_held.specs.Cards.{IsBuffer}
-use Rattle.ark_held.specs.Held.{Fits, Matches, Holds}
+use Rattle.ark_held.specs.Held.{Fits, Holds}
 use Rattle.ark_held.specs.Keeps.{Keeps, any_label}
 use Rattle.ark_held.specs.Beyond.{Beyond, around}
 use Rattle.ark_held.specs.declared.app.App.{App}

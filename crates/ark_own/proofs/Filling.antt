@@ -1,5 +1,5 @@
 -- The row of `fill`.
-use Rattle.std.proofs.Common.{◌≡◌, inl, ℕ, ◌+◌, ◌≤◌, List, [], length, refl, sym, ◌∙◌, ap, subst}
+use Rattle.std.proofs.Common.{◌≡◌, inl, ℕ, ◌+◌, ◌≤◌, List, [], length, refl, ◌∙◌, subst}
 use Rattle.std.specs.Prelude.{Some, Ok}
 use Rattle.ark_media.specs.Calls.{Told}
 use Rattle.ark_script.specs.declared.said.Said.TheVariants as said

@@ -1,6 +1,6 @@
 -- The row of `free`: the buffer's label, its object and its frames go.
-use Rattle.std.proofs.Common.{◌≡◌, inl, ℕ, ◌+◌, ◌*◌, ◌<◌, ◌≤◌, Bool, true, false, not, nat_le, nat_lt, List, [], ◌∷◌, length, replicate, refl, sym, ◌∙◌, ap, subst, arith, bytes_eq, nat_eq}
-use Rattle.std.specs.Prelude.{Option, Some, None, Ok, is_none, option_map, slice_range, slice_index_or, filter as select}
+use Rattle.std.proofs.Common.{◌≡◌, inl, ℕ, ◌+◌, ◌*◌, ◌<◌, ◌≤◌, Bool, true, false, not, nat_le, nat_lt, List, [], ◌∷◌, length, replicate, refl, sym, ◌∙◌, ap, arith, bytes_eq, nat_eq}
+use Rattle.std.specs.Prelude.{Option, Some, Ok, is_none, option_map, slice_range, slice_index_or, filter as select}
 use Rattle.std.specs.Map.{lookup}
 use Rattle.std.proofs.lemmas.Bool.Decides.{nat_tests}
 use Rattle.std.proofs.lemmas.List.{length-replicate}
@@ -10,12 +10,11 @@ use Rattle.ark_script.specs.declared.said.Said.TheVariants as said
 use Rattle.ark_caps.specs.Labels.{value_at, others}
 use Rattle.ark_caps.specs.declared.capability.Capability.{Capability}
 use Rattle.ark_caps.specs.declared.capability.CapKind.TheVariants as cap_kind
-use Rattle.ark_region.specs.Frames.{Piece, Space, bytes_of, frames_of, put}
+use Rattle.ark_region.specs.Frames.{Piece, frames_of, put}
 use Rattle.ark_region.proofs.Putting.{put_below, put_above, put_copies}
-use Rattle.ark_objects.specs.Held.{at as slot}
 use Rattle.ark_machine.specs.Objects
 use Rattle.ark_machine.specs.Objects.{Object, Buffer}
-use Rattle.ark_machine.specs.Machine.{Machine, Held, at, buffer_at, bytes_at, missing, without}
+use Rattle.ark_machine.specs.Machine.{Machine, buffer_at, bytes_at, missing, without}
 use Rattle.ark_machine.specs.Buffers as rows
 use Rattle.ark_machine.specs.Buffers.{is_lent}
 use Rattle.ark_machine.specs.Row.{Row, Given, says, answer}
@@ -26,8 +25,7 @@ use Rattle.ark_held.specs.Totals.{bit, total, uses, covers, object_covers, cover
 use Rattle.ark_held.specs.Kept.{BufferKept}
 use Rattle.ark_held.specs.Stored.{kept_of, buffer_kept, Gave}
 use Rattle.ark_held.specs.Around.{Around, piece_of}
-use Rattle.ark_held.specs.Cards.{IsBuffer}
-use Rattle.ark_held.specs.Held.{Fits, Holds, is_area, is_area_cap, area_labels, has_key}
+use Rattle.ark_held.specs.Held.{Holds, is_area, is_area_cap, area_labels, has_key}
 use Rattle.ark_held.specs.Keeps.{Keeps, any_piece}
 use Rattle.ark_held.specs.Beyond.{Beyond, around}
 use Rattle.ark_held.specs.Does.{Acts}

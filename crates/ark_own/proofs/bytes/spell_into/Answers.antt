@@ -1,4 +1,4 @@
-use Rattle.std.proofs.Common.{◌≡◌, ◌+◌, ◌/◌, ℕ, List, length, Some, subst, rules, arith}
+use Rattle.std.proofs.Common.{◌≡◌, Some, subst, rules, arith}
 use Rattle.ark_region.specs.Frames.{Piece, Wrote}
 use Rattle.ark_objects.specs.Held.{at}
 use Rattle.ark_script.specs.Line.{spelled}

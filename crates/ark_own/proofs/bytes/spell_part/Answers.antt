@@ -1,4 +1,4 @@
-use Rattle.std.proofs.Common.{◌≡◌, ◌+◌, ◌*◌, ◌-◌, ◌/◌, List, ℕ, length, sym, subst, ◌∙◌, arith}
+use Rattle.std.proofs.Common.{◌+◌, ◌*◌, List, ℕ, sym, subst, arith}
 use Rattle.ark_region.specs.Frames.{Wrote, written}
 use Rattle.ark_script.specs.Line.{spelled}
 use Rattle.ark_own.proofs.OfBytes.{spelled_room, half_digits}

@@ -1,4 +1,4 @@
-use Rattle.std.proofs.Common.{◌≡◌, ◌<◌, ◌≤◌, false, refl, rules, arith}
+use Rattle.std.proofs.Common.{◌≡◌, false, refl, rules}
 use Rattle.std.specs.Prelude.{Some, is_none}
 use Rattle.ark_objects.specs.Held.{at}
 use Rattle.ark_held.proofs.Storing.{right_found}

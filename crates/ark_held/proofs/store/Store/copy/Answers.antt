@@ -1,11 +1,9 @@
-use Rattle.std.proofs.Common.{◌≡◌, ℕ, Bool, List, take, Some, None, sym, ap, subst, ◌∙◌, rules, arith}
-use Rattle.std.specs.Prelude.{Option, is_some, option_copied}
-use Rattle.std.proofs.lemmas.Bool.{false≢true}
+use Rattle.std.proofs.Common.{◌≡◌, take, Some, sym, ap, subst, ◌∙◌, rules, arith}
+use Rattle.std.specs.Prelude.{option_copied}
 use Rattle.ark_region.specs.Frames.{Piece, Wrote, bytes_of}
 use Rattle.ark_objects.specs.Held.{at}
-use Rattle.ark_held.specs.declared.buffer.Buffer.{Buffer}
 use Rattle.ark_held.proofs.Rights.{right_lies, right_len}
-use Rattle.ark_held.proofs.Storing.{same_in, right_found, same_right, gone_here, right_here, len_here}
+use Rattle.ark_held.proofs.Storing.{same_in, same_right, gone_here, right_here, len_here}
 use Rattle.ark_held.proofs.store.Store.copy.Goals as goal
 
 pub unreachable-requires : goal.unreachable-requires
