@@ -8,7 +8,7 @@ use example::Example;
 use std::fs;
 
 /// The files of the folder `data`.
-const NAMES: [&str; 3] = ["afresh.txt", "blocks.txt", "refused.txt"];
+const NAMES: [&str; 4] = ["afresh.txt", "blocks.txt", "buffers.txt", "refused.txt"];
 
 fn main(rt: HostRuntime) -> anyhow::Result<()> {
     for name in NAMES {
