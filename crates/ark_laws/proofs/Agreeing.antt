@@ -1,26 +1,21 @@
 -- Every line keeps it that the plane lists just the filters that the machines hold.
-use Rattle.std.proofs.Common.{◌≡◌, ℕ, ◌+◌, Bool, true, false, not, ◌&&◌, List, [], ◌∷◌, ◌++◌, map, refl, sym, ◌∙◌, ap, subst, cond}
+use Rattle.std.proofs.Common.{◌≡◌, ℕ, Bool, true, false, not, ◌&&◌, List, [], ◌∷◌, ◌++◌, map, refl, sym, ◌∙◌, ap, subst, cond}
 use Rattle.std.proofs.lemmas.Bool.{false≢true, and_parts, and_from}
 use Rattle.std.proofs.lemmas.Option.{same_Some}
-use Rattle.std.specs.Prelude.{Option, Some, None, option_map, option_and_then, find, filter as select, unwrap_or, bytes_eq, is_some, is_none, nat_le, ◌||◌}
-use Rattle.std.specs.List.{list_any}
+use Rattle.std.specs.Prelude.{Option, Some, None, option_map, option_and_then, find, filter as select, bytes_eq, is_some, is_none, nat_le, ◌||◌}
 use Rattle.ark_base.specs.Conditions.{Conditions, none, early, late}
 use Rattle.ark_base.specs.declared.refusal.Refusal.{Refusal}
-use Rattle.ark_base.specs.declared.refusal.Refusal.TheVariants as r
-use Rattle.ark_media.specs.Journal.{Event}
-use Rattle.ark_packet.specs.declared.own.Own.{Own}
 use Rattle.ark_filters.specs.declared.filter.Filter.{Filter}
 use Rattle.ark_script.specs.Line as w
 use Rattle.ark_script.specs.Line.{Line}
 use Rattle.ark_script.specs.declared.said.Said.TheVariants as said
 use Rattle.ark_machine.specs.Objects
 use Rattle.ark_machine.specs.Objects.{Object, Vnic, as_vnic, as_filter, is_filter, is_vsa}
-use Rattle.ark_machine.specs.Machine.{Machine, Held, at, object_at, vnic_at, filter_at, serial_at, is_so, missing, is_full, count_of, with_object, with_new, without, each_object}
-use Rattle.ark_machine.specs.Row.{Row, Ended, Given, Call, says, answer, unless_refused, has_fault, synced_by, writes_slot, syncs}
-use Rattle.ark_machine.specs.Control.{lets_go}
+use Rattle.ark_machine.specs.Machine.{Machine, Held, at, object_at, vnic_at, filter_at, missing, is_full, count_of, with_object, with_new}
+use Rattle.ark_machine.specs.Row.{Row, Given, says, answer, unless_refused}
 use Rattle.ark_machine.specs.Network.{new_vnic, max_filters, assigned_to}
-use Rattle.ark_machine.specs.Plane.{Plane, LiveFilter, Change, recorded}
-use Rattle.ark_machine.specs.Granting.{is_filter_of, is_on, assigned, changed, change_of, with_granted, plane_after, after_refusal}
+use Rattle.ark_machine.specs.Plane.{LiveFilter}
+use Rattle.ark_machine.specs.Granting.{is_filter_of, assigned}
 use Rattle.ark_machine.specs.Step.{step}
 use Rattle.ark_machine.specs.System.{System, listed_machine, set_machine, machine_of, own_turn}
 use Rattle.ark_machine.specs.Filters.{as_assigned, held_at, listed_at, EachOnce, FiltersAgree}
@@ -28,10 +23,10 @@ use Rattle.ark_machine.proofs.Grants.{or_false}
 use Rattle.ark_laws.proofs.Granted.{kind_and_limit}
 use Rattle.ark_laws.proofs.Listed.{same_bytes, bytes_eq-same, set_there as machine_there}
 use Rattle.ark_laws.proofs.Privacy.{own_machine}
-use Rattle.ark_laws.proofs.Setting.{set_here, set_there, each_found}
-use Rattle.ark_laws.proofs.Seen.{new_here, new_there, gone_here, gone_there, none_of, name_free, synced_sees}
+use Rattle.ark_laws.proofs.Setting.{set_here, set_there}
+use Rattle.ark_laws.proofs.Seen.{new_here, new_there, none_of, name_free}
 use Rattle.ark_laws.proofs.SeenRows.{row_sees}
-use Rattle.ark_laws.proofs.Keeping.{Keeps, keeps_itself, keeps_then, keeps_of, nothing_at, new_cards, new_keeps, changes_list, plane_filters, joined, kept, changed_filters, refused_filters}
+use Rattle.ark_laws.proofs.Keeping.{Keeps, keeps_itself, keeps_of, nothing_at, new_cards, new_keeps, changes_list, joined, kept, refused_filters}
 
 -- What is listed.
 

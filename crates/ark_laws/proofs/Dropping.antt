@@ -2,7 +2,7 @@
 use Rattle.std.proofs.Common.{◌≡◌, ℕ, Bool, true, false, not, ◌&&◌, List, [], ◌∷◌, map, refl, sym, ◌∙◌, ap, subst, cond}
 use Rattle.std.proofs.lemmas.Bool.{false≢true, and_parts}
 use Rattle.std.proofs.lemmas.Option.{same_Some}
-use Rattle.std.specs.Prelude.{Option, Some, None, option_map, option_and_then, find, filter as select, unwrap_or, bytes_eq, is_some}
+use Rattle.std.specs.Prelude.{Option, Some, None, option_map, option_and_then, filter as select, unwrap_or, bytes_eq, is_some}
 use Rattle.ark_base.specs.Conditions.{Conditions, none, early, when}
 use Rattle.ark_base.specs.declared.refusal.Refusal.{Refusal}
 use Rattle.ark_base.specs.declared.refusal.Refusal.TheVariants as r
@@ -16,7 +16,7 @@ use Rattle.ark_machine.specs.Objects.{Object, as_vnic, is_vsa, is_buffer}
 use Rattle.ark_machine.specs.Machine.{Machine, object_at, vnic_at, serial_at, is_so, missing, without, each_object}
 use Rattle.ark_machine.specs.Row.{Row, Given, Call, says, answer, unless_refused, has_fault, synced_by, writes_slot, syncs}
 use Rattle.ark_machine.specs.Control.{lets_go, is_in_use}
-use Rattle.ark_machine.specs.Plane.{Plane, LiveFilter, Change}
+use Rattle.ark_machine.specs.Plane.{LiveFilter}
 use Rattle.ark_machine.specs.Granting.{is_filter_of, is_on, assigned, changed, change_of}
 use Rattle.ark_machine.specs.Step.{step}
 use Rattle.ark_machine.specs.Follow.{Follows, Follow, ended, fails, goes_on, again, passes, ends_of}

@@ -1,10 +1,9 @@
 -- A line that changes no filter keeps it that the plane lists just the filters that are held.
-use Rattle.std.proofs.Common.{◌≡◌, ℕ, ◌+◌, Bool, true, false, not, ◌&&◌, List, [], ◌∷◌, ◌++◌, map, refl, sym, ◌∙◌, ap, subst, cond}
+use Rattle.std.proofs.Common.{◌≡◌, ℕ, Bool, true, false, List, refl, sym, ◌∙◌, ap, subst}
 use Rattle.std.proofs.lemmas.Bool.{false≢true}
-use Rattle.std.specs.Prelude.{Option, Some, None, option_map, option_and_then, find, unwrap_or, bytes_eq, is_some}
+use Rattle.std.specs.Prelude.{Option, Some, None, option_map, option_and_then, bytes_eq, is_some}
 use Rattle.ark_base.specs.declared.refusal.Refusal.{Refusal}
 use Rattle.ark_base.specs.declared.refusal.Refusal.TheVariants as r
-use Rattle.ark_packet.specs.declared.own.Own.{Own}
 use Rattle.ark_filters.specs.declared.filter.Filter.{Filter}
 use Rattle.ark_script.specs.Line as w
 use Rattle.ark_script.specs.Line.{Line}
@@ -13,13 +12,12 @@ use Rattle.ark_script.specs.declared.said.Said.TheVariants as said
 use Rattle.ark_machine.specs.Objects
 use Rattle.ark_machine.specs.Objects.{Object, Vnic, as_vnic}
 use Rattle.ark_machine.specs.Machine.{Machine, Held, at, object_at, vnic_at, with_new}
-use Rattle.ark_machine.specs.Plane.{Plane, LiveFilter, Change, makes, grows, drops}
+use Rattle.ark_machine.specs.Plane.{Plane, Change, makes, grows, drops}
 use Rattle.ark_machine.specs.Granting.{changed, failed_change, change_of, with_granted, after_refusal, plane_after}
 use Rattle.ark_machine.specs.System.{System, machine_of}
 use Rattle.ark_machine.specs.Filters.{as_assigned, held_at, listed_at, EachOnce, FiltersAgree}
 use Rattle.ark_laws.proofs.Listed.{same_bytes, bytes_eq-same}
-use Rattle.ark_laws.proofs.Setting.{found_at}
-use Rattle.ark_laws.proofs.Seen.{Seen, other, card, filtering, view, seen, Sees, new_here, new_there, none_of}
+use Rattle.ark_laws.proofs.Seen.{Seen, other, card, filtering, seen, Sees, new_here, new_there, none_of}
 
 -- What the view of an object tells.
 

@@ -1,5 +1,5 @@
 -- From the start of a run on, the plane lists just the filters that the machines hold.
-use Rattle.std.proofs.Common.{◌≡◌, inr, ℕ, ◌+◌, Bool, true, false, List, [], ◌∷◌, ◌++◌, map, refl, sym, ◌∙◌, ap, subst, cond}
+use Rattle.std.proofs.Common.{◌≡◌, inr, ℕ, Bool, true, false, List, [], ◌∷◌, ◌++◌, refl, sym, ◌∙◌, ap, subst, cond}
 use Rattle.std.specs.Prelude.{Option, Some, None, option_map, option_and_then, find, unwrap_or, bytes_eq, is_some}
 use Rattle.std.specs.List.{AllByRecursion}
 use Rattle.ark_base.specs.declared.kind.Kind.{Kind}
@@ -10,16 +10,15 @@ use Rattle.ark_filters.specs.declared.filter.Filter.{Filter}
 use Rattle.ark_table.specs.Slots.{Slot}
 use Rattle.ark_script.specs.Line as w
 use Rattle.ark_script.specs.Line.{Line}
-use Rattle.ark_machine.specs.Objects.{Object}
 use Rattle.ark_machine.specs.Machine.{Machine, Held, vnic_at, unmade}
 use Rattle.ark_machine.specs.Plane.{LiveFilter, recorded}
 use Rattle.ark_machine.specs.Network.{arrive}
-use Rattle.ark_machine.specs.Step.{step, ticked}
+use Rattle.ark_machine.specs.Step.{step}
 use Rattle.ark_machine.specs.Follow.{PerformsFor, ends_of}
 use Rattle.ark_machine.specs.Start.{stored_area, view, with_slot, with_stored, all_stored, start_system}
-use Rattle.ark_machine.specs.System.{System, listed_machine, set_machine, machine_of, owner, takes, own_turn, arrival_turn, nic_turn, taken_turn, wire_turn, tick_turn, common_turn, owned_turn, line_turn, fresh_system}
+use Rattle.ark_machine.specs.System.{System, listed_machine, machine_of, owner, takes, arrival_turn, nic_turn, taken_turn, wire_turn, tick_turn, common_turn, owned_turn, line_turn, fresh_system}
 use Rattle.ark_machine.specs.Filters.{as_assigned, held_at, FiltersAgree}
-use Rattle.ark_laws.proofs.Listed.{unmade_at, is_unlisted, unlisted_machine, ticked_machine, set_here, set_there}
+use Rattle.ark_laws.proofs.Listed.{unmade_at, unlisted_machine, ticked_machine, set_here, set_there}
 use Rattle.ark_laws.proofs.Privacy.{own_machine}
 use Rattle.ark_laws.proofs.SeenMoves.{arrive_sees}
 use Rattle.ark_laws.proofs.Keeping.{keeps_of, kept, changes_list, plane_filters}

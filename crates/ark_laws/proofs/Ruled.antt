@@ -1,6 +1,6 @@
 -- Each live filter of a run is one that a line can give.
-use Rattle.std.proofs.Common.{ℕ, Bool, true, false, not, List, [], ◌∷◌, ◌++◌, map, cond, ◌&&◌}
-use Rattle.std.specs.Prelude.{Option, Some, None, find, filter as select, option_map, bytes_eq}
+use Rattle.std.proofs.Common.{ℕ, Bool, true, false, not, List, map, cond}
+use Rattle.std.specs.Prelude.{Option, Some, None, find, filter as select}
 use Rattle.std.specs.List.{All}
 use Rattle.std.proofs.lemmas.List.Elements.{All-push, All-map, All-filter, All-weaker}
 use Rattle.ark_base.specs.declared.refusal.Refusal.{Refusal}

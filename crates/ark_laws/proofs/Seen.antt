@@ -1,8 +1,8 @@
 -- What a change of a machine leaves of its filters and network cards.
-use Rattle.std.proofs.Common.{◌≡◌, ℕ, Bool, true, false, not, List, [], ◌∷◌, ◌++◌, map, refl, sym, ◌∙◌, ap, subst, cond}
+use Rattle.std.proofs.Common.{◌≡◌, ℕ, Bool, true, false, not, List, [], ◌∷◌, ◌++◌, refl, sym, ◌∙◌, ap, subst, cond}
 use Rattle.std.proofs.lemmas.Bool.{false≢true}
 use Rattle.std.specs.Prelude.{Option, Some, None, option_map, option_and_then, find, filter as select, unwrap_or, bytes_eq, is_some}
-use Rattle.ark_base.specs.Conditions.{Conditions, early, late, when, when_some}
+use Rattle.ark_base.specs.Conditions.{Conditions, early, late, when}
 use Rattle.ark_base.specs.declared.refusal.Refusal.{Refusal}
 use Rattle.ark_base.specs.declared.refusal.Refusal.TheVariants as r
 use Rattle.ark_filters.specs.declared.filter.Filter.{Filter}
@@ -18,7 +18,7 @@ use Rattle.ark_machine.specs.Areas.{with_raw}
 use Rattle.ark_machine.specs.Rates.{rung}
 use Rattle.ark_laws.proofs.Granted.{kind_and_limit}
 use Rattle.ark_laws.proofs.Listed.{same_bytes, bytes_eq-same}
-use Rattle.ark_laws.proofs.Setting.{found_at, set_in, set_here, set_there, each_found}
+use Rattle.ark_laws.proofs.Setting.{found_at, set_here, set_there, each_found}
 
 -- what a filter's laws ask of an object
 pub data Seen : Type 0 where

@@ -1,6 +1,6 @@
 -- Moves, polls and settling leave the filters and network cards that are held.
-use Rattle.std.proofs.Common.{◌≡◌, ℕ, ◌+◌, Bool, true, false, not, List, [], ◌∷◌, ◌++◌, ◌&&◌, ◌*◌, length, take, refl, ap, ◌∙◌, sym, subst, cond}
-use Rattle.std.specs.Prelude.{Option, Some, None, Result, Ok, Err, option_map, option_and_then, unwrap_or, nat_lt, slice_index_or, bytes_eq}
+use Rattle.std.proofs.Common.{◌≡◌, ℕ, ◌+◌, Bool, true, false, not, List, [], ◌∷◌, ◌++◌, ◌&&◌, ◌*◌, length, take, refl, ◌∙◌, cond}
+use Rattle.std.specs.Prelude.{Option, Some, None, Result, Ok, Err, option_map, unwrap_or, nat_lt, slice_index_or, bytes_eq}
 use Rattle.ark_base.specs.declared.kind.Outcome.{Outcome}
 use Rattle.ark_base.specs.declared.kind.Outcome.TheVariants as outcome
 use Rattle.ark_caladan.specs.Chain.{Log, Opened, Command, Phase, Verb, reading, writing, syncing, commands}
@@ -12,15 +12,15 @@ use Rattle.ark_script.specs.declared.said.Said.TheVariants as said
 use Rattle.ark_machine.specs.Bytes.{block_of}
 use Rattle.ark_machine.specs.Objects
 use Rattle.ark_machine.specs.Objects.{Object, Paced, Raw, Vsic, Vnic, Job, Place, Transfer, Datagram, transfer, flush, phase, as_log}
-use Rattle.ark_machine.specs.Machine.{Machine, object_at, vsic_at, vnic_at, log_at, label_numbered, bytes_at, each_object, with_vsic, with_vnic, with_log, with_object}
-use Rattle.ark_machine.specs.Row.{Row, Call, Ended, Given, reads_in, writes_in, syncs, says, synced}
+use Rattle.ark_machine.specs.Machine.{Machine, object_at, vsic_at, vnic_at, log_at, label_numbered, bytes_at, each_object, with_vsic, with_vnic}
+use Rattle.ark_machine.specs.Row.{Call, Ended, Given, reads_in, writes_in, says, synced}
 use Rattle.ark_machine.specs.Areas.{raw_written, with_raw}
 use Rattle.ark_machine.specs.Buffers.{with_bytes}
 use Rattle.ark_machine.specs.Rates.{is_over_burst, may_pass, passed}
 use Rattle.ark_machine.specs.Cards.{posting}
 use Rattle.ark_machine.specs.Moves.{Move, moves, ending, ended, ends, outcome_of, block_passed, block_moved, tried, gated, raw_numbered, is_granted, transferred, transfer_call, log_on, deciding_tried, phase_written, phase_moves, phase_moves_on, moved, move, log_moved, log_move, first_end}
 use Rattle.ark_machine.specs.Logs.{with_opened, card_of}
-use Rattle.ark_machine.specs.Polls.{Polled, acknowledging, next_phase, phases_left, emptied, failing, one_done, phase_ended, poll_card, unreaped_on, posted_on, poll_oldest, poll_opened, poll_log, polled, is_held, settle_move, Next, stops, calls_on, without_call, by_calls, due_move, next_of, next_call, settle_end, settling}
+use Rattle.ark_machine.specs.Polls.{Polled, acknowledging, next_phase, phases_left, emptied, failing, one_done, phase_ended, poll_card, unreaped_on, posted_on, poll_oldest, poll_opened, poll_log, polled, is_held, settle_move, Next, stops, calls_on, without_call, by_calls, due_move, next_of, next_call, settling}
 use Rattle.ark_machine.specs.Network.{is_let_out, bytes_in, tx_ended, tx_ending, tx_passed, frame_moves, tx_moves, with_frame, filled, rx_ending, rx_passed, received, arrival, arrive}
 use Rattle.ark_machine.specs.Sockets.{has_port, max_datagrams, delivered, with_datagram, with_received, all_received, rx_reaped, unreaped_rx, pulled, give_oldest}
 use Rattle.ark_machine.specs.Devices.{card_moves}

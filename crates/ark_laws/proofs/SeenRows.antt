@@ -1,5 +1,5 @@
 -- The rows of all words but four leave the filters and network cards that are held.
-use Rattle.std.proofs.Common.{◌≡◌, ℕ, Bool, true, false, not, List, [], ◌∷◌, map, refl, sym, ◌∙◌, subst, cond}
+use Rattle.std.proofs.Common.{◌≡◌, ℕ, Bool, true, false, List, [], ◌∷◌, map, refl, sym, ◌∙◌, cond}
 use Rattle.std.proofs.lemmas.Bool.{false≢true}
 use Rattle.std.specs.Prelude.{Option, Some, None, is_none, is_some, find, unwrap_or, option_map, bytes_eq}
 use Rattle.ark_base.specs.declared.kind.Kind.{Kind}
@@ -10,22 +10,21 @@ use Rattle.ark_filters.specs.declared.filter.Direction.TheVariants as direction
 use Rattle.ark_vic.specs.declared.door.Counts.{Counts}
 use Rattle.ark_script.specs.Line as w
 use Rattle.ark_script.specs.Line.{Line}
-use Rattle.ark_script.specs.declared.said.Said.TheVariants as said
 use Rattle.ark_script.specs.declared.step.Side.{Side}
 use Rattle.ark_script.specs.declared.step.Side.TheVariants as side
 use Rattle.ark_machine.specs.Objects
 use Rattle.ark_machine.specs.Objects.{Object, Vnic, Buffer, Paced, Job, Place}
-use Rattle.ark_machine.specs.Machine.{Machine, Held, holding, at, object_at, vnic_at, with_object, log_at, door_at, buffer_at, serial_at, room_for, with_vnic, with_log}
-use Rattle.ark_machine.specs.Row.{Row, Given, Ended, says, has_fault, synced_by}
+use Rattle.ark_machine.specs.Machine.{Machine, Held, holding, at, object_at, vnic_at, with_object, log_at, door_at, buffer_at, serial_at, room_for, with_log}
+use Rattle.ark_machine.specs.Row.{Given, Ended, has_fault, synced_by}
 use Rattle.ark_machine.specs.Areas.{new_area, block_written, grown, raw_written}
 use Rattle.ark_machine.specs.Bytes.{padded}
 use Rattle.ark_machine.specs.Buffers.{with_new_buffer}
 use Rattle.ark_machine.specs.Rates.{pace_of, with_pace, with_door, no_rings}
 use Rattle.ark_machine.specs.Cards.{reap_oldest, unreaped_at, bound_with, bound_without}
 use Rattle.ark_machine.specs.Network.{take_received, take_sent, take_oldest, received_at, sent_at, is_socketed}
-use Rattle.ark_machine.specs.Sockets.{with_buffers, socketed_at, with_socket_card, card_places, card_at, tx_reaped, sent_reaped, posted_at, framed, frame_frames, pulled, give_oldest, datagrams_at}
+use Rattle.ark_machine.specs.Sockets.{with_buffers, socketed_at, with_socket_card, card_places, card_at, tx_reaped, sent_reaped, posted_at, framed, frame_frames, pulled, datagrams_at}
 use Rattle.ark_machine.specs.Logs.{opening, opened_on, opened_machine, damage_of, found_in, closing, card_of}
-use Rattle.ark_machine.specs.Polls.{polled, next_call, settling}
+use Rattle.ark_machine.specs.Polls.{next_call}
 use Rattle.ark_machine.specs.Step.{step}
 use Rattle.ark_laws.proofs.Seen.{Sees, view, seen, other, sees_itself, sees_then, object_sees, new_sees, without_sees, if_sees, synced_sees, vsic_sees, vnic_sees, log_sees, buffer_sees, raw_sees, door_view, buffer_view, answer_sees}
 use Rattle.ark_laws.proofs.SeenMoves.{with_opened_sees, polled_sees, settling_sees, next_call_sees, card_moves_sees, pulled_sees, give_sees}

@@ -1,8 +1,8 @@
 -- A filter that shares a frame with a live one is refused, and no other is refused so.
-use Rattle.std.proofs.Common.{◌≡◌, ◌↔◌, ℕ, Bool, true, false, ◌&&◌, ◌||◌, not, List, [], ◌∷◌, ◌++◌, refl, sym, ap, subst, ◌∙◌, cond}
-use Rattle.std.specs.Prelude.{Option, Some, None, option_map, find, is_some, is_none, nat_le}
+use Rattle.std.proofs.Common.{◌≡◌, ◌↔◌, ℕ, Bool, true, false, ◌&&◌, List, [], ◌∷◌, ◌++◌, refl, sym, ap, subst, ◌∙◌, cond}
+use Rattle.std.specs.Prelude.{Option, Some, None, option_map, find}
 use Rattle.std.specs.List.{All, AllByRecursion}
-use Rattle.std.proofs.lemmas.Bool.{and_parts, and_from, cases_Bool, false≢true}
+use Rattle.std.proofs.lemmas.Bool.{and_parts, and_from, false≢true}
 use Rattle.std.proofs.lemmas.Option.{same_Some}
 use Rattle.std.proofs.lemmas.List.Elements.{All-from_recursion, recursion_from_All}
 use Rattle.ark_base.specs.Conditions.{Conditions, none, early, late}
@@ -18,10 +18,10 @@ use Rattle.ark_filters.proofs.Together.{overlap_meets}
 use Rattle.ark_script.specs.Line as w
 use Rattle.ark_script.specs.declared.said.Said.TheVariants as said
 use Rattle.ark_machine.specs.Machine.{Machine}
-use Rattle.ark_machine.specs.Row.{Row, Given, Ended, says, answer, unless_refused}
-use Rattle.ark_machine.specs.Plane.{LiveFilter, is_receive, is_overlapped, overlapped, recorded}
+use Rattle.ark_machine.specs.Row.{Row, Ended, says, answer, unless_refused}
+use Rattle.ark_machine.specs.Plane.{LiveFilter, is_receive, is_overlapped, overlapped}
 use Rattle.ark_machine.specs.Step.{step}
-use Rattle.ark_machine.specs.System.{System, machine_of, line_turn}
+use Rattle.ark_machine.specs.System.{System, line_turn}
 use Rattle.ark_machine.specs.Filters.{SharesFrame, IsFirstSharing, HasRules, without_filters}
 
 -- Two filters.

@@ -1,5 +1,5 @@
 -- Numbers as `byteorder` reads and writes them.
-use Rattle.std.proofs.Common.{◌≡◌, ℕ, ◌+◌, ◌-◌, List, length, take, drop, get_or, arith, refl, ap, ◌∙◌, get_or-drop}
+use Rattle.std.proofs.Common.{◌≡◌, ℕ, ◌-◌, List, length, take, drop, get_or, arith, refl, ap, ◌∙◌, get_or-drop}
 use Rattle.byteorder.specs.Endian.{big_number}
 use Rattle.ark_packet.specs.Wire.{word_at}
 use Rattle.ark_packet.proofs.Sums.{rest_from}

@@ -1,6 +1,6 @@
 use Rattle.std.proofs.Common.{ap, ◌∙◌, arith, rules}
 use Rattle.ark_packet.specs.Sum.{plus}
-use Rattle.ark_packet.proofs.Sums.{pair_added, none_added, rest_from, octets_from}
+use Rattle.ark_packet.proofs.Sums.{pair_added, rest_from, octets_from}
 use Rattle.ark_packet.proofs.Numbers.{number_first}
 use Rattle.ark_packet.proofs.sum.add_octets.Goals as goal
 

@@ -1,4 +1,4 @@
-use Rattle.std.proofs.Common.{ap, ◌∙◌, append-nil}
+use Rattle.std.proofs.Common.{ap, ◌∙◌}
 use Rattle.std.specs.Int.{w64, to_be_bytes}
 use Rattle.ark_table.proofs.Laying.{superblock_laid}
 use Rattle.ark_table.proofs.superblock.superblock_of.Goals as goal
