@@ -11,7 +11,7 @@ use Rattle.ark_machine.specs.Bytes.{padded}
 use Rattle.ark_machine.specs.Objects.{Raw, is_vsa}
 use Rattle.ark_machine.specs.Machine.{object_at, raw_at, log_at, vnic_at, is_so}
 use Rattle.ark_machine.specs.Row
-use Rattle.ark_machine.specs.Row.{Row, Call, Ended, Given, answer, unless_refused}
+use Rattle.ark_machine.specs.Row.{Row, Ended, Given}
 use Rattle.ark_machine.specs.Cards.{unreaped_at}
 use Rattle.ark_machine.specs.Logs.{found_in}
 use Rattle.ark_machine.specs.Polls.{polled, next_call}

@@ -1,11 +1,11 @@
 -- Every line keeps the frames that are posted to transmit whole in their buffers.
-use Rattle.std.proofs.Common.{◌≡◌, ◌≤◌, ◌⊎◌, inl, inr, ℕ, zero, suc, ◌+◌, Bool, true, false, not, ◌&&◌, ◌||◌, List, [], ◌∷◌, ◌++◌, length, map, take, refl, sym, ◌∙◌, ap, subst, arith, cond}
+use Rattle.std.proofs.Common.{◌≡◌, ◌≤◌, ◌⊎◌, inl, inr, ℕ, zero, suc, ◌+◌, Bool, true, false, ◌&&◌, ◌||◌, List, [], ◌∷◌, ◌++◌, length, take, refl, sym, ◌∙◌, ap, subst, arith, cond}
 use Rattle.std.proofs.lemmas.Bool.{false≢true}
 use Rattle.std.proofs.lemmas.Bool.Decides.{nat_tests}
 use Rattle.std.proofs.lemmas.List.Elements.{Contains-append_cases}
 use Rattle.std.specs.Prelude.{Option, Some, None, is_some, is_none, option_map, option_and_then, find, unwrap_or, bytes_eq, nat_lt, Contains, Result, Ok, Err}
 use Rattle.std.specs.List.{AllByRecursion, list_any}
-use Rattle.ark_base.specs.Conditions.{Conditions, early, late, when, when_some}
+use Rattle.ark_base.specs.Conditions.{Conditions, early, late}
 use Rattle.ark_base.specs.declared.kind.Kind.{Kind}
 use Rattle.ark_base.specs.declared.kind.Kind.TheVariants as kind
 use Rattle.ark_base.specs.declared.kind.Outcome.{Outcome}
@@ -28,22 +28,21 @@ use Rattle.ark_script.specs.declared.step.Side.TheVariants as side
 use Rattle.ark_machine.specs.Bytes.{padded}
 use Rattle.ark_machine.specs.Objects
 use Rattle.ark_machine.specs.Objects.{Object, Vnic, Place, Paced, Job, Datagram, as_filter, is_buffer}
-use Rattle.ark_machine.specs.Machine.{Machine, Held, unmade, at, object_at, door_at, vnic_at, filter_at, serial_at, bytes_at, is_so, holds_any, missing, with_object, each_object, without, with_vnic, with_log, room_for}
-use Rattle.ark_machine.specs.Row.{Row, Given, Ended, says, synced, synced_by, has_fault, is_sync, answer, unless_refused}
+use Rattle.ark_machine.specs.Machine.{Machine, Held, unmade, object_at, door_at, filter_at, serial_at, bytes_at, is_so, with_object, each_object, without, with_vnic, with_log, room_for}
+use Rattle.ark_machine.specs.Row.{Row, Given, Ended, synced_by, has_fault, is_sync, answer, unless_refused}
 use Rattle.ark_machine.specs.Control.{lets_go}
 use Rattle.ark_machine.specs.Areas.{new_area, grown, raw_written, block_written}
-use Rattle.ark_machine.specs.Buffers.{job_has, place_has, has_buffer, is_lent, with_new_buffer}
+use Rattle.ark_machine.specs.Buffers.{place_has, has_buffer, is_lent, with_new_buffer}
 use Rattle.ark_machine.specs.Rates.{no_rings, pace_of, with_pace, with_door}
 use Rattle.ark_machine.specs.Cards.{reap_oldest, unreaped_at}
 use Rattle.ark_machine.specs.Network.{bytes_in, is_socketed, posting_rx, posting_tx, take_received, take_sent, take_oldest, received_at, sent_at, assigned_to, arrive}
-use Rattle.ark_machine.specs.Sockets.{with_buffers, socketed_at, with_socket_card, card_places, card_at, tx_reaped, sent_reaped, posted_at, framed, frame_frames, send_reaped, has_port, delivered, with_datagram, with_received, all_received, rx_reaped, unreaped_rx, pulled, give_oldest, datagrams_at, max_datagrams}
-use Rattle.ark_machine.specs.Logs.{opening, opened_on, opened_machine, found_in, damage_of, closing, card_of}
-use Rattle.ark_machine.specs.Devices.{card_moves}
+use Rattle.ark_machine.specs.Sockets.{socketed_at, with_socket_card, card_places, card_at, tx_reaped, sent_reaped, posted_at, framed, frame_frames, has_port, delivered, with_datagram, with_received, all_received, rx_reaped, unreaped_rx, pulled, give_oldest, datagrams_at, max_datagrams}
+use Rattle.ark_machine.specs.Logs.{opening, opened_machine, found_in, damage_of, closing, card_of}
 use Rattle.ark_machine.specs.Step.{step, ticked}
 use Rattle.ark_machine.specs.System.{System, fresh_system, listed_machine, machine_of, line_turn}
-use Rattle.ark_machine.specs.Private.{Play, Input, asks, comes, passes, inputs_of, private_row, private_machine}
+use Rattle.ark_machine.specs.Private.{Play, Input, asks, comes, passes, inputs_of, private_machine}
 use Rattle.ark_machine.specs.Start.{view, stored_area, with_slot, with_stored, all_stored, start_system}
-use Rattle.ark_machine.specs.Frames.{frames_at, IsThere, FramesThere}
+use Rattle.ark_machine.specs.Frames.{IsThere, FramesThere}
 use Rattle.ark_machine.proofs.Grants.{or_false, clash}
 use Rattle.ark_laws.proofs.Listed.{same_bytes, bytes_eq-same}
 use Rattle.ark_laws.proofs.Privacy.{machine_private}

@@ -1,46 +1,28 @@
 -- The frames that are posted to transmit stay whole in their buffers, whatever comes to the machine.
-use Rattle.std.proofs.Common.{◌≡◌, ◌≤◌, ◌⊎◌, inl, inr, ℕ, suc, ◌+◌, ◌*◌, Bool, true, false, not, ◌&&◌, ◌||◌, List, [], ◌∷◌, ◌++◌, length, map, refl, sym, ◌∙◌, ap, subst, arith, cond}
-use Rattle.std.proofs.lemmas.Bool.{false≢true}
-use Rattle.std.proofs.lemmas.Bool.Decides.{nat_tests}
-use Rattle.std.proofs.lemmas.List.Elements.{Contains-append_cases}
-use Rattle.std.specs.Prelude.{Option, Some, None, is_some, is_none, option_map, option_and_then, find, unwrap_or, bytes_eq, nat_lt, nat_le, slice_index_or, Contains, Result, Ok, Err}
-use Rattle.std.specs.List.{list_any}
-use Rattle.ark_base.specs.Conditions.{Conditions, early, late, when, when_some}
-use Rattle.ark_base.specs.declared.kind.Kind.{Kind}
-use Rattle.ark_base.specs.declared.kind.Kind.TheVariants as kind
+use Rattle.std.proofs.Common.{◌≡◌, ◌⊎◌, inl, ℕ, suc, ◌+◌, ◌*◌, Bool, true, false, not, ◌&&◌, List, [], ◌∷◌, length, refl, sym, ◌∙◌, subst, arith, cond}
+use Rattle.std.specs.Prelude.{Option, Some, None, option_map, unwrap_or, nat_lt, slice_index_or, Contains, Ok}
 use Rattle.ark_base.specs.declared.kind.Outcome.{Outcome}
 use Rattle.ark_base.specs.declared.kind.Outcome.TheVariants as outcome
-use Rattle.ark_base.specs.declared.refusal.Refusal.{Refusal}
-use Rattle.ark_base.specs.declared.refusal.Refusal.TheVariants as r
-use Rattle.ark_packet.specs.Frame.{packet_in}
-use Rattle.ark_packet.specs.Udp as udp
-use Rattle.ark_packet.specs.Udp.{datagram_in}
 use Rattle.ark_packet.specs.declared.own.Own.{Own}
-use Rattle.ark_packet.specs.declared.udp.Bad.{Bad}
-use Rattle.ark_filters.specs.declared.filter.Direction.{Direction}
-use Rattle.ark_filters.specs.declared.filter.Direction.TheVariants as direction
-use Rattle.ark_filters.specs.declared.filter.Filter.{Filter}
 use Rattle.ark_vic.specs.declared.door.Bell.TheVariants as bell
 use Rattle.ark_caladan.specs.Chain.{Log, Opened, Command, Phase, Verb, reading, writing, syncing, commands}
-use Rattle.ark_script.specs.declared.step.Side.{Side}
-use Rattle.ark_script.specs.declared.step.Side.TheVariants as side
 use Rattle.ark_script.specs.declared.said.Said.TheVariants as said
-use Rattle.ark_machine.specs.Bytes.{block_of, padded}
+use Rattle.ark_machine.specs.Bytes.{block_of}
 use Rattle.ark_machine.specs.Objects
-use Rattle.ark_machine.specs.Objects.{Object, Raw, Vsic, Vnic, Place, Paced, Job, Transfer, transfer, flush, phase, Datagram, as_log, as_filter, as_buffer}
-use Rattle.ark_machine.specs.Machine.{Machine, object_at, log_at, vsic_at, vnic_at, filter_at, label_numbered, bytes_at, with_object, each_object, with_vsic, with_vnic, with_log, room_for}
-use Rattle.ark_machine.specs.Row.{Row, Given, Ended, Call, reads_in, writes_in, says, synced, synced_by, has_fault, answer, unless_refused}
-use Rattle.ark_machine.specs.Areas.{new_area, grown, raw_written, with_raw, block_written}
-use Rattle.ark_machine.specs.Buffers.{with_new_buffer, with_bytes}
-use Rattle.ark_machine.specs.Rates.{is_over_burst, may_pass, passed, rung, with_pace, with_door}
-use Rattle.ark_machine.specs.Cards.{posting, reap_oldest}
-use Rattle.ark_machine.specs.Moves.{Move, moves, ending, ended, ends, outcome_of, block_passed, block_moved, tried, gated, is_granted, transferred, transfer_call, raw_numbered, log_on, deciding_tried, phase_written, phase_moves, phase_moves_on, moved, move, log_moved, log_move, first_end}
+use Rattle.ark_machine.specs.Objects.{Object, Raw, Vsic, Vnic, Place, Job, Transfer, transfer, flush, phase, as_log}
+use Rattle.ark_machine.specs.Machine.{Machine, object_at, log_at, vsic_at, vnic_at, label_numbered, bytes_at, with_object, with_vsic, with_vnic, with_log}
+use Rattle.ark_machine.specs.Row.{Given, Ended, Call, reads_in, writes_in, says, synced}
+use Rattle.ark_machine.specs.Areas.{raw_written}
+use Rattle.ark_machine.specs.Buffers.{with_bytes}
+use Rattle.ark_machine.specs.Rates.{is_over_burst, may_pass, passed}
+use Rattle.ark_machine.specs.Cards.{posting}
+use Rattle.ark_machine.specs.Moves.{Move, moves, ending, ended, ends, outcome_of, block_passed, block_moved, tried, gated, is_granted, transferred, transfer_call, raw_numbered, log_on, deciding_tried, phase_written, phase_moves, phase_moves_on, moved, move, log_moved, first_end}
 use Rattle.ark_machine.specs.Logs.{with_opened, card_of}
-use Rattle.ark_machine.specs.Polls.{Polled, acknowledging, next_phase, phases_left, emptied, failing, one_done, phase_ended, poll_card, unreaped_on, posted_on, poll_oldest, poll_opened, poll_log, polled, is_held, settle_move, Next, stops, calls_on, without_call, by_calls, due_move, next_of, next_call, settle_end, settling}
-use Rattle.ark_machine.specs.Network.{bytes_in, is_let_out, tx_ending, tx_ended, tx_passed, frame_moves, tx_moves, with_frame, filled, rx_ending, rx_passed, received, arrival, arrive, take_received, take_sent, take_oldest, received_at, sent_at, assigned_to}
+use Rattle.ark_machine.specs.Polls.{Polled, acknowledging, next_phase, phases_left, emptied, failing, one_done, phase_ended, poll_card, unreaped_on, posted_on, poll_oldest, poll_opened, poll_log, polled, is_held, settle_move, Next, stops, calls_on, by_calls, due_move, next_of, next_call, settling}
+use Rattle.ark_machine.specs.Network.{bytes_in, is_let_out, tx_ending, tx_ended, tx_passed, frame_moves, tx_moves, with_frame, filled, rx_ending, rx_passed, received, arrival, arrive}
 use Rattle.ark_machine.specs.Devices.{card_moves}
-use Rattle.ark_machine.specs.Frames.{frames_at, IsThere, FramesThere}
-use Rattle.ark_laws.proofs.Growing.{size_in, frames_in, Grows, grown_there, same_grows, then_grows, cond_grows, plain_grows, log_is, vsic_grows, log_grows, raw_grows, socket_grows, buffer_grows, vnic_grows, rung_grows, each_grows, synced_grows, new_grows, without_grows, written_longer}
+use Rattle.ark_machine.specs.Frames.{frames_at, IsThere}
+use Rattle.ark_laws.proofs.Growing.{size_in, frames_in, Grows, same_grows, then_grows, cond_grows, plain_grows, log_is, vsic_grows, log_grows, raw_grows, buffer_grows, vnic_grows, rung_grows, each_grows, synced_grows, written_longer}
 use Rattle.ark_laws.proofs.Setting.{kind_set, kind_left, vsic_alone, vnic_set}
 
 -- the transmit ring stays, or loses its oldest

@@ -1,12 +1,11 @@
 -- A frame that a reply shows is let out or in, within the rate of its card's queue.
-use Rattle.std.proofs.Common.{◌≡◌, ◌≤◌, ℕ, ◌+◌, Bool, true, false, ◌&&◌, List, [], ◌∷◌, length, refl, sym, ◌∙◌, ap, subst, arith, cond}
+use Rattle.std.proofs.Common.{◌≡◌, ◌≤◌, ℕ, Bool, true, false, ◌&&◌, List, [], ◌∷◌, length, refl, sym, ◌∙◌, ap, subst, arith, cond}
 use Rattle.std.proofs.lemmas.Bool.{and_parts, false≢true}
 use Rattle.std.specs.Prelude.{Option, Some, None, is_some, option_and_then, find, unwrap_or, Ok, Err}
 use Rattle.ark_base.specs.declared.refusal.Refusal.TheVariants as r
 use Rattle.ark_filters.specs.In.{is_in}
 use Rattle.ark_media.specs.Journal.{Event, output_of, device_events}
 use Rattle.ark_packet.specs.declared.own.Own.{Own}
-use Rattle.ark_vic.specs.Pace.{fill_of}
 use Rattle.ark_vic.proofs.PaceLemmas.{kept_law}
 use Rattle.ark_script.specs.Line as w
 use Rattle.ark_script.specs.Line.{Line}
@@ -16,11 +15,9 @@ use Rattle.ark_script.specs.declared.said.Said.{Said}
 use Rattle.ark_script.specs.declared.said.Said.TheVariants as said
 use Rattle.ark_machine.specs.Objects.{Paced, Vnic}
 use Rattle.ark_machine.specs.Machine.{Machine, vnic_at}
-use Rattle.ark_machine.specs.Row.{Row, Ended, Given}
-use Rattle.ark_machine.specs.Network.{arrive}
+use Rattle.ark_machine.specs.Row.{Ended}
 use Rattle.ark_machine.specs.Rates.{passed}
 use Rattle.ark_machine.specs.Plane.{LiveFilter, is_receive, recorded}
-use Rattle.ark_machine.specs.Step.{step}
 use Rattle.ark_machine.specs.System.{System, machine_of, owner, takes, quiet_turn, nic_turn, taken_turn, wire_turn, common_turn, owned_turn, line_turn}
 use Rattle.ark_machine.specs.Built.{turn, is_built, so_far}
 use Rattle.ark_machine.specs.Follow.{ends_of}

@@ -1,5 +1,5 @@
 -- Changes of a machine that leave the bytes of each buffer, or add some, and post no frame that its buffer has not whole.
-use Rattle.std.proofs.Common.{◌≡◌, ◌≤◌, ◌⊎◌, inl, inr, ℕ, ◌+◌, Bool, true, false, not, List, [], ◌∷◌, ◌++◌, map, length, take, drop, refl, sym, ◌∙◌, ap, subst, arith, cond}
+use Rattle.std.proofs.Common.{◌≡◌, ◌≤◌, ◌⊎◌, inl, inr, ℕ, ◌+◌, Bool, true, false, not, List, [], ◌∷◌, ◌++◌, length, take, drop, refl, sym, ◌∙◌, ap, subst, arith, cond}
 use Rattle.std.proofs.lemmas.List.{length-take, length-drop, length-append}
 use Rattle.std.proofs.lemmas.List.Folds.{find-append}
 use Rattle.std.specs.Prelude.{Option, Some, None, option_map, option_and_then, find, filter as select, unwrap_or, bytes_eq, Contains}
@@ -11,10 +11,9 @@ use Rattle.ark_caladan.specs.Chain.{Log}
 use Rattle.ark_machine.specs.Bytes.{written}
 use Rattle.ark_machine.specs.Objects
 use Rattle.ark_machine.specs.Objects.{Object, Raw, Vsic, Vnic, Buffer, Socket, Place, as_raw, as_log, as_vsic, as_vnic, as_door, as_buffer, as_socket}
-use Rattle.ark_machine.specs.Machine.{Machine, Held, holding, object_at, raw_at, log_at, vsic_at, vnic_at, door_at, buffer_at, socket_at, with_object, each_object, with_new, without, with_vsic, with_vnic, with_log, with_buffer, with_socket}
+use Rattle.ark_machine.specs.Machine.{Machine, Held, object_at, raw_at, log_at, vsic_at, vnic_at, door_at, buffer_at, socket_at, with_object, each_object, with_new, without, with_vsic, with_vnic, with_log, with_buffer, with_socket}
 use Rattle.ark_machine.specs.Row.{settled, synced}
 use Rattle.ark_machine.specs.Areas.{with_raw}
-use Rattle.ark_machine.specs.Network.{bytes_in}
 use Rattle.ark_machine.specs.Rates.{rung}
 use Rattle.ark_machine.specs.Frames.{frames_at, IsThere, FramesThere}
 use Rattle.ark_machine.proofs.Grants.{clash}

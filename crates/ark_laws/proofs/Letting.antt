@@ -15,7 +15,7 @@ use Rattle.ark_script.specs.Line as w
 use Rattle.ark_script.specs.declared.said.Said.TheVariants as said
 use Rattle.ark_vic.specs.declared.door.Bell.TheVariants as bell
 use Rattle.ark_machine.specs.Objects
-use Rattle.ark_machine.specs.Objects.{Object, Paced, Place, Vnic, as_vnic, as_door}
+use Rattle.ark_machine.specs.Objects.{Object, Paced, Place, Vnic, as_vnic}
 use Rattle.ark_machine.specs.Machine.{Machine, Held, vnic_at, with_vnic}
 use Rattle.ark_machine.specs.Row.{Row, Given, Ended, answer, unless_refused}
 use Rattle.ark_machine.specs.Rates.{is_over_burst, may_pass, passed}

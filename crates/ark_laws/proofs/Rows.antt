@@ -8,7 +8,7 @@ use Rattle.ark_script.specs.Line.{Line}
 use Rattle.ark_script.specs.declared.said.Said.{Said}
 use Rattle.ark_script.specs.declared.said.Said.TheVariants as said
 use Rattle.ark_machine.specs.Objects
-use Rattle.ark_machine.specs.Objects.{Object, Paced, Vsic, Vnic, Job, Place, Datagram, transfer, flush, phase}
+use Rattle.ark_machine.specs.Objects.{Paced, Vnic, Place, flush}
 use Rattle.ark_machine.specs.Machine.{Machine, vnic_at, filter_at, serial_at, without, with_vnic, with_log}
 use Rattle.ark_machine.specs.Row.{Row, Given, says, has_fault}
 use Rattle.ark_machine.specs.Control.{lets_go}

@@ -1,6 +1,5 @@
 -- What a stop may leave of an application's areas once a line that settles a log has synced.
 use Rattle.std.proofs.Common.{◌≡◌, ◌⊎◌, inl, inr, ℕ, zero, suc, ◌+◌, Bool, true, false, not, ◌&&◌, List, [], ◌∷◌, ◌++◌, map, refl, sym, ◌∙◌, ap, subst, cond}
-use Rattle.std.proofs.lemmas.Bool.{false≢true}
 use Rattle.std.specs.Prelude.{Option, Some, None, option_map, option_and_then, unwrap_or, nat_lt, bytes_eq, slice_get}
 use Rattle.ark_base.specs.Conditions.{Conditions, early, late}
 use Rattle.ark_base.specs.declared.refusal.Refusal.{Refusal}
@@ -20,7 +19,7 @@ use Rattle.ark_machine.specs.Rates.{is_over_burst, may_pass, passed, rung}
 use Rattle.ark_machine.specs.Cards.{posting}
 use Rattle.ark_machine.specs.Moves.{Move, moves, ending, ended, ends, outcome_of, block_passed, block_moved, tried, gated, deciding_tried, phase_written, phase_moves, log_moved, first_end}
 use Rattle.ark_machine.specs.Logs.{with_opened, card_of}
-use Rattle.ark_machine.specs.Polls.{Polled, acknowledging, next_phase, phases_left, emptied, failing, one_done, phase_ended, poll_card, unreaped_on, posted_on, poll_oldest, poll_opened, poll_log, polled, is_held, settle_move, Next, stops, calls_on, without_call, by_calls, due_move, next_of, next_call, settle_end, settling}
+use Rattle.ark_machine.specs.Polls.{Polled, acknowledging, next_phase, phases_left, emptied, failing, one_done, phase_ended, poll_card, unreaped_on, posted_on, poll_oldest, poll_opened, poll_log, polled, is_held, settle_move, Next, stops, calls_on, by_calls, due_move, next_of, next_call, settling}
 use Rattle.ark_machine.specs.Plane.{recorded}
 use Rattle.ark_machine.specs.Step.{step}
 use Rattle.ark_machine.specs.System.{System, machine_of, line_turn}
