@@ -4,22 +4,22 @@ use Rattle.ark_script.specs.Arguments.{IsName, IsNumber}
 use Rattle.ark_script.specs.Form.{AreArguments}
 use Rattle.ark_script.specs.Line as w
 use Rattle.ark_script.specs.Line.{Line}
-use Rattle.ark_script.specs.Shape.{line_read, read_pair, read_triple, read_count, read_length, read_range, read_turn, read_transfer, read_entry, read_write, read_nic, read_bare_app, read_sized_app, read_app, read_vsic, read_vnic, read_take, read_sendto, read_wire, read_tick}
+use Rattle.ark_script.specs.Shape.{line_read, read_pair, read_triple, read_count, read_length, read_range, read_queued, read_transfer, read_entry, read_write, read_nic, read_bare_app, read_sized_app, read_app, read_vsic, read_vnic, read_take, read_sendto, read_wire, read_tick}
 use Rattle.ark_script.specs.declared.reading.word.PairWord.TheVariants as pair
 use Rattle.ark_script.specs.declared.reading.word.TripleWord.TheVariants as triple
 use Rattle.ark_script.specs.declared.reading.word.CountWord.TheVariants as count
 use Rattle.ark_script.specs.declared.reading.word.LengthWord.TheVariants as length
 use Rattle.ark_script.specs.declared.reading.word.RangeWord.TheVariants as range
-use Rattle.ark_script.specs.declared.reading.word.TurnWord.TheVariants as turn
+use Rattle.ark_script.specs.declared.reading.word.QueueWord.TheVariants as queued
 use Rattle.ark_script.specs.declared.reading.word.TransferWord.TheVariants as transfer
 use Rattle.ark_script.specs.declared.reading.word.EntryWord.TheVariants as entry
 use Rattle.ark_script.specs.declared.reading.word.WriteWord.TheVariants as write
-use Rattle.ark_script.proofs.Shaping.{pair_reads, triple_reads, count_reads, length_reads, range_reads, turn_reads, transfer_reads, entry_reads, write_reads}
+use Rattle.ark_script.proofs.Shaping.{pair_reads, triple_reads, count_reads, length_reads, range_reads, queued_reads, transfer_reads, entry_reads, write_reads}
 use Rattle.ark_script.proofs.Singling.{nic_reads, bare_app_reads, sized_app_reads, no_bare_app, vsic_reads, vnic_reads, vsa_complete, filter_complete, take_reads, sendto_reads, wire_reads, tick_reads}
 use Rattle.ark_script.proofs.WordOf.{kind_of_line}
 
 pub complete : (asked : Line) (words : List (List ℕ)) → AreArguments asked words → line_read (kind_of_line asked) words ≡ Some asked
-unfolding read_pair read_triple read_count read_length read_range read_turn read_transfer read_entry read_write read_nic read_bare_app read_sized_app read_app read_vsic read_vnic read_take read_sendto read_wire read_tick
+unfolding read_pair read_triple read_count read_length read_range read_queued read_transfer read_entry read_write read_nic read_bare_app read_sized_app read_app read_vsic read_vnic read_take read_sendto read_wire read_tick
 complete (w.nic own) words h = rw (nic_reads.complete words (own.mac, own.ip, own.gateway) h) refl
 complete (w.app a None) words h = rw (bare_app_reads.complete words a h) refl
 complete (w.app a (Some f)) words h = rw (no_bare_app words (IsName a) (IsNumber 4 4096 f) h, sized_app_reads.complete words (a, f) h) refl
@@ -32,9 +32,9 @@ complete (w.unbind a v s) words h = rw ((triple_reads triple.Unbind).complete wo
 complete (w.filter a f x) words h = filter_complete words a f x h
 complete (w.assign a v f) words h = rw ((triple_reads triple.Assign).complete words (a, v, f) h) refl
 complete (w.rate a r q b) words h = rw ((range_reads range.Rate).complete words (a, r, q, b) h) refl
-complete (w.pace a v r s) words h = rw ((turn_reads turn.Pace).complete words (a, v, r, s) h) refl
+complete (w.pace a v r s) words h = rw ((queued_reads queued.Pace).complete words (a, v, r, s) h) refl
 complete (w.door a d) words h = rw ((pair_reads pair.Door).complete words (a, d) h) refl
-complete (w.watch a v d s) words h = rw ((turn_reads turn.Watch).complete words (a, v, d, s) h) refl
+complete (w.watch a v d s) words h = rw ((queued_reads queued.Watch).complete words (a, v, d, s) h) refl
 complete (w.drop a x) words h = rw ((pair_reads pair.Drop).complete words (a, x) h) refl
 complete (w.buf a b n) words h = rw ((count_reads count.Buf).complete words (a, b, n) h) refl
 complete (w.fill a b off bytes) words h = rw ((write_reads write.Fill).complete words (a, b, off, bytes) h) refl

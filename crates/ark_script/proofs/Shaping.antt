@@ -17,8 +17,8 @@ use Rattle.ark_script.specs.declared.reading.word.LengthWord.{LengthWord}
 use Rattle.ark_script.specs.declared.reading.word.LengthWord.TheVariants as length
 use Rattle.ark_script.specs.declared.reading.word.RangeWord.{RangeWord}
 use Rattle.ark_script.specs.declared.reading.word.RangeWord.TheVariants as range
-use Rattle.ark_script.specs.declared.reading.word.TurnWord.{TurnWord}
-use Rattle.ark_script.specs.declared.reading.word.TurnWord.TheVariants as turn
+use Rattle.ark_script.specs.declared.reading.word.QueueWord.{QueueWord}
+use Rattle.ark_script.specs.declared.reading.word.QueueWord.TheVariants as queued
 use Rattle.ark_script.specs.declared.reading.word.TransferWord.{TransferWord}
 use Rattle.ark_script.specs.declared.reading.word.TransferWord.TheVariants as transfer
 use Rattle.ark_script.specs.declared.reading.word.EntryWord.{EntryWord}
@@ -31,7 +31,7 @@ use Rattle.ark_script.proofs.Readers.{Reads, bind_some, two_reads, three_reads, 
 use Rattle.ark_script.proofs.WordOf.{kind_of_line}
 use Rattle.ark_script.specs.Reading.{name_of, optional_of, number_of, hex_of, hex0_of, side_of}
 use Rattle.ark_script.specs.Sentence.{two_read, three_read, four_read, six_read}
-use Rattle.ark_script.specs.Shape.{count_range, length_range, range_most, write_most, pair_line, triple_line, count_line, length_line, range_line, turn_line, transfer_line, entry_line, write_line, read_pair, read_triple, read_count, read_length, read_range, read_turn, read_transfer, read_entry, read_write}
+use Rattle.ark_script.specs.Shape.{count_range, length_range, range_most, write_most, pair_line, triple_line, count_line, length_line, range_line, queued_line, transfer_line, entry_line, write_line, read_pair, read_triple, read_count, read_length, read_range, read_queued, read_transfer, read_entry, read_write}
 
 -- the line is of this word, and the words behind it are its arguments
 abbrev pub Formed : Word → List (List ℕ) → Line → Type 0
@@ -145,19 +145,19 @@ range_sound k words asked h =
     subst (Formed (word.Range k) words) (same_Some _ _ s.2)
     (range_formed k s.0.0 s.0.1 s.0.2 s.0.3 words ((range_reads k).sound words s.0 s.1))
 
-turn_formed : (k : TurnWord) (a : List ℕ) (x : List ℕ) (y : Option (List ℕ)) (s : Side) (words : List (List ℕ)) → Four (IsName a) (IsName x) (IsOptional y) (IsSide s) words → Formed (word.Turn k) words (turn_line k a x y s)
-turn_formed turn.Pace a x y s words h = (refl, h)
-turn_formed turn.Watch a x y s words h = (refl, h)
+queued_formed : (k : QueueWord) (a : List ℕ) (x : List ℕ) (y : Option (List ℕ)) (s : Side) (words : List (List ℕ)) → Four (IsName a) (IsName x) (IsOptional y) (IsSide s) words → Formed (word.Queue k) words (queued_line k a x y s)
+queued_formed queued.Pace a x y s words h = (refl, h)
+queued_formed queued.Watch a x y s words h = (refl, h)
 
-pub turn_reads : (k : TurnWord) → Reads (four_read name_of name_of optional_of side_of) (λ (p : List ℕ × List ℕ × Option (List ℕ) × Side). Four (IsName p.0) (IsName p.1) (IsOptional p.2) (IsSide p.3))
-turn_reads k = four_reads name_of IsName name_of IsName optional_of IsOptional side_of IsSide name_reads name_reads optional_reads side_reads
+pub queued_reads : (k : QueueWord) → Reads (four_read name_of name_of optional_of side_of) (λ (p : List ℕ × List ℕ × Option (List ℕ) × Side). Four (IsName p.0) (IsName p.1) (IsOptional p.2) (IsSide p.3))
+queued_reads k = four_reads name_of IsName name_of IsName optional_of IsOptional side_of IsSide name_reads name_reads optional_reads side_reads
 
-pub turn_sound : (k : TurnWord) (words : List (List ℕ)) (asked : Line) → read_turn k words ≡ Some asked → Formed (word.Turn k) words asked
-unfolding read_turn
-turn_sound k words asked h =
+pub queued_sound : (k : QueueWord) (words : List (List ℕ)) (asked : Line) → read_queued k words ≡ Some asked → Formed (word.Queue k) words asked
+unfolding read_queued
+queued_sound k words asked h =
     let s = bind_some _ _ asked h in
-    subst (Formed (word.Turn k) words) (same_Some _ _ s.2)
-    (turn_formed k s.0.0 s.0.1 s.0.2 s.0.3 words ((turn_reads k).sound words s.0 s.1))
+    subst (Formed (word.Queue k) words) (same_Some _ _ s.2)
+    (queued_formed k s.0.0 s.0.1 s.0.2 s.0.3 words ((queued_reads k).sound words s.0 s.1))
 
 transfer_formed : (k : TransferWord) (a : List ℕ) (v : List ℕ) (s : List ℕ) (m : ℕ) (n : ℕ) (b : List ℕ) (words : List (List ℕ)) → Six (IsName a) (IsName v) (IsName s) (IsNumber 0 (2 ^ 32 - 1) m) (IsNumber 1 128 n) (IsName b) words → Formed (word.Transfer k) words (transfer_line k a v s m n b)
 transfer_formed transfer.Get a v s m n b words h = (refl, h)

@@ -3,10 +3,10 @@ use Rattle.std.proofs.Common.{◌≡◌, ℕ, List, [], Some, None, refl}
 use Rattle.ark_script.specs.Line.{Line}
 use Rattle.ark_script.specs.Reading.{one_of, two_of, three_of, four_of, five_of, six_of}
 use Rattle.ark_script.specs.Sentence.{one_read, two_read, three_read, four_read, five_read, six_read}
-use Rattle.ark_script.specs.Shape.{line_read, read_pair, read_triple, read_count, read_length, read_range, read_turn, read_transfer, read_entry, read_write, read_nic, read_bare_app, read_sized_app, read_app, read_vsic, read_vnic, read_vsa, read_filter, read_take, read_sendto, read_wire, read_tick}
+use Rattle.ark_script.specs.Shape.{line_read, read_pair, read_triple, read_count, read_length, read_range, read_queued, read_transfer, read_entry, read_write, read_nic, read_bare_app, read_sized_app, read_app, read_vsic, read_vnic, read_vsa, read_filter, read_take, read_sendto, read_wire, read_tick}
 use Rattle.ark_script.specs.declared.reading.word.Word.{Word}
 use Rattle.ark_script.specs.declared.reading.word.Word.TheVariants as word
-use Rattle.ark_script.proofs.Shaping.{Formed, pair_sound, triple_sound, count_sound, length_sound, range_sound, turn_sound, transfer_sound, entry_sound, write_sound}
+use Rattle.ark_script.proofs.Shaping.{Formed, pair_sound, triple_sound, count_sound, length_sound, range_sound, queued_sound, transfer_sound, entry_sound, write_sound}
 use Rattle.ark_script.proofs.Singling.{nic_sound, app_sound, vsic_sound, vnic_sound, vsa_sound, filter_sound, take_sound, sendto_sound, wire_sound, tick_sound}
 
 pub sound : (k : Word) (words : List (List ℕ)) (asked : Line) → line_read k words ≡ Some asked → Formed k words asked
@@ -15,7 +15,7 @@ sound (word.Triple k) words asked h = triple_sound k words asked h
 sound (word.Count k) words asked h = count_sound k words asked h
 sound (word.Length k) words asked h = length_sound k words asked h
 sound (word.Range k) words asked h = range_sound k words asked h
-sound (word.Turn k) words asked h = turn_sound k words asked h
+sound (word.Queue k) words asked h = queued_sound k words asked h
 sound (word.Transfer k) words asked h = transfer_sound k words asked h
 sound (word.Entry k) words asked h = entry_sound k words asked h
 sound (word.Write k) words asked h = write_sound k words asked h
@@ -32,13 +32,13 @@ sound word.Tick words asked h = tick_sound words asked h
 
 -- no word stands alone
 pub none_alone : (k : Word) → line_read k [] ≡ None
-unfolding read_pair read_triple read_count read_length read_range read_turn read_transfer read_entry read_write read_nic read_bare_app read_sized_app read_app read_vsic read_vnic read_vsa read_filter read_take read_sendto read_wire read_tick one_read two_read three_read four_read five_read six_read one_of two_of three_of four_of five_of six_of
+unfolding read_pair read_triple read_count read_length read_range read_queued read_transfer read_entry read_write read_nic read_bare_app read_sized_app read_app read_vsic read_vnic read_vsa read_filter read_take read_sendto read_wire read_tick one_read two_read three_read four_read five_read six_read one_of two_of three_of four_of five_of six_of
 none_alone (word.Pair k) = refl
 none_alone (word.Triple k) = refl
 none_alone (word.Count k) = refl
 none_alone (word.Length k) = refl
 none_alone (word.Range k) = refl
-none_alone (word.Turn k) = refl
+none_alone (word.Queue k) = refl
 none_alone (word.Transfer k) = refl
 none_alone (word.Entry k) = refl
 none_alone (word.Write k) = refl

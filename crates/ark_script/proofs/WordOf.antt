@@ -11,7 +11,7 @@ use Rattle.ark_script.specs.declared.reading.word.TripleWord.TheVariants as trip
 use Rattle.ark_script.specs.declared.reading.word.CountWord.TheVariants as count
 use Rattle.ark_script.specs.declared.reading.word.LengthWord.TheVariants as length
 use Rattle.ark_script.specs.declared.reading.word.RangeWord.TheVariants as range
-use Rattle.ark_script.specs.declared.reading.word.TurnWord.TheVariants as turn
+use Rattle.ark_script.specs.declared.reading.word.QueueWord.TheVariants as queued
 use Rattle.ark_script.specs.declared.reading.word.TransferWord.TheVariants as transfer
 use Rattle.ark_script.specs.declared.reading.word.EntryWord.TheVariants as entry
 use Rattle.ark_script.specs.declared.reading.word.WriteWord.TheVariants as write
@@ -28,9 +28,9 @@ kind_of_line (w.unbind a v s) = word.Triple triple.Unbind
 kind_of_line (w.filter a f x) = word.Filter
 kind_of_line (w.assign a v f) = word.Triple triple.Assign
 kind_of_line (w.rate a r q b) = word.Range range.Rate
-kind_of_line (w.pace a v r s) = word.Turn turn.Pace
+kind_of_line (w.pace a v r s) = word.Queue queued.Pace
 kind_of_line (w.door a d) = word.Pair pair.Door
-kind_of_line (w.watch a v d s) = word.Turn turn.Watch
+kind_of_line (w.watch a v d s) = word.Queue queued.Watch
 kind_of_line (w.drop a x) = word.Pair pair.Drop
 kind_of_line (w.buf a b n) = word.Count count.Buf
 kind_of_line (w.fill a b off bytes) = word.Write write.Fill
@@ -76,9 +76,9 @@ spelling (word.Triple triple.Unbind) = codes "unbind"
 spelling word.Filter = codes "filter"
 spelling (word.Triple triple.Assign) = codes "use"
 spelling (word.Range range.Rate) = codes "rate"
-spelling (word.Turn turn.Pace) = codes "pace"
+spelling (word.Queue queued.Pace) = codes "pace"
 spelling (word.Pair pair.Door) = codes "door"
-spelling (word.Turn turn.Watch) = codes "watch"
+spelling (word.Queue queued.Watch) = codes "watch"
 spelling (word.Pair pair.Drop) = codes "drop"
 spelling (word.Count count.Buf) = codes "buf"
 spelling (word.Write write.Fill) = codes "fill"

@@ -18,8 +18,8 @@ use Rattle.ark_script.specs.declared.reading.word.LengthWord.{LengthWord}
 use Rattle.ark_script.specs.declared.reading.word.LengthWord.TheVariants as sized
 use Rattle.ark_script.specs.declared.reading.word.RangeWord.{RangeWord}
 use Rattle.ark_script.specs.declared.reading.word.RangeWord.TheVariants as range
-use Rattle.ark_script.specs.declared.reading.word.TurnWord.{TurnWord}
-use Rattle.ark_script.specs.declared.reading.word.TurnWord.TheVariants as turn
+use Rattle.ark_script.specs.declared.reading.word.QueueWord.{QueueWord}
+use Rattle.ark_script.specs.declared.reading.word.QueueWord.TheVariants as queued
 use Rattle.ark_script.specs.declared.reading.word.TransferWord.{TransferWord}
 use Rattle.ark_script.specs.declared.reading.word.TransferWord.TheVariants as transfer
 use Rattle.ark_script.specs.declared.reading.word.EntryWord.{EntryWord}
@@ -107,12 +107,12 @@ range_line range.Show a x m n = w.show a x m n
 unfoldable pub read_range : RangeWord → List (List ℕ) → Option Line
 read_range k words = four_read name_of name_of (number_of 0 (range_most k).0) (number_of 1 (range_most k).1) words >>= λ p. Some (range_line k p.0 p.1 p.2 p.3)
 
-abbrev pub turn_line : TurnWord → List ℕ → List ℕ → Option (List ℕ) → Side → Line
-turn_line turn.Pace a x y s = w.pace a x y s
-turn_line turn.Watch a x y s = w.watch a x y s
+abbrev pub queued_line : QueueWord → List ℕ → List ℕ → Option (List ℕ) → Side → Line
+queued_line queued.Pace a x y s = w.pace a x y s
+queued_line queued.Watch a x y s = w.watch a x y s
 
-unfoldable pub read_turn : TurnWord → List (List ℕ) → Option Line
-read_turn k words = four_read name_of name_of optional_of side_of words >>= λ p. Some (turn_line k p.0 p.1 p.2 p.3)
+unfoldable pub read_queued : QueueWord → List (List ℕ) → Option Line
+read_queued k words = four_read name_of name_of optional_of side_of words >>= λ p. Some (queued_line k p.0 p.1 p.2 p.3)
 
 abbrev pub transfer_line : TransferWord → List ℕ → List ℕ → List ℕ → ℕ → ℕ → List ℕ → Line
 transfer_line transfer.Get a v s m n b = w.get a v s m n b
@@ -186,7 +186,7 @@ line_read (word.Triple k) words = read_triple k words
 line_read (word.Count k) words = read_count k words
 line_read (word.Length k) words = read_length k words
 line_read (word.Range k) words = read_range k words
-line_read (word.Turn k) words = read_turn k words
+line_read (word.Queue k) words = read_queued k words
 line_read (word.Transfer k) words = read_transfer k words
 line_read (word.Entry k) words = read_entry k words
 line_read (word.Write k) words = read_write k words

@@ -8,7 +8,7 @@ use Rattle.ark_script.specs.declared.reading.word.TripleWord.TheVariants as trip
 use Rattle.ark_script.specs.declared.reading.word.CountWord.TheVariants as count
 use Rattle.ark_script.specs.declared.reading.word.LengthWord.TheVariants as sized
 use Rattle.ark_script.specs.declared.reading.word.RangeWord.TheVariants as range
-use Rattle.ark_script.specs.declared.reading.word.TurnWord.TheVariants as turn
+use Rattle.ark_script.specs.declared.reading.word.QueueWord.TheVariants as queued
 use Rattle.ark_script.specs.declared.reading.word.TransferWord.TheVariants as transfer
 use Rattle.ark_script.specs.declared.reading.word.EntryWord.TheVariants as entry
 use Rattle.ark_script.specs.declared.reading.word.WriteWord.TheVariants as write
@@ -26,9 +26,9 @@ table =
     (codes "filter", word.Filter) ∷
     (codes "use", (word.Triple triple.Assign)) ∷
     (codes "rate", (word.Range range.Rate)) ∷
-    (codes "pace", (word.Turn turn.Pace)) ∷
+    (codes "pace", (word.Queue queued.Pace)) ∷
     (codes "door", (word.Pair pair.Door)) ∷
-    (codes "watch", (word.Turn turn.Watch)) ∷
+    (codes "watch", (word.Queue queued.Watch)) ∷
     (codes "drop", (word.Pair pair.Drop)) ∷
     (codes "buf", (word.Count count.Buf)) ∷
     (codes "fill", (word.Write write.Fill)) ∷

@@ -8,7 +8,7 @@ ghost use Rattle.ark_script.specs.Shape.{line_read};
 ghost use Rattle.ark_script.specs.Meant.{Means, meaning_of, sentence_meaning};
 
 use crate::reading::filter::filter;
-use crate::reading::shape::{count, entry, length, pair, range, transfer, triple, turn, write};
+use crate::reading::shape::{count, entry, length, pair, queued, range, transfer, triple, write};
 use crate::reading::single::{app, nic, sendto, take, tick, vnic, vsa, vsic, wire};
 use crate::reading::split::split_once;
 use crate::reading::word::{Word, read_word};
@@ -25,7 +25,7 @@ fn read_arguments(word: Word, args: &[u8]) -> Option<Step<'_>>
         Word::Count(word) => count(word, args),
         Word::Length(word) => length(word, args),
         Word::Range(word) => range(word, args),
-        Word::Turn(word) => turn(word, args),
+        Word::Queue(word) => queued(word, args),
         Word::Transfer(word) => transfer(word, args),
         Word::Entry(word) => entry(word, args),
         Word::Write(word) => write(word, args),

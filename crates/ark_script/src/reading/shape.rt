@@ -11,7 +11,7 @@ use crate::reading::digits::{hex, hex0};
 use crate::reading::number::number;
 use crate::reading::split::{four, six, three, two};
 use crate::reading::word::{
-    CountWord, EntryWord, LengthWord, PairWord, RangeWord, TransferWord, TripleWord, TurnWord,
+    CountWord, EntryWord, LengthWord, PairWord, QueueWord, RangeWord, TransferWord, TripleWord,
     WriteWord,
 };
 use crate::step::Step;
@@ -159,9 +159,9 @@ pub(super) fn range(word: RangeWord, args: &[u8]) -> Option<Step<'_>>
 }
 
 // `A v r QUEUE`
-#[tactic(auto, unfolding(crate::specs::Sentence::four_read, crate::specs::Shape::read_turn))]
-pub(super) fn turn(word: TurnWord, args: &[u8]) -> Option<Step<'_>>
-    ensures { Gives line_of result (spec.read_turn word (parts_of 32 args.now)) }
+#[tactic(auto, unfolding(crate::specs::Sentence::four_read, crate::specs::Shape::read_queued))]
+pub(super) fn queued(word: QueueWord, args: &[u8]) -> Option<Step<'_>>
+    ensures { Gives line_of result (spec.read_queued word (parts_of 32 args.now)) }
 {
     let (a, v, r, queue) = four(args, b' ')?;
     let a = name(a)?;
@@ -169,8 +169,8 @@ pub(super) fn turn(word: TurnWord, args: &[u8]) -> Option<Step<'_>>
     let r = optional_name(r)?;
     let queue = side(queue)?;
     match word {
-        TurnWord::Pace => Some(Step::Pace(a, v, r, queue)),
-        TurnWord::Watch => Some(Step::Watch(a, v, r, queue)),
+        QueueWord::Pace => Some(Step::Pace(a, v, r, queue)),
+        QueueWord::Watch => Some(Step::Watch(a, v, r, queue)),
     }
 }
 

@@ -58,7 +58,7 @@ pub(super) enum RangeWord {
 
 // Words about a queue of a card, with a label or none: `A v r QUEUE`.
 #[derive(Clone, Copy)]
-pub(super) enum TurnWord {
+pub(super) enum QueueWord {
     Pace,
     Watch,
 }
@@ -92,7 +92,7 @@ pub(super) enum Word {
     Count(CountWord),
     Length(LengthWord),
     Range(RangeWord),
-    Turn(TurnWord),
+    Queue(QueueWord),
     Transfer(TransferWord),
     Entry(EntryWord),
     Write(WriteWord),
@@ -125,9 +125,9 @@ pub(super) fn read_word(word: &[u8]) -> Option<Word>
         b"filter" => Some(Word::Filter),
         b"use" => Some(Word::Triple(TripleWord::Assign)),
         b"rate" => Some(Word::Range(RangeWord::Rate)),
-        b"pace" => Some(Word::Turn(TurnWord::Pace)),
+        b"pace" => Some(Word::Queue(QueueWord::Pace)),
         b"door" => Some(Word::Pair(PairWord::Door)),
-        b"watch" => Some(Word::Turn(TurnWord::Watch)),
+        b"watch" => Some(Word::Queue(QueueWord::Watch)),
         b"drop" => Some(Word::Pair(PairWord::Drop)),
         b"buf" => Some(Word::Count(CountWord::Buf)),
         b"fill" => Some(Word::Write(WriteWord::Fill)),
