@@ -7,6 +7,5 @@ pub mod Pieces
 pub mod Ascending
 pub mod Front
 pub mod FreeBlocks
-pub mod Images
 pub mod ViewImages
 pub mod Unview

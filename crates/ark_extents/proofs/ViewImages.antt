@@ -8,7 +8,7 @@ use Rattle.ark_media.specs.Stops.{MayHold}
 use Rattle.ark_extents.specs.Blocks.{AreDistinct}
 use Rattle.ark_extents.specs.Views.{place_in, view_image, view_events, view_history, read_at, write_at, view_told, ArePlaced, IsLeftAlike}
 use Rattle.ark_extents.specs.ViewLaws.{some_map}
-use Rattle.ark_extents.proofs.Images.{current_same, current_other}
+use Rattle.ark_media.proofs.Stopping.{current_same, current_other}
 
 -- what a place says
 pub data Placed (blocks : List ℕ) (n : ℕ) : Option ℕ → Type 0 where
