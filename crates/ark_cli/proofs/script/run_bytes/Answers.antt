@@ -1,4 +1,4 @@
-use Rattle.std.proofs.Common.{◌≡◌, ◌≤◌, ◌<◌, ◌+◌, ◌++◌, [], length, true, false, refl, sym, subst, take, drop, ap, ◌∙◌, arith, rules}
+use Rattle.std.proofs.Common.{◌++◌, [], true, false, refl, sym, subst, take, drop, arith, rules}
 use Rattle.std.proofs.lemmas.Result.{err_from_is_err_and}
 use Rattle.std.proofs.lemmas.List.{take_all, take_rest, take-append-drop}
 use Rattle.std.proofs.Math.Seq.{take-add}

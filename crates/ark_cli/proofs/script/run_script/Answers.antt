@@ -107,5 +107,5 @@ turn-requires-clause-inside g c = subst (λ n. IsInside n c.loop-count.host) (sy
 pub end_script-requires-clause-inside : goal.end_script-requires-clause-inside
 end_script-requires-clause-inside g c = subst (λ n. IsInside n c.turn.new.host) (sym c.in-Ok-eq0.ensures.turns.goes.tells.blocks) c.turn.ensures.inside
 
-pub end_script-in-Ok-eq0-fetch-requires-clause-inside : goal.end_script-in-Ok-eq0-fetch-requires-clause-inside
-end_script-in-Ok-eq0-fetch-requires-clause-inside g c = subst (λ n. IsInside n c.loop-count.host) (sym (c.fetch.ensures.rests.blocks ∙ c.loop-count.invariant.going.goes.tells.blocks)) c.loop-count.invariant.inside
+pub end_script-requires-in-Ok-eq0-fetch-clause-inside : goal.end_script-requires-in-Ok-eq0-fetch-clause-inside
+end_script-requires-in-Ok-eq0-fetch-clause-inside g c = subst (λ n. IsInside n c.loop-count.host) (sym (c.fetch.ensures.rests.blocks ∙ c.loop-count.invariant.going.goes.tells.blocks)) c.loop-count.invariant.inside
