@@ -4,6 +4,7 @@ ghost use Rattle.ark_media.specs.Calls.{Goes, Rose};
 ghost use Rattle.ark_machine.specs.System.{fresh_system};
 ghost use Rattle.ark_host.specs.Stands.{Stands, IsZero};
 ghost use Rattle.ark_extents.specs.Free.{free_at_first};
+ghost use Rattle.ark_host.specs.Inside.{IsInside};
 ghost use Rattle.ark_host.specs.Time.{IsSound};
 ghost use Rattle.ark_cli.specs.Words.{IsRun};
 ghost use Rattle.ark_cli.specs.Session.{NoneFailed};
@@ -34,6 +35,7 @@ fn run_with<W: Outside>(
     requires high { blocks ≤ 1048576 }
     requires host { (h : History) → length h.base ≡ blocks → IsZero h (free_at_first blocks) → Stands host.old blocks h (fresh_system blocks) }
     requires sound { IsSound host.old }
+    requires inside { IsInside blocks host.old }
     requires none { host.old.lines ≡ 0 }
     requires line { line.old ≡ [] }
     ensures runs { RunsNew blocks device.now (W.told world.old) (W.told world.new) (W.beside world.old) (W.beside world.new) result }

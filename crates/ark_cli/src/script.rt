@@ -4,6 +4,7 @@ ghost use Rattle.ark_media.specs.Calls.{Rose, GoesBy};
 ghost use Rattle.ark_script.specs.Reply.{bytes_shown};
 ghost use Rattle.ark_script.specs.Text.{IsSaid, no_newline};
 ghost use Rattle.ark_script.specs.declared.said.Said.TheVariants as said;
+ghost use Rattle.ark_host.specs.Inside.{IsInside};
 ghost use Rattle.ark_host.specs.Time.{IsSound};
 ghost use Rattle.ark_cli.specs.Line.{kept};
 ghost use Rattle.ark_cli.specs.Session.{Acts, ServesLine, AnswersLine, Fed, Feeds, Finishes, Turns, Ran, is_done, piece_of, NoneFailed, IsFault, IsScriptEnd};
@@ -19,11 +20,13 @@ use memchr::memchr;
 // Reads one line, of which too long a one is told by its kept bytes, and makes its step.
 fn serve_line<D: Disk>(host: &mut Host, line: &[u8], out: &mut Reply, disk: &mut D)
     requires sound { IsSound host.old }
+    requires inside { IsInside (D.told disk.old).blocks host.old }
     requires few { host.old.lines < 2 ^ 31 }
     ensures serves { GoesBy D.goes disk.old disk.new (λ es. (whole : List ℕ) → line.now ≡ kept whole →
         ServesLine host.old whole es host.new (D.told disk.new) out.new.said (bytes_shown out.new)) }
     ensures said { IsSaid out.new.said }
     ensures sound { IsSound host.new }
+    ensures inside { IsInside (D.told disk.old).blocks host.new }
     ensures counted { host.new.lines ≤ host.old.lines + 1 }
 {
     if line.len() > MAX_LINE {
@@ -52,12 +55,14 @@ fn answer_line<W: Outside>(
     world: &mut W,
 ) -> Result<(), SinkFailed>
     requires sound { IsSound host.old }
+    requires inside { IsInside (W.told world.old).blocks host.old }
     requires few { host.old.lines < 2 ^ 31 }
     ensures answers { Acts (W.told world.old) (W.told world.new) (W.beside world.old) (W.beside world.new) (λ part. (whole : List ℕ) →
         line.now ≡ kept whole → AnswersLine host.old whole part host.new (W.told world.new) (is_ok result)) }
     ensures unfailed { OnOk result (NoneFailed (W.beside world.old) (W.beside world.new)) }
     ensures cause { OnErr result (Rose (W.beside world.old).sink_faults (W.beside world.new).sink_faults) }
     ensures sound { IsSound host.new }
+    ensures inside { IsInside (W.told world.old).blocks host.new }
     ensures counted { host.new.lines ≤ host.old.lines + 1 }
 {
     serve_line(host, line, &mut out.reply, world);
@@ -75,12 +80,14 @@ fn end_line<W: Outside>(
 ) -> Result<(), SinkFailed>
     requires clean { no_newline bytes.now ≡ true }
     requires sound { IsSound host.old }
+    requires inside { IsInside (W.told world.old).blocks host.old }
     requires few { host.old.lines < 2 ^ 31 }
     ensures feeds { Acts (W.told world.old) (W.told world.new) (W.beside world.old) (W.beside world.new) (λ more. (first : Host) (fed : List ℕ) (added : List Event) →
         Fed first fed added host.old (W.told world.old) line.old → Feeds first fed (bytes.now ++ 10 ∷ []) added more host.new (W.told world.new) line.new (is_ok result)) }
     ensures unfailed { OnOk result (NoneFailed (W.beside world.old) (W.beside world.new)) }
     ensures cause { OnErr result (Rose (W.beside world.old).sink_faults (W.beside world.new).sink_faults) }
     ensures sound { IsSound host.new }
+    ensures inside { IsInside (W.told world.old).blocks host.new }
     ensures counted { host.new.lines ≤ host.old.lines + 1 }
 {
     if line.bytes().is_empty() {
@@ -103,6 +110,7 @@ fn run_piece<W: Outside>(
 ) -> Result<usize, SinkFailed>
     requires some { 0 < length bytes.now }
     requires sound { IsSound host.old }
+    requires inside { IsInside (W.told world.old).blocks host.old }
     requires few { host.old.lines < 2 ^ 31 }
     ensures feeds { Acts (W.told world.old) (W.told world.new) (W.beside world.old) (W.beside world.new) (λ more. (first : Host) (fed : List ℕ) (added : List Event) →
         Fed first fed added host.old (W.told world.old) line.old → Feeds first fed (piece_of bytes.now result) added more host.new (W.told world.new) line.new (is_ok result)) }
@@ -110,6 +118,7 @@ fn run_piece<W: Outside>(
     ensures unfailed { OnOk result (NoneFailed (W.beside world.old) (W.beside world.new)) }
     ensures cause { OnErr result (Rose (W.beside world.old).sink_faults (W.beside world.new).sink_faults) }
     ensures sound { IsSound host.new }
+    ensures inside { IsInside (W.told world.old).blocks host.new }
     ensures counted { host.new.lines ≤ host.old.lines + 1 }
 {
     match memchr(b'\n', bytes) {
@@ -133,12 +142,14 @@ fn run_bytes<W: Outside>(
     world: &mut W,
 ) -> Result<(), SinkFailed>
     requires sound { IsSound host.old }
+    requires inside { IsInside (W.told world.old).blocks host.old }
     requires few { host.old.lines + length bytes.now ≤ 2 ^ 31 }
     ensures feeds { Acts (W.told world.old) (W.told world.new) (W.beside world.old) (W.beside world.new) (λ more. (first : Host) (fed : List ℕ) (added : List Event) →
         Fed first fed added host.old (W.told world.old) line.old → Feeds first fed bytes.now added more host.new (W.told world.new) line.new (is_ok result)) }
     ensures unfailed { OnOk result (NoneFailed (W.beside world.old) (W.beside world.new)) }
     ensures cause { OnErr result (Rose (W.beside world.old).sink_faults (W.beside world.new).sink_faults) }
     ensures sound { IsSound host.new }
+    ensures inside { IsInside (W.told world.old).blocks host.new }
     ensures counted { host.new.lines ≤ host.old.lines + length bytes.now }
 {
     let mut at = 0;
@@ -156,6 +167,7 @@ fn finish<W: Outside>(
     world: &mut W,
 ) -> Result<(), SinkFailed>
     requires sound { IsSound host.old }
+    requires inside { IsInside (W.told world.old).blocks host.old }
     requires few { host.old.lines < 2 ^ 31 }
     ensures finishes { Acts (W.told world.old) (W.told world.new) (W.beside world.old) (W.beside world.new) (λ more. (first : Host) (fed : List ℕ) (added : List Event) →
         Fed first fed added host.old (W.told world.old) line.now → Finishes first fed added more (W.told world.new) (is_ok result)) }
@@ -181,12 +193,14 @@ fn turn<W: Outside>(
 ) -> Result<usize, Status>
     requires some { 0 < length chunk.old }
     requires sound { IsSound host.old }
+    requires inside { IsInside (W.told world.old).blocks host.old }
     requires few { host.old.lines + length chunk.old ≤ 2 ^ 31 }
     ensures turns { Turns (length chunk.old) (W.told world.old) (W.told world.new) (W.beside world.old) (W.beside world.new) host.old host.new line.old line.new result }
     ensures bound { IfOk result (λ n. n ≤ length chunk.old) }
     ensures unfailed { OnOk result (NoneFailed (W.beside world.old) (W.beside world.new)) }
     ensures cause { IfErr result (λ e. IsFault (W.beside world.old) (W.beside world.new) e) }
     ensures sound { IsSound host.new }
+    ensures inside { IsInside (W.told world.old).blocks host.new }
     ensures counted { IfOk result (λ n. host.new.lines ≤ host.old.lines + n) }
 {
     match world.fetch(chunk) {
@@ -206,6 +220,7 @@ fn end_script<W: Outside>(
     world: &mut W,
 ) -> Status
     requires sound { IsSound host.old }
+    requires inside { IsInside (W.told world.old).blocks host.old }
     requires few { host.old.lines < 2 ^ 31 }
     ensures finishes { Acts (W.told world.old) (W.told world.new) (W.beside world.old) (W.beside world.new) (λ more. (first : Host) (fed : List ℕ) (added : List Event) →
         Fed first fed added host.old (W.told world.old) line.now → Finishes first fed added more (W.told world.new) (is_done result)) }
@@ -225,6 +240,7 @@ pub fn run_script<W: Outside>(
     world: &mut W,
 ) -> Status
     requires sound { IsSound host.old }
+    requires inside { IsInside (W.told world.old).blocks host.old }
     requires none { host.old.lines ≡ 0 }
     ensures ran { Ran (W.told world.old) (W.told world.new) (W.beside world.old) (W.beside world.new) host.old line.old result }
     ensures cause { IsScriptEnd (W.beside world.old) (W.beside world.new) result }

@@ -1,7 +1,7 @@
 use crate::runs::words_of;
 use ark_cli::{Task, WordsFault, read_words};
 use ark_host::Host;
-use ark_media::MemoryWorld;
+use ark_media::{MemoryWorld, Outside};
 use ark_script::{Reply, Said, read_line};
 use std::test::Fail;
 
@@ -29,6 +29,9 @@ fn reads_words(rt: HostRuntime) -> Result<(), Fail> {
 #[test]
 fn makes_a_step(rt: HostRuntime) -> Result<(), Fail> {
     let mut world = MemoryWorld::new(rt.alloc(), b"", 400, b"", &[], 100, 100)?;
+    let Ok(()) = world.make("d", 200) else {
+        panic!(rt; "no device was made")
+    };
     let mut host = Host::new(rt.alloc(), 200)?;
     let mut reply = Reply::new(rt.alloc())?;
     assert_eq!(rt; host.slots(), 0);

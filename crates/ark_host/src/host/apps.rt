@@ -2,6 +2,8 @@ ghost use Rattle.std.specs.Prelude.{◌≡◌, ◌≤◌, ℕ, [], bytes_eq, pos
 ghost use Rattle.ark_media.specs.Journal.{History};
 ghost use Rattle.ark_script.specs.Line as w;
 ghost use Rattle.ark_script.specs.Text.{IsSaid};
+ghost use Rattle.ark_host.specs.Inside.{KeepsInside};
+ghost use Rattle.ark_host.specs.Time.{Counts};
 ghost use Rattle.ark_machine.specs.System.{System};
 
 use super::Host;
@@ -31,9 +33,8 @@ impl Host {
         ensures turned { (size : ℕ) (h : History) (s : System) → Stands self.old size h s →
             RowDone self.new size h s name.now (w.app name.now frames) (app_row s name.now frames [] result) [] result [] }
         ensures said { IsSaid result }
-        ensures clock { self.new.clock ≡ self.old.clock }
-        ensures lines { self.new.lines ≡ self.old.lines }
-        ensures grants { self.new.grants ≡ self.old.grants }
+        ensures counts { Counts self.old self.new 0 0 }
+        ensures inside { KeepsInside self.old self.new }
     {
         let frames = frames.unwrap_or(USUAL_FRAMES);
         if place_of(&self.apps, name).is_some() {

@@ -1,4 +1,5 @@
-use Rattle.std.proofs.Common.{inr}
+use Rattle.std.proofs.Common.{inr, sym, subst}
+use Rattle.ark_host.specs.Inside.{IsInside}
 use Rattle.ark_cli.proofs.Running.{open_ran, runs_not, script_cause}
 use Rattle.ark_cli.proofs.command.run_with.Goals as goal
 
@@ -17,3 +18,6 @@ returns-in-Ok-clause-cause g c =
     script_cause c.args.blocks c.args.device.now _ _ (g.W.Disk.told c.args.world.now) (g.W.Disk.told c.open_new.new.world) (g.W.Disk.told c.run_script.new.world)
     (g.W.Outside.beside c.args.world.now) (g.W.Outside.beside c.open_new.new.world) (g.W.Outside.beside c.run_script.new.world)
     c.run_script.result c.in-Ok.ensures.opens.ready.since c.in-Ok.ensures.unfailed c.run_script.ensures.cause
+
+pub run_script-requires-clause-inside : goal.run_script-requires-clause-inside
+run_script-requires-clause-inside g c = subst (λ n. IsInside n c.args.host.now) (sym c.in-Ok.ensures.opens.ready.since.blocks) c.requires.inside

@@ -1,8 +1,9 @@
-use Rattle.std.proofs.Common.{◌≡◌, ◌≤◌, ◌<◌, ◌+◌, ◌++◌, [], length, true, false, refl, sym, subst, take, drop, ap, ◌∙◌, arith, rules}
+use Rattle.std.proofs.Common.{◌++◌, [], true, false, refl, sym, subst, take, drop, arith, rules}
 use Rattle.std.proofs.lemmas.Result.{err_from_is_err_and}
 use Rattle.std.proofs.lemmas.List.{take_all, take_rest, take-append-drop}
 use Rattle.std.proofs.Math.Seq.{take-add}
 use Rattle.ark_media.proofs.Composing.{goes_none, goes_then}
+use Rattle.ark_host.specs.Inside.{IsInside}
 use Rattle.ark_cli.specs.Session.{Feeds}
 use Rattle.ark_cli.proofs.Feeding.{feeds_none, feeds_then}
 use Rattle.ark_cli.proofs.Unfailed.{none_failed, unfailed_then}
@@ -20,6 +21,7 @@ loop-at-init g c =
       };
       unfailed = none_failed beside;
       sound = c.requires.sound;
+      inside = c.requires.inside;
       counted = omega arith;
       within = omega arith;
     }
@@ -68,6 +70,7 @@ loop-at-preserved g c =
       };
       unfailed = unfailed_then (g.W.Outside.beside w0) (g.W.Outside.beside w1) (g.W.Outside.beside w2) c.loop-at.invariant.unfailed c.in_ok-at.ensures.unfailed;
       sound = c.run_piece.ensures.sound;
+      inside = subst (λ n. IsInside n c.run_piece.new.host) before.goes.tells.blocks c.run_piece.ensures.inside;
       counted = search rules;
       within = search rules;
     }
@@ -83,3 +86,9 @@ returns-clause-feeds g c =
           subst (λ b. Feeds s fed b added before.events c.loop-at.host (g.W.Disk.told c.loop-at.world) c.loop-at.line true)
           (take_all c.loop-at.at bytes (search rules)) (before.does s fed added f);
     }
+
+pub run_piece-requires-clause-inside : goal.run_piece-requires-clause-inside
+run_piece-requires-clause-inside g c = subst (λ n. IsInside n c.loop-at.host) (sym c.loop-at.invariant.feeds.goes.tells.blocks) c.loop-at.invariant.inside
+
+pub returns-in_err-at-clause-inside : goal.returns-in_err-at-clause-inside
+returns-in_err-at-clause-inside g c = subst (λ n. IsInside n c.run_piece.new.host) c.loop-at.invariant.feeds.goes.tells.blocks c.run_piece.ensures.inside

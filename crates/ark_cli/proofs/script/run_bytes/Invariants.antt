@@ -1,6 +1,7 @@
 use Rattle.std.proofs.Common.{ℕ, ◌+◌, ◌-◌, ◌≤◌, List, true, take, length}
 use Rattle.ark_media.specs.Journal.{Event}
 use Rattle.ark_host.specs.declared.host.Host.{Host}
+use Rattle.ark_host.specs.Inside.{IsInside}
 use Rattle.ark_host.specs.Time.{IsSound}
 use Rattle.ark_cli.specs.Session.{Acts, Fed, Feeds, NoneFailed}
 use Rattle.ark_cli.proofs.script.run_bytes.Given as goal
@@ -11,6 +12,7 @@ invariant-loop-at g l = record {
       Fed first fed added l.initial.host (g.W.Disk.told l.initial.world) l.initial.line → Feeds first fed (take l.at l.bytes) added more l.host (g.W.Disk.told l.world) l.line true);
   unfailed : NoneFailed (g.W.Outside.beside l.initial.world) (g.W.Outside.beside l.world);
   sound : IsSound l.host;
+  inside : IsInside (g.W.Disk.told l.initial.world).blocks l.host;
   counted : l.host.lines ≤ l.initial.host.lines + l.at;
   within : l.at ≤ length l.bytes;
 }

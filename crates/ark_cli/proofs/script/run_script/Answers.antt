@@ -1,7 +1,8 @@
-use Rattle.std.proofs.Common.{◌≡◌, ◌+◌, length, take, subst, inl, inr, arith, rules}
+use Rattle.std.proofs.Common.{◌≡◌, ◌+◌, length, take, sym, ◌∙◌, subst, inl, inr, arith, rules}
 use Rattle.std.proofs.lemmas.List.{length-take}
 use Rattle.ark_media.specs.Calls.{Fetches}
 use Rattle.ark_media.proofs.Composing.{takes_fetched, takes_none, still_none}
+use Rattle.ark_host.specs.Inside.{IsInside}
 use Rattle.ark_cli.proofs.Turning.{script_end, going_first, going_on, going_none, ran_failed, ran_long, ran_source, ran_finish, end_after}
 use Rattle.ark_cli.proofs.Unfailed.{none_failed, unfailed_then, unfailed_fetched}
 use Rattle.ark_cli.proofs.script.run_script.Goals as goal
@@ -12,6 +13,7 @@ loop-count-init g c = record {
   few = omega arith;
   unfailed = none_failed (g.W.Outside.beside c.args.world.now);
   sound = c.requires.sound;
+  inside = c.requires.inside;
   counted = omega (arith, c.requires.none);
 }
 
@@ -23,6 +25,7 @@ loop-count-preserved g c = record {
   few = omega (arith, length-take c.min-room.result c.loop-count.chunk, c.min-room.ensures, c.loop-count.invariant.few, c.in-Ok.ensures.bound);
   unfailed = unfailed_then (g.W.Outside.beside c.args.world.now) (g.W.Outside.beside c.loop-count.world) (g.W.Outside.beside c.turn.new.world) c.loop-count.invariant.unfailed c.in-Ok.ensures.unfailed;
   sound = c.turn.ensures.sound;
+  inside = subst (λ n. IsInside n c.turn.new.host) c.loop-count.invariant.going.goes.tells.blocks c.turn.ensures.inside;
   counted = omega (arith, c.loop-count.invariant.counted, c.in-Ok.ensures.counted);
 }
 
@@ -97,3 +100,12 @@ returns-in-Ok-eq0-fetch-clause-cause g c =
     let b2 = g.W.Outside.beside c.fetch.new.self in
     script_end b0 b2 (g.W.Outside.beside c.end_script-in-Ok-eq0-fetch.new.world) c.end_script-in-Ok-eq0-fetch.result
     (unfailed_then b0 b1 b2 c.loop-count.invariant.unfailed (unfailed_fetched b1 b2 c.fetch.ensures.keeps c.in-Ok-eq0-fetch.ensures.cause.worked)) c.end_script-in-Ok-eq0-fetch.ensures.cause
+
+pub turn-requires-clause-inside : goal.turn-requires-clause-inside
+turn-requires-clause-inside g c = subst (λ n. IsInside n c.loop-count.host) (sym c.loop-count.invariant.going.goes.tells.blocks) c.loop-count.invariant.inside
+
+pub end_script-requires-clause-inside : goal.end_script-requires-clause-inside
+end_script-requires-clause-inside g c = subst (λ n. IsInside n c.turn.new.host) (sym c.in-Ok-eq0.ensures.turns.goes.tells.blocks) c.turn.ensures.inside
+
+pub end_script-requires-in-Ok-eq0-fetch-clause-inside : goal.end_script-requires-in-Ok-eq0-fetch-clause-inside
+end_script-requires-in-Ok-eq0-fetch-clause-inside g c = subst (λ n. IsInside n c.loop-count.host) (sym (c.fetch.ensures.rests.blocks ∙ c.loop-count.invariant.going.goes.tells.blocks)) c.loop-count.invariant.inside

@@ -1,4 +1,5 @@
 use Rattle.std.proofs.Common.{◌≤◌, ◌-◌}
+use Rattle.ark_host.specs.Inside.{IsInside}
 use Rattle.ark_host.specs.Time.{IsSound}
 use Rattle.ark_cli.specs.Session.{Going, NoneFailed}
 use Rattle.ark_cli.proofs.script.run_script.Given as goal
@@ -9,6 +10,7 @@ invariant-loop-count g l = record {
   few : l.count ≤ 1073741824;
   unfailed : NoneFailed (g.W.Outside.beside l.initial.world) (g.W.Outside.beside l.world);
   sound : IsSound l.host;
+  inside : IsInside (g.W.Disk.told l.initial.world).blocks l.host;
   counted : l.host.lines ≤ l.count;
 }
 

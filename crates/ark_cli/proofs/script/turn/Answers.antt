@@ -1,4 +1,5 @@
-use Rattle.std.proofs.Common.{length, arith}
+use Rattle.std.proofs.Common.{length, arith, sym, subst}
+use Rattle.ark_host.specs.Inside.{IsInside}
 use Rattle.ark_cli.proofs.Turning.{turn_source, turn_ok, turn_sink}
 use Rattle.ark_cli.proofs.Unfailed.{unfailed_then, unfailed_fetched}
 use Rattle.ark_cli.proofs.script.turn.Goals as goal
@@ -33,3 +34,12 @@ returns-in-Ok-run_bytes-clause-unfailed g c =
     let b0 = g.W.Outside.beside c.args.world.now in
     let b1 = g.W.Outside.beside c.fetch.new.self in
     unfailed_then b0 b1 (g.W.Outside.beside c.run_bytes.new.world) (unfailed_fetched b0 b1 c.fetch.ensures.keeps c.in-Ok.ensures.cause.worked) c.in-Ok-run_bytes.ensures.unfailed
+
+pub run_bytes-requires-clause-inside : goal.run_bytes-requires-clause-inside
+run_bytes-requires-clause-inside g c = subst (λ n. IsInside n c.args.host.now) (sym c.fetch.ensures.rests.blocks) c.requires.inside
+
+pub returns-in-Ok-run_bytes-clause-inside : goal.returns-in-Ok-run_bytes-clause-inside
+returns-in-Ok-run_bytes-clause-inside g c = subst (λ n. IsInside n c.run_bytes.new.host) c.fetch.ensures.rests.blocks c.run_bytes.ensures.inside
+
+pub returns-in-Err-run_bytes-clause-inside : goal.returns-in-Err-run_bytes-clause-inside
+returns-in-Err-run_bytes-clause-inside g c = subst (λ n. IsInside n c.run_bytes.new.host) c.fetch.ensures.rests.blocks c.run_bytes.ensures.inside
