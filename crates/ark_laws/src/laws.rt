@@ -14,7 +14,7 @@ ghost use Rattle.ark_machine.specs.Row.{Row, Ended, answer, synced_by};
 ghost use Rattle.ark_machine.specs.System.{System, fresh_system, machine_of, set_machine, owner, line_turn};
 ghost use Rattle.ark_machine.specs.Sockets.{sent_reaped};
 ghost use Rattle.ark_machine.specs.Start.{start_system};
-ghost use Rattle.ark_machine.specs.Plane.{Plane, blocks_at, granted};
+ghost use Rattle.ark_machine.specs.Plane.{Plane, blocks_at, asked_blocks};
 ghost use Rattle.ark_machine.specs.Follow.{PerformsFor};
 ghost use Rattle.ark_machine.specs.Grants.{GrantsApart};
 ghost use Rattle.ark_machine.specs.Replies.{Answers, EachAnswers, turn_for, system_after, Replies};
@@ -50,7 +50,7 @@ pub fn grant_laws()
     ensures stored { (image : List (List ℕ)) (slots : List Slot) → slots_of image ≡ Ok slots → GrantsApart (start_system image slots).plane }
     ensures kept { (s : System) (line : Line) (ends : List Ended) (memory : Bool) → GrantsApart s.plane → GrantsApart (line_turn s line ends memory).after.plane }
     ensures apart { (p : Plane) (a b l k : List ℕ) (n : ℕ) → GrantsApart p → bytes_eq a b ≡ false → Contains (blocks_at p a l) n → Contains (blocks_at p b k) n → ⊥ }
-    ensures new_blocks { (p : Plane) (line : Line) (b k : List ℕ) (n : ℕ) → Contains (granted p line) n → Contains (blocks_at p b k) n → ⊥ }
+    ensures new_blocks { (p : Plane) (line : Line) (b k : List ℕ) (n : ℕ) → Contains (asked_blocks p line) n → Contains (blocks_at p b k) n → ⊥ }
     ensures reads { (s : System) (line : Line) (a b l : List ℕ) (n : ℕ) → GrantsApart s.plane → owner line ≡ Some a → bytes_eq a b ≡ false → Contains (readable s line) n → Contains (blocks_at s.plane b l) n → ⊥ }
     ensures writes { (s : System) (line : Line) (a b l : List ℕ) (n : ℕ) → GrantsApart s.plane → owner line ≡ Some a → bytes_eq a b ≡ false → Contains (writable s line) n → Contains (blocks_at s.plane b l) n → ⊥ }
 {}
