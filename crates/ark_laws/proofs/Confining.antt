@@ -135,7 +135,7 @@ each_confined s (m ∷ ms) (p ∷ ps) k h = (
   each_confined (turn_for s m p).after ms ps (rates_kept s m p k) h.1,
 )
 
-each_count : (s : System) (ms : List Meaning) (ps : List (List Event)) → EachAnswers s ms ps → length ms ≡ length ps
+pub each_count : (s : System) (ms : List Meaning) (ps : List (List Event)) → EachAnswers s ms ps → length ms ≡ length ps
 each_count s [] [] h = refl
 each_count s [] (p ∷ ps) h = absurd h
 each_count s (m ∷ ms) [] h = absurd h
@@ -147,7 +147,7 @@ begins_confined s (line ∷ lines) es k (inl none) = inl none
 begins_confined s (line ∷ lines) es k (inr b) =
     inr (b.0, b.1, confined_front s b.0 es b.2.more (performs_confined s b.0 (ends_of (es ++ b.2.more)) false (es ++ b.2.more) k b.2.calls))
 
-run_paced : (s : System) (ms : List Meaning) (ps : List (List Event)) → StandsPaced s → StandsPaced (system_after s ms ps)
+pub run_paced : (s : System) (ms : List Meaning) (ps : List (List Event)) → StandsPaced s → StandsPaced (system_after s ms ps)
 run_paced s [] ps k = k
 run_paced s (m ∷ ms) [] k = k
 run_paced s (m ∷ ms) (p ∷ ps) k = run_paced (turn_for s m p).after ms ps (rates_kept s m p k)
