@@ -1,6 +1,6 @@
 -- The frames that are posted to transmit stay whole in their buffers, whatever comes to the machine.
 use Rattle.std.proofs.Common.{◌≡◌, ◌⊎◌, inl, ℕ, suc, ◌+◌, ◌*◌, Bool, true, false, not, ◌&&◌, List, [], ◌∷◌, length, refl, sym, ◌∙◌, subst, arith, cond}
-use Rattle.std.specs.Prelude.{Option, Some, None, option_map, unwrap_or, nat_lt, slice_index_or, Contains, Ok}
+use Rattle.std.specs.Prelude.{Option, Some, None, option_map, unwrap_or, nat_lt, slice_index_or, Contains}
 use Rattle.ark_base.specs.declared.kind.Outcome.{Outcome}
 use Rattle.ark_base.specs.declared.kind.Outcome.TheVariants as outcome
 use Rattle.ark_packet.specs.declared.own.Own.{Own}

@@ -1,6 +1,6 @@
 -- Every line keeps it that no block is granted twice.
 use Rattle.std.proofs.Common.{◌≡◌, ◌<◌, ℕ, Bool, true, false, List, [], ◌∷◌, ◌||◌, length, refl, sym, ◌∙◌, subst, arith, cond}
-use Rattle.std.proofs.lemmas.Bool.{false≢true, and_parts}
+use Rattle.std.proofs.lemmas.Bool.{false≢true, and_parts, or_left, or_right}
 use Rattle.std.proofs.lemmas.Bool.Decides.{nat_tests}
 use Rattle.std.specs.Prelude.{Option, Some, None, option_map, find, unwrap_or, bytes_eq, nat_le, Contains}
 use Rattle.ark_base.specs.Conditions.{Conditions, early, late, when, when_some}
@@ -145,17 +145,10 @@ in_found : (q : Slot → Bool) (ss : List Slot) (n : ℕ) → has_block (unwrap_
 in_found q [] n h = absurd (false≢true h)
 in_found q (s ∷ ss) n h = by (q s) h (in_found q ss n)
   where
-    front : (a b : Bool) → a ≡ true → (a || b) ≡ true
-    front a b e = rw e refl
-
-    back : (a b : Bool) → b ≡ true → (a || b) ≡ true
-    back true b e = refl
-    back false b e = e
-
     by : (b : Bool) → has_block (unwrap_or (option_map (λ t. t.blocks) (cond b (Some s) (find q ss))) []) n ≡ true
         → (has_block (unwrap_or (option_map (λ t. t.blocks) (find q ss)) []) n ≡ true → is_granted ss n ≡ true) → is_granted (s ∷ ss) n ≡ true
-    by true e next = front (has_block s.blocks n) (is_granted ss n) e
-    by false e next = back (has_block s.blocks n) (is_granted ss n) (next e)
+    by true e next = or_left (has_block s.blocks n) (is_granted ss n) e
+    by false e next = or_right (has_block s.blocks n) (is_granted ss n) (next e)
 
 two_apart : (ss : List Slot) (a b l k : List ℕ) (n : ℕ) → SlotsApart ss → bytes_eq a b ≡ false → has_block (unwrap_or (option_map (λ t. t.blocks) (find (λ t. is_slot_of a l t) ss)) []) n ≡ true
     → has_block (unwrap_or (option_map (λ t. t.blocks) (find (λ t. is_slot_of b k t) ss)) []) n ≡ true → ⊥

@@ -3,7 +3,7 @@
 use Rattle.std.proofs.Common.{◌≡◌, ◌≤◌, ◌⊎◌, inl, inr, ℕ, ◌+◌, Bool, true, false, not, List, [], ◌∷◌, ◌++◌, length, take, drop, refl, sym, ◌∙◌, ap, subst, arith, cond}
 use Rattle.std.proofs.lemmas.List.{length-take, length-drop, length-append}
 use Rattle.std.proofs.lemmas.List.Folds.{find-append}
-use Rattle.std.specs.Prelude.{Option, Some, None, option_map, option_and_then, find, filter as select, unwrap_or, bytes_eq, Contains}
+use Rattle.std.specs.Prelude.{Option, Some, None, option_map, option_and_then, filter as select, unwrap_or, bytes_eq, Contains}
 use Rattle.std.specs.Option.{option_or}
 use Rattle.ark_vic.specs.Bells as bells
 use Rattle.ark_vic.specs.declared.door.Bell.{Bell}

@@ -16,7 +16,7 @@ use Rattle.ark_machine.specs.Bytes.{block_of}
 use Rattle.ark_machine.specs.Row.{Row, Given, Ended, Call, reads, writes, reads_in, writes_in, answer, unless_refused}
 use Rattle.ark_machine.specs.Areas.{raw_written, with_raw}
 use Rattle.ark_machine.specs.Rates.{is_over_burst, may_pass, passed}
-use Rattle.ark_machine.specs.Moves.{Move, moves, moved, ending, ended, ends, outcome_of, block_passed, block_moved, tried, gated, is_bound, transferred, transfer_call, raw_numbered, log_on, phase_written, phase_moves, phase_moves_on, row_of}
+use Rattle.ark_machine.specs.Moves.{Move, moves, moved, ending, ends, outcome_of, block_passed, block_moved, tried, gated, is_bound, transferred, transfer_call, raw_numbered, log_on, phase_written, phase_moves, phase_moves_on, row_of}
 use Rattle.ark_machine.specs.Network.{bytes_in, frame_moves, tx_moves}
 use Rattle.ark_machine.specs.Devices.{card_moves}
 use Rattle.ark_machine.specs.Labels.{AreLabelled}

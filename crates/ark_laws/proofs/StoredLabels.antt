@@ -14,9 +14,8 @@ use Rattle.ark_machine.specs.Machine as machine
 use Rattle.ark_machine.specs.System.{fresh_system, listed_machine, machine_of}
 use Rattle.ark_machine.specs.Start.{view, stored_area, with_slot, with_stored, all_stored, start_system}
 use Rattle.ark_machine.specs.Labels.{AreLabelled}
-use Rattle.ark_machine.proofs.Grants.{clash}
 use Rattle.ark_laws.proofs.Labelled.{held_at, new_once}
-use Rattle.ark_laws.proofs.Listed.{same_bytes, bytes_eq-same}
+use Rattle.ark_laws.proofs.Listed.{same_bytes}
 
 abbrev slot : Held → Slot
 slot h = slot_at h.index h.area
