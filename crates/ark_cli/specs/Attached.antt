@@ -13,7 +13,7 @@ use Rattle.ark_machine.specs.Start.{start_system}
 use Rattle.ark_machine.specs.Replies.{Replies}
 use Rattle.ark_machine.specs.Confined.{Confined}
 use Rattle.ark_cli.specs.Line.{limit, within_limit}
-use Rattle.ark_cli.specs.Cut.{CutReplies}
+use Rattle.ark_cli.specs.Cut.{CutReplies, CutConfined}
 use Rattle.ark_cli.specs.Session.{IsAtEnd}
 use Rattle.ark_cli.specs.Opening.{Asks}
 use Rattle.ark_cli.specs.Ending.{Closes, IsQuiet, IsRefused}
@@ -60,7 +60,9 @@ HasRunOn base lines (opening ∷ whole) unfinished =
 abbrev pub EndsCutOn : List (List ℕ) → List ℕ → List (List Event) → List Event → Type 0
 EndsCutOn base script [] rest =
     (slots : List Slot) × (slots_of base ≡ Ok slots) × ((more : List ℕ) × (text (Ready (length base) (length slots)) [] ≡ output_of rest ++ more))
-EndsCutOn base script (opening ∷ whole) rest = (slots : List Slot) × (slots_of base ≡ Ok slots) × CutReplies (start_system base slots) (lines_of script) whole rest
+EndsCutOn base script (opening ∷ whole) rest =
+    (slots : List Slot) × (slots_of base ≡ Ok slots)
+    × CutReplies (start_system base slots) (lines_of script) whole rest × CutConfined (start_system base slots) (lines_of script) whole rest
 
 -- How many whole parts there are by the status, and what stands behind them, before the closing line: every line of the
 -- whole script has its reply; every line whose newline came (within the limit, where the script is longer); a put failed; a

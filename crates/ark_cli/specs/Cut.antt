@@ -1,11 +1,12 @@
--- What came of a line whose reply was not put out in whole. Ours.
+-- What came of a line whose reply was not put out in whole.
 use Rattle.std.specs.Prelude.{◌≡◌, ◌⊎◌, ℕ, Bool, List, [], ◌∷◌, ◌++◌, length, drop}
 use Rattle.ark_media.specs.Journal.{Event, output_of, device_events}
-use Rattle.ark_script.specs.Lines.{Meaning, Says}
+use Rattle.ark_script.specs.Lines.{Meaning, Says, FirstSay}
 use Rattle.ark_script.specs.Text.{text}
 use Rattle.ark_machine.specs.System.{System, Turn}
 use Rattle.ark_machine.specs.Built.{turn}
 use Rattle.ark_machine.specs.Follow.{Performs, ends_of}
+use Rattle.ark_machine.specs.Sending.{SendsFront, DeliversFront}
 use Rattle.ark_machine.specs.Replies.{MayLack, system_after, Replies}
 
 -- the turn of the line whose part this is, by whether it found no memory: its reply may not show that
@@ -31,3 +32,20 @@ Shows s (line ∷ lines) part = (part ≡ []) ⊎ ((m : Meaning) × Says line m 
 pub record CutReplies (s : System) (lines : List (List ℕ)) (whole : List (List Event)) (part : List Event) : Type 0 where
   pub replies : Replies s lines whole part
   pub shows : Shows (system_after s replies.meanings whole) (drop (length whole) lines) part
+
+-- The frame of which the first bytes of a reply show something was let out or in, within the rate of its card's queue.
+pub record IsCutConfined (s : System) (m : Meaning) (part : List Event) : Type 0 where
+  pub sends : SendsFront s m (output_of part)
+  pub delivers : DeliversFront s m (output_of part)
+
+-- behind the whole parts stands nothing, or what the next line may send or have delivered
+abbrev pub ShowsConfined : System → List (List ℕ) → List Event → Type 0
+ShowsConfined s [] part = part ≡ []
+ShowsConfined s (line ∷ lines) part = (part ≡ []) ⊎ ((m : Meaning) × Says line m × IsCutConfined s m part)
+
+-- The cut reply keeps to what its line may do, with the system as it is before the line: so its frame is let out or in.
+pub record CutConfined (s : System) (lines : List (List ℕ)) (whole : List (List Event)) (part : List Event) : Type 0 where
+  pub meanings : List Meaning
+  pub say : FirstSay lines meanings
+  pub count : length meanings ≡ length whole
+  pub shows : ShowsConfined (system_after s meanings whole) (drop (length whole) lines) part

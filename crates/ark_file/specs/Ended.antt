@@ -12,7 +12,7 @@ use Rattle.ark_script.specs.declared.said.Said.TheVariants.{Ready}
 use Rattle.ark_machine.specs.System.{fresh_system}
 use Rattle.ark_cli.specs.Words.{IsRun}
 use Rattle.ark_cli.specs.Line.{limit}
-use Rattle.ark_cli.specs.Cut.{CutReplies}
+use Rattle.ark_cli.specs.Cut.{CutReplies, CutConfined}
 use Rattle.ark_cli.specs.Ending.{Does, HasRun, Ends, Closes, RecoversAtFronts}
 use Rattle.ark_record.specs.Replay.{Past, Model, model_of}
 use Rattle.ark_record.specs.Watch.{told_of, told_by, beside_by}
@@ -31,7 +31,8 @@ pub record IsUnopened (asked : List Opening) (status : Status) (old now : Model)
 -- the next reply.
 abbrev pub CutEnds : ℕ → List ℕ → List (List Event) → List Event → Type 0
 CutEnds size script [] rest = (more : List ℕ) × (text (Ready size 0) [] ≡ output_of rest ++ more)
-CutEnds size script (opening ∷ whole) rest = CutReplies (fresh_system size) (lines_of script) whole rest
+CutEnds size script (opening ∷ whole) rest =
+    CutReplies (fresh_system size) (lines_of script) whole rest × CutConfined (fresh_system size) (lines_of script) whole rest
 
 -- how many whole parts there are by the status, and what stands behind them
 abbrev pub EndsBy : ℕ → Told → Status → List ℕ → List (List Event) → List Event → Type 0

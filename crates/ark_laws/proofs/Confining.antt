@@ -16,7 +16,7 @@ use Rattle.ark_machine.specs.Cards.{unreaped_at}
 use Rattle.ark_machine.specs.Logs.{found_in}
 use Rattle.ark_machine.specs.Polls.{polled, next_call}
 use Rattle.ark_machine.specs.Sockets.{pulled, card_at, datagrams_at}
-use Rattle.ark_machine.specs.Plane.{recorded, granted, slot_of}
+use Rattle.ark_machine.specs.Plane.{recorded, asked_blocks, slot_of}
 use Rattle.ark_machine.specs.Step.{step}
 use Rattle.ark_machine.specs.System.{System, machine_of, owner, line_turn, quiet_turn}
 use Rattle.ark_machine.specs.Built.{turn, is_built, so_far, calls_so_far}
@@ -39,7 +39,7 @@ unfolding step
 grow_confined s a l n g es h None is = by_wrong s a (w.grow a l n) _ _ _ es h (rw is refl)
 grow_confined s a l n g es h (Some x) is =
     by_row s a (w.grow a l n) _ _ _ es h
-    (grants s a (w.grow a l n) n (new_in (slots_for s.plane a (w.grow a l n)) (granted s.plane (w.grow a l n))) (slot_in (slots_for s.plane a (w.grow a l n)) (granted s.plane (w.grow a l n))) (rw is refl))
+    (grants s a (w.grow a l n) n (new_in (slots_for s.plane a (w.grow a l n)) (asked_blocks s.plane (w.grow a l n))) (slot_in (slots_for s.plane a (w.grow a l n)) (asked_blocks s.plane (w.grow a l n))) (rw is refl))
 
 -- what comes of a line's calls is within what the line may touch, and ends at a failure
 pub line_confined : (s : System) (line : Line) (ends : List Ended) (memory : Bool) (es : List Event) → PerformsFor s line (line_turn s line ends memory).calls es (owner line) → AllAllowed s line es × EndsAtFailure es
@@ -47,7 +47,7 @@ unfolding step
 line_confined s (w.app a x1) ends memory es h = by_row s a (w.app a x1) _ _ _ es h tt
 line_confined s (w.vsic a x1 x2) ends memory es h = by_row s a (w.vsic a x1 x2) _ _ _ es h tt
 line_confined s (w.vnic a x1 x2 x3) ends memory es h = by_row s a (w.vnic a x1 x2 x3) _ _ _ es h tt
-line_confined s (w.vsa a l n k) ends memory es h = by_row s a (w.vsa a l n k) _ _ _ es h (grants s a (w.vsa a l n k) n (new_in (slots_for s.plane a (w.vsa a l n k)) (granted s.plane (w.vsa a l n k))) (slot_in (slots_for s.plane a (w.vsa a l n k)) (granted s.plane (w.vsa a l n k))) refl)
+line_confined s (w.vsa a l n k) ends memory es h = by_row s a (w.vsa a l n k) _ _ _ es h (grants s a (w.vsa a l n k) n (new_in (slots_for s.plane a (w.vsa a l n k)) (asked_blocks s.plane (w.vsa a l n k))) (slot_in (slots_for s.plane a (w.vsa a l n k)) (asked_blocks s.plane (w.vsa a l n k))) refl)
 line_confined s (w.grow a l n) ends memory es h = grow_confined s a l n (recorded s.plane (w.grow a l n) ends memory) es h (raw_at (machine_of s a) l) refl
 line_confined s (w.bind a x1 x2) ends memory es h = by_row s a (w.bind a x1 x2) _ _ _ es h tt
 line_confined s (w.unbind a x1 x2) ends memory es h = by_row s a (w.unbind a x1 x2) _ _ _ es h tt
@@ -135,7 +135,7 @@ each_confined s (m ∷ ms) (p ∷ ps) k h = (
   each_confined (turn_for s m p).after ms ps (rates_kept s m p k) h.1,
 )
 
-each_count : (s : System) (ms : List Meaning) (ps : List (List Event)) → EachAnswers s ms ps → length ms ≡ length ps
+pub each_count : (s : System) (ms : List Meaning) (ps : List (List Event)) → EachAnswers s ms ps → length ms ≡ length ps
 each_count s [] [] h = refl
 each_count s [] (p ∷ ps) h = absurd h
 each_count s (m ∷ ms) [] h = absurd h
@@ -147,7 +147,7 @@ begins_confined s (line ∷ lines) es k (inl none) = inl none
 begins_confined s (line ∷ lines) es k (inr b) =
     inr (b.0, b.1, confined_front s b.0 es b.2.more (performs_confined s b.0 (ends_of (es ++ b.2.more)) false (es ++ b.2.more) k b.2.calls))
 
-run_paced : (s : System) (ms : List Meaning) (ps : List (List Event)) → StandsPaced s → StandsPaced (system_after s ms ps)
+pub run_paced : (s : System) (ms : List Meaning) (ps : List (List Event)) → StandsPaced s → StandsPaced (system_after s ms ps)
 run_paced s [] ps k = k
 run_paced s (m ∷ ms) [] k = k
 run_paced s (m ∷ ms) (p ∷ ps) k = run_paced (turn_for s m p).after ms ps (rates_kept s m p k)

@@ -15,7 +15,7 @@ use Rattle.ark_machine.specs.Machine.{Machine, object_at, raw_at, vsic_at, vnic_
 use Rattle.ark_machine.specs.Bytes.{block_of}
 use Rattle.ark_machine.specs.Row.{Row, Given, Ended, Call, syncs, reads, writes, reads_in, writes_in, settled, synced, answer, unless_refused}
 use Rattle.ark_machine.specs.Rates.{is_over_burst, may_pass, passed}
-use Rattle.ark_machine.specs.Moves.{Move, moves, moved, ended, ending, ends, outcome_of, tried, gated, is_granted, transferred, transfer_call, raw_numbered, log_on, phase_written, phase_moves, phase_moves_on, first_end, row_of}
+use Rattle.ark_machine.specs.Moves.{Move, moves, moved, ended, ending, ends, outcome_of, tried, gated, is_bound, transferred, transfer_call, raw_numbered, log_on, phase_written, phase_moves, phase_moves_on, first_end, row_of}
 use Rattle.ark_machine.specs.Network.{is_let_out, bytes_in, tx_ended, tx_passed, frame_moves, tx_moves}
 use Rattle.ark_machine.specs.Devices.{card_moves}
 use Rattle.ark_machine.specs.Plane.{recorded}
@@ -107,7 +107,7 @@ moved_settles m v l x (flush ∷ js) e y is c h = ended_settles m v l x flush js
 moved_settles m v l x (transfer t ∷ js) e y is c h =
     let k : Machine = transferred m t x.queue.moved e (raw_numbered m t.vsa) in
     let call : Call = transfer_call m t x.queue.moved in
-    absurd (transfer_no_sync m t x.queue.moved (sym (tried_calls m.now e.ok t.count k v x (transfer t) js call) ∙ gated_syncs m v x (transfer t) js (is_granted m x t.vsa) (tried m.now e.ok t.count k v x (transfer t) js (call ∷ [])) c))
+    absurd (transfer_no_sync m t x.queue.moved (sym (tried_calls m.now e.ok t.count k v x (transfer t) js call) ∙ gated_syncs m v x (transfer t) js (is_bound m x t.vsa) (tried m.now e.ok t.count k v x (transfer t) js (call ∷ [])) c))
 moved_settles m v l x (phase p ∷ js) e y is c h = by (log_on m v) c h
   where
     by : (o : Option (List ℕ)) → Syncs (phase_moves_on o m v x p js e) → (phase_moves_on o m v x p js e).said ≡ said.Done outcome.Ok → IsSettled (phase_moves_on o m v x p js e).machine l y

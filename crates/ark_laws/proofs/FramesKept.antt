@@ -1,5 +1,5 @@
--- Every line keeps the frames that are posted to transmit whole in their buffers.
-use Rattle.std.proofs.Common.{◌≡◌, ◌≤◌, ◌⊎◌, inl, inr, ℕ, zero, suc, ◌+◌, Bool, true, false, ◌&&◌, ◌||◌, List, [], ◌∷◌, ◌++◌, length, take, refl, sym, ◌∙◌, ap, subst, arith, cond}
+-- Every line keeps the frames that are posted to transmit whole in their buffers, and no label stands twice after it.
+use Rattle.std.proofs.Common.{◌≡◌, ◌≤◌, ◌⊎◌, inl, inr, ℕ, zero, suc, Bool, true, false, ◌&&◌, ◌||◌, List, [], ◌∷◌, ◌++◌, length, take, refl, sym, ◌∙◌, ap, subst, arith, cond}
 use Rattle.std.proofs.lemmas.Bool.{false≢true}
 use Rattle.std.proofs.lemmas.Bool.Decides.{nat_tests}
 use Rattle.std.proofs.lemmas.List.Elements.{Contains-append_cases}
@@ -28,7 +28,7 @@ use Rattle.ark_script.specs.declared.step.Side.TheVariants as side
 use Rattle.ark_machine.specs.Bytes.{padded}
 use Rattle.ark_machine.specs.Objects
 use Rattle.ark_machine.specs.Objects.{Object, Vnic, Place, Paced, Job, Datagram, as_filter, is_buffer}
-use Rattle.ark_machine.specs.Machine.{Machine, Held, unmade, object_at, door_at, filter_at, serial_at, bytes_at, is_so, with_object, each_object, without, with_vnic, with_log, room_for}
+use Rattle.ark_machine.specs.Machine.{Machine, Held, unmade, at, object_at, vnic_at, door_at, filter_at, serial_at, bytes_at, is_so, with_object, each_object, without, with_vnic, with_log, room_for}
 use Rattle.ark_machine.specs.Row.{Row, Given, Ended, synced_by, has_fault, is_sync, answer, unless_refused}
 use Rattle.ark_machine.specs.Control.{lets_go}
 use Rattle.ark_machine.specs.Areas.{new_area, grown, raw_written, block_written}
@@ -43,30 +43,46 @@ use Rattle.ark_machine.specs.System.{System, fresh_system, listed_machine, machi
 use Rattle.ark_machine.specs.Private.{Play, Input, asks, comes, passes, inputs_of, private_machine}
 use Rattle.ark_machine.specs.Start.{view, stored_area, with_slot, with_stored, all_stored, start_system}
 use Rattle.ark_machine.specs.Frames.{IsThere, FramesThere}
+use Rattle.ark_machine.specs.Labels.{AreLabelled}
 use Rattle.ark_machine.proofs.Grants.{or_false, clash}
+use Rattle.ark_laws.proofs.Labelled.{none_held, set_none, without_once}
 use Rattle.ark_laws.proofs.Listed.{same_bytes, bytes_eq-same}
 use Rattle.ark_laws.proofs.Privacy.{machine_private}
 use Rattle.ark_laws.proofs.Granted.{when_none, when_some_none, kind_and_limit}
-use Rattle.ark_laws.proofs.Growing.{size_in, frames_in, Grows, grown_there, same_grows, then_grows, cond_grows, plain_grows, door_is, vsic_grows, log_grows, raw_grows, socket_grows, vnic_grows, each_grows, synced_grows, new_grows, without_grows, without_at}
+use Rattle.ark_laws.proofs.Growing.{size_in, frames_in, Grows, grown_there, same_grows, then_grows, cond_grows, plain_grows, door_is, vsic_grows, log_grows, raw_grows, socket_grows, vnic_grows, each_grows, synced_grows, new_there, new_grows, without_grows, without_at}
 use Rattle.ark_laws.proofs.FramesThere.{bytes_grow, opened_grows, polled_grows, settles_grow, card_grows, arrive_grows}
 
 -- Rows.
 
-answer_there : (m : Machine) (c : Conditions) (row : Row) → FramesThere m → (early c ≡ None → FramesThere row.machine) → FramesThere (answer m c row).machine
-unfolding answer
-answer_there m c row h there = by (early c) (late c) refl
-  where
-    by : (one two : Option Refusal) → early c ≡ one → FramesThere (unless_refused one two m row).machine
-    by (Some x) two is = h
-    by None (Some x) is = there is
-    by None None is = there is
+-- what a change of a machine keeps
+record Keeps (m n : Machine) : Type 0 where
+  pub frames : FramesThere m → FramesThere n
+  pub labels : AreLabelled m → AreLabelled n
 
-grown_row : (m : Machine) (c : Conditions) (row : Row) → FramesThere m → Grows m row.machine → FramesThere (answer m c row).machine
-grown_row m c row h g = answer_there m c row h (λ is. grown_there g h)
+kept_same : (m : Machine) → Keeps m m
+kept_same m = record { frames = λ h. h; labels = λ h. h }
+
+grown_keeps : {m n : Machine} → Grows m n → Keeps m n
+grown_keeps g = record { frames = grown_there g; labels = g.labels }
+
+then_keeps : {m n k : Machine} → Keeps m n → Keeps n k → Keeps m k
+then_keeps f g = record { frames = λ h. g.frames (f.frames h); labels = λ h. g.labels (f.labels h) }
+
+answer_keeps : (m : Machine) (c : Conditions) (row : Row) → (early c ≡ None → Keeps m row.machine) → Keeps m (answer m c row).machine
+unfolding answer
+answer_keeps m c row keeps = by (early c) (late c) refl
+  where
+    by : (one two : Option Refusal) → early c ≡ one → Keeps m (unless_refused one two m row).machine
+    by (Some x) two is = kept_same m
+    by None (Some x) is = keeps is
+    by None None is = keeps is
+
+grown_row : (m : Machine) (c : Conditions) (row : Row) → Grows m row.machine → Keeps m (answer m c row).machine
+grown_row m c row g = answer_keeps m c row (λ is. grown_keeps g)
 
 -- the conditions that come before none
-range_and_lent : (c : Conditions) → early c ≡ None → (c.out_of_range ≡ false) × (c.lent ≡ false)
-range_and_lent c h =
+named_range_and_lent : (c : Conditions) → early c ≡ None → (c.name_taken ≡ false) × (c.out_of_range ≡ false) × (c.lent ≡ false)
+named_range_and_lent c h =
     let a = when_none c.too_long r.TooLong _ h in
     let b = when_none c.unknown_word r.UnknownWord _ a.1 in
     let d = when_none c.syntax_fault r.Syntax _ b.1 in
@@ -80,11 +96,15 @@ range_and_lent c h =
     let n = when_none c.table_failed r.TableFailed _ l.1 in
     let o = when_none c.log_failed r.LogFailed _ n.1 in
     let p = when_none c.busy r.Busy _ o.1 in
-    (l.0, (when_none c.lent r.Lent _ p.1).0)
+    (f.0, l.0, (when_none c.lent r.Lent _ p.1).0)
 
 -- by what was asked of the kind, the range and the buffers
-asked_row : (m : Machine) (c : Conditions) (row : Row) → FramesThere m → (c.wrong_kind ≡ false → c.out_of_range ≡ false → c.lent ≡ false → FramesThere row.machine) → FramesThere (answer m c row).machine
-asked_row m c row h there = answer_there m c row h (λ is. there (kind_and_limit c is).0 (range_and_lent c is).0 (range_and_lent c is).1)
+asked_row : (m : Machine) (c : Conditions) (row : Row) → (c.wrong_kind ≡ false → c.out_of_range ≡ false → c.lent ≡ false → Keeps m row.machine) → Keeps m (answer m c row).machine
+asked_row m c row keeps = answer_keeps m c row (λ is. let p = named_range_and_lent c is in keeps (kind_and_limit c is).0 p.1 p.2)
+
+-- by what was asked of the name
+named_row : (m : Machine) (c : Conditions) (row : Row) → (c.name_taken ≡ false → Grows m row.machine) → Keeps m (answer m c row).machine
+named_row m c row grows = answer_keeps m c row (λ is. grown_keeps (grows (named_range_and_lent c is).0))
 
 area_frames : (k : Kind) (n : ℕ) → frames_in (Some (new_area k n)) ≡ []
 area_frames kind.Raw n = refl
@@ -150,9 +170,9 @@ drop_grows : (m : Machine) (x : List ℕ) (ends : List Ended) → is_so is_buffe
 drop_grows m x ends other =
     synced_after ends (then_grows (without_grows m x (no_bytes (object_at m x) other)) (each_grows (without m x) (lets_go x (serial_at m x)) (lets_go_size x (serial_at m x)) (lets_go_frames x (serial_at m x))))
 
-buffer_new_grows : (m : Machine) (b : List ℕ) (len : ℕ) (o : Option ℕ) → Grows m (with_new_buffer m b len o)
-buffer_new_grows m b len None = same_grows m
-buffer_new_grows m b len (Some start) = new_grows m b _ refl
+buffer_new_grows : (m : Machine) (b : List ℕ) (len : ℕ) (o : Option ℕ) → at m b ≡ None → Grows m (with_new_buffer m b len o)
+buffer_new_grows m b len None free = same_grows m
+buffer_new_grows m b len (Some start) free = new_grows m b _ refl free
 
 block_grows : (m : Machine) (s : List ℕ) (off : ℕ) (block : List ℕ) (es : List Ended) → Grows m (block_written m s off block es)
 block_grows m s off block [] = same_grows m
@@ -254,6 +274,21 @@ socketed_grows m v (Some ss) = vnic_grows m v _ (λ x e q has. inl has)
 socket_card_grows : (m : Machine) (v : List ℕ) → Grows m (with_socket_card m v)
 socket_card_grows m v = cond_grows (is_socketed m v) (same_grows m) (socketed_grows m v (card_places m v))
 
+vnic_none : (m : Machine) (v : List ℕ) (f : Vnic → Vnic) (k : List ℕ) → at m k ≡ None → at (with_vnic m v f) k ≡ None
+vnic_none m v f k none = by (vnic_at m v)
+  where
+    by : (o : Option Vnic) → at (unwrap_or (option_map (λ x. with_object m v (Objects.vnic (f x))) o) m) k ≡ None
+    by None = none
+    by (Some x) = set_none v (Objects.vnic (f x)) k m.held none
+
+socket_card_none : (m : Machine) (v k : List ℕ) → at m k ≡ None → at (with_socket_card m v) k ≡ None
+socket_card_none m v k none = by (is_socketed m v) (card_places m v)
+  where
+    by : (t : Bool) (o : Option (List ℕ)) → at (cond t m (socketed_at m v o)) k ≡ None
+    by true o = none
+    by false None = none
+    by false (Some ss) = vnic_none m v _ k none
+
 delivered_size : (v : List ℕ) (d : udp.Datagram) (o : Object) → size_in (Some (delivered v d o)) ≡ size_in (Some o)
 delivered_size v d (Objects.socket k) = elim (has_port v d.to_port (Objects.socket k) && nat_lt (length k.datagrams) max_datagrams) as (λ t. size_in (Some (cond t (Objects.socket (record k { datagrams = k.datagrams ++ (record { ip = d.from; port = d.from_port; payload = d.payload }) ∷ [] })) (Objects.socket k))) ≡ 0) [ true ↦ refl | false ↦ refl ]
 delivered_size v d (Objects.buffer b) = refl
@@ -295,72 +330,78 @@ opened_machine_grows m s v g =
     (synced_after g.ended (then_grows (log_grows m s (opening v (room_for m 1))) (vsic_grows (with_log m s (opening v (room_for m 1))) v _))))
 
 -- the row of every line
-row_there : (m : Machine) (line : Line) (g : Given) → FramesThere m → FramesThere (step m line g).machine
+row_keeps : (m : Machine) (line : Line) (g : Given) → Keeps m (step m line g).machine
 unfolding step
-row_there m (w.app a x1) g h = answer_there m _ _ h (λ is. h)
-row_there m (w.vsic a x1 x2) g h = grown_row m _ _ h (new_grows m x1 _ refl)
-row_there m (w.vnic a x1 x2 x3) g h = grown_row m _ _ h (new_grows m x1 _ refl)
-row_there m (w.vsa a x1 x2 x3) g h = grown_row m _ _ h (synced_after g.ended (cond_grows (has_fault g.ended) (same_grows m) (new_grows m x1 (new_area x3 x2) (area_frames x3 x2))))
-row_there m (w.grow a x1 x2) g h = grown_row m _ _ h (synced_after g.ended (cond_grows (has_fault g.ended) (same_grows m) (raw_grows m x1 (grown x2))))
-row_there m (w.bind a x1 x2) g h = grown_row m _ _ h (vsic_grows m x1 _)
-row_there m (w.unbind a x1 x2) g h = grown_row m _ _ h (vsic_grows m x1 _)
-row_there m (w.filter a x1 x2) g h = grown_row m _ _ h (new_grows m x1 _ refl)
-row_there m (w.assign a x1 x2) g h = grown_row m _ _ h (assigned_grows m x1 x2)
-row_there m (w.rate a x1 x2 x3) g h = grown_row m _ _ h (new_grows m x1 _ refl)
-row_there m (w.pace a x1 x2 x3) g h = grown_row m _ _ h (pace_grows m x1 x3 (pace_of m x2))
-row_there m (w.door a x1) g h = grown_row m _ _ h (new_grows m x1 _ refl)
-row_there m (w.watch a x1 x2 x3) g h = grown_row m _ _ h (door_side_grows m x1 x3 x2)
-row_there m (w.drop a x) g h = asked_row m _ _ h (λ kind range lent. grown_there (drop_grows m x g.ended kind) h)
-row_there m (w.buf a x1 x2) g h = grown_row m _ _ h (buffer_new_grows m x1 x2 _)
-row_there m (w.fill a x1 x2 x3) g h = grown_row m _ _ h (bytes_grow m x1 x2 x3)
-row_there m (w.show a x1 x2 x3) g h = answer_there m _ _ h (λ is. h)
-row_there m (w.copy a x1 x2 x3) g h = grown_row m _ _ h (bytes_grow m x2 0 (take x3 (bytes_at m x1)))
-row_there m (w.free a x1) g h = asked_row m _ _ h (λ kind range lent. free_there m x1 lent h)
-row_there m (w.peek a x1 x2) g h = answer_there m _ _ h (λ is. h)
-row_there m (w.poke a x1 x2 x3) g h = grown_row m _ _ h (block_grows m x1 x2 (padded x3) g.ended)
-row_there m (w.get a x1 x2 x3 x4 x5) g h = grown_row m _ _ h (vsic_grows m x1 _)
-row_there m (w.put a x1 x2 x3 x4 x5) g h = grown_row m _ _ h (vsic_grows m x1 _)
-row_there m (w.flush a x1) g h = grown_row m _ _ h (vsic_grows m x1 _)
-row_there m (w.reap a x1) g h = grown_row m _ _ h (reap_grows m x1 (unreaped_at m x1))
-row_there m (w.post a x1 x2) g h = grown_row m _ _ h (vnic_grows m x1 (posting_rx (Objects.named x2)) (λ x e q has. inl has))
-row_there m (w.send a x1 x2 x3) g h = asked_row m _ _ h (λ kind range lent. grown_there (send_grows m x1 x2 x3 range) h)
-row_there m (w.take a x1 x2) g h = grown_row m _ _ h (oldest_grows x2 m x1)
-row_there m (w.sock a x1 x2 x3) g h = grown_row m _ _ h (then_grows (socket_card_grows m x2) (new_grows (with_socket_card m x2) x1 _ refl))
-row_there m (w.sendto a k ip port payload) g h =
+row_keeps m (w.app a x1) g = answer_keeps m _ _ (λ is. record { frames = λ h. h; labels = λ h. h })
+row_keeps m (w.vsic a x1 x2) g = named_row m _ _ (λ name. new_grows m x1 _ refl (none_held (at m x1) name))
+row_keeps m (w.vnic a x1 x2 x3) g = named_row m _ _ (λ name. new_grows m x1 _ refl (none_held (at m x1) name))
+row_keeps m (w.vsa a x1 x2 x3) g = named_row m _ _ (λ name. synced_after g.ended (cond_grows (has_fault g.ended) (same_grows m) (new_grows m x1 (new_area x3 x2) (area_frames x3 x2) (none_held (at m x1) name))))
+row_keeps m (w.grow a x1 x2) g = grown_row m _ _ (synced_after g.ended (cond_grows (has_fault g.ended) (same_grows m) (raw_grows m x1 (grown x2))))
+row_keeps m (w.bind a x1 x2) g = grown_row m _ _ (vsic_grows m x1 _)
+row_keeps m (w.unbind a x1 x2) g = grown_row m _ _ (vsic_grows m x1 _)
+row_keeps m (w.filter a x1 x2) g = named_row m _ _ (λ name. new_grows m x1 _ refl (none_held (at m x1) name))
+row_keeps m (w.assign a x1 x2) g = grown_row m _ _ (assigned_grows m x1 x2)
+row_keeps m (w.rate a x1 x2 x3) g = named_row m _ _ (λ name. new_grows m x1 _ refl (none_held (at m x1) name))
+row_keeps m (w.pace a x1 x2 x3) g = grown_row m _ _ (pace_grows m x1 x3 (pace_of m x2))
+row_keeps m (w.door a x1) g = named_row m _ _ (λ name. new_grows m x1 _ refl (none_held (at m x1) name))
+row_keeps m (w.watch a x1 x2 x3) g = grown_row m _ _ (door_side_grows m x1 x3 x2)
+row_keeps m (w.drop a x) g = asked_row m _ _ (λ kind range lent. grown_keeps (drop_grows m x g.ended kind))
+row_keeps m (w.buf a x1 x2) g = named_row m _ _ (λ name. buffer_new_grows m x1 x2 _ (none_held (at m x1) name))
+row_keeps m (w.fill a x1 x2 x3) g = grown_row m _ _ (bytes_grow m x1 x2 x3)
+row_keeps m (w.show a x1 x2 x3) g = answer_keeps m _ _ (λ is. kept_same m)
+row_keeps m (w.copy a x1 x2 x3) g = grown_row m _ _ (bytes_grow m x2 0 (take x3 (bytes_at m x1)))
+row_keeps m (w.free a x1) g = asked_row m _ _ (λ kind range lent. record { frames = free_there m x1 lent; labels = λ once. without_once x1 m.held once })
+row_keeps m (w.peek a x1 x2) g = answer_keeps m _ _ (λ is. kept_same m)
+row_keeps m (w.poke a x1 x2 x3) g = grown_row m _ _ (block_grows m x1 x2 (padded x3) g.ended)
+row_keeps m (w.get a x1 x2 x3 x4 x5) g = grown_row m _ _ (vsic_grows m x1 _)
+row_keeps m (w.put a x1 x2 x3 x4 x5) g = grown_row m _ _ (vsic_grows m x1 _)
+row_keeps m (w.flush a x1) g = grown_row m _ _ (vsic_grows m x1 _)
+row_keeps m (w.reap a x1) g = grown_row m _ _ (reap_grows m x1 (unreaped_at m x1))
+row_keeps m (w.post a x1 x2) g = grown_row m _ _ (vnic_grows m x1 (posting_rx (Objects.named x2)) (λ x e q has. inl has))
+row_keeps m (w.send a x1 x2 x3) g = asked_row m _ _ (λ kind range lent. grown_keeps (send_grows m x1 x2 x3 range))
+row_keeps m (w.take a x1 x2) g = grown_row m _ _ (oldest_grows x2 m x1)
+row_keeps m (w.sock a x1 x2 x3) g = named_row m _ _ (λ name. then_grows (socket_card_grows m x2) (new_grows (with_socket_card m x2) x1 _ refl (socket_card_none m x2 x1 (none_held (at m x1) name))))
+row_keeps m (w.sendto a k ip port payload) g =
     let n : Machine = sent_reaped m k in
-    let there : FramesThere n = grown_there (vnic_grows m (card_at m k) tx_reaped (λ x e q has. inl has)) h in
-    answer_there m _ _ h (λ is. grown_row n _ _ there (posted_grows n (card_at n k) (framed n k g.own ip port payload) (room_for n (frame_frames payload))))
-row_there m (w.recv a x1) g h =
+    answer_keeps m _ _ (λ is. then_keeps (grown_keeps (vnic_grows m (card_at m k) tx_reaped (λ x e q has. inl has)))
+    (grown_row n _ _ (posted_grows n (card_at n k) (framed n k g.own ip port payload) (room_for n (frame_frames payload)))))
+row_keeps m (w.recv a x1) g =
     let k : Machine = pulled m (card_at m x1) g.own in
-    grown_row m _ _ h (then_grows (pulled_grows m (card_at m x1) g.own) (give_grows k x1 (datagrams_at k x1)))
-row_there m (w.look a x1) g h = asked_row m _ _ h (λ kind range lent. grown_there (look_grows m x1 kind) h)
-row_there m (w.log a x1 x2) g h = grown_row m _ _ h (opened_machine_grows m x1 x2 g)
-row_there m (w.queue a x1 x2) g h = grown_row m _ _ h (opened_machine_grows m x1 x2 g)
-row_there m (w.append a x1 x2) g h = grown_row m _ _ h (opened_grows m x1 _)
-row_there m (w.push a x1 x2) g h = grown_row m _ _ h (opened_grows m x1 _)
-row_there m (w.trim a x1 x2) g h = grown_row m _ _ h (opened_grows m x1 _)
-row_there m (w.pop a x1) g h = grown_row m _ _ h (opened_grows m x1 _)
-row_there m (w.walk a x1 x2) g h = answer_there m _ _ h (λ is. h)
-row_there m (w.poll a x1) g h = grown_row m _ _ h (polled_grows m x1)
-row_there m (w.settle a x1) g h = grown_row m _ _ h (settles_grow m g.ended x1)
-row_there m (w.close a x1) g h = grown_row m _ _ h (then_grows (log_grows m x1 closing) (vsic_grows (with_log m x1 closing) (card_of m x1) _))
-row_there m (w.dev a x1) g h = grown_row m _ _ h (card_grows m x1 g)
-row_there m (w.nic own) g h = h
-row_there m (w.wire frame) g h = h
-row_there m (w.tick n) g h = h
+    grown_row m _ _ (then_grows (pulled_grows m (card_at m x1) g.own) (give_grows k x1 (datagrams_at k x1)))
+row_keeps m (w.look a x1) g = asked_row m _ _ (λ kind range lent. grown_keeps (look_grows m x1 kind))
+row_keeps m (w.log a x1 x2) g = grown_row m _ _ (opened_machine_grows m x1 x2 g)
+row_keeps m (w.queue a x1 x2) g = grown_row m _ _ (opened_machine_grows m x1 x2 g)
+row_keeps m (w.append a x1 x2) g = grown_row m _ _ (opened_grows m x1 _)
+row_keeps m (w.push a x1 x2) g = grown_row m _ _ (opened_grows m x1 _)
+row_keeps m (w.trim a x1 x2) g = grown_row m _ _ (opened_grows m x1 _)
+row_keeps m (w.pop a x1) g = grown_row m _ _ (opened_grows m x1 _)
+row_keeps m (w.walk a x1 x2) g = answer_keeps m _ _ (λ is. kept_same m)
+row_keeps m (w.poll a x1) g = grown_row m _ _ (polled_grows m x1)
+row_keeps m (w.settle a x1) g = grown_row m _ _ (settles_grow m g.ended x1)
+row_keeps m (w.close a x1) g = grown_row m _ _ (then_grows (log_grows m x1 closing) (vsic_grows (with_log m x1 closing) (card_of m x1) _))
+row_keeps m (w.dev a x1) g = grown_row m _ _ (card_grows m x1 g)
+row_keeps m (w.nic own) g = kept_same m
+row_keeps m (w.wire frame) g = kept_same m
+row_keeps m (w.tick n) g = kept_same m
 
 -- Systems.
 
-inputs_there : (a : List ℕ) (m : Machine) (is : List Input) → FramesThere m → FramesThere (private_machine a m is)
-inputs_there a m [] h = h
-inputs_there a m (asks line g ∷ is) h = inputs_there a (step m line g).machine is (row_there m line g h)
-inputs_there a m (comes v frame ∷ is) h = inputs_there a (arrive a m v frame).machine is (grown_there (arrive_grows a m v frame) h)
-inputs_there a m (passes n ∷ is) h = inputs_there a (ticked n m) is h
+inputs_keep : (a : List ℕ) (m : Machine) (is : List Input) → Keeps m (private_machine a m is)
+inputs_keep a m [] = kept_same m
+inputs_keep a m (asks line g ∷ is) = then_keeps (row_keeps m line g) (inputs_keep a (step m line g).machine is)
+inputs_keep a m (comes v frame ∷ is) = then_keeps (grown_keeps (arrive_grows a m v frame)) (inputs_keep a (arrive a m v frame).machine is)
+inputs_keep a m (passes n ∷ is) = let later : Keeps (ticked n m) (private_machine a (ticked n m) is) = inputs_keep a (ticked n m) is in record { frames = λ h. later.frames h; labels = λ h. later.labels h }
+
+line_keeps : (s : System) (line : Line) (ends : List Ended) (memory : Bool) (a : List ℕ) → Keeps (machine_of s a) (machine_of (line_turn s line ends memory).after a)
+line_keeps s line ends memory a =
+    let x : Play = record { line = line; ends = ends; memory = memory } in
+    subst (λ m. Keeps (machine_of s a) m) (sym (machine_private a s (x ∷ []))) (inputs_keep a (machine_of s a) (inputs_of a s (x ∷ [])))
 
 pub line_there : (s : System) (line : Line) (ends : List Ended) (memory : Bool) (a : List ℕ) → FramesThere (machine_of s a) → FramesThere (machine_of (line_turn s line ends memory).after a)
-line_there s line ends memory a h =
-    let x : Play = record { line = line; ends = ends; memory = memory } in
-    subst (λ m. FramesThere m) (sym (machine_private a s (x ∷ []))) (inputs_there a (machine_of s a) (inputs_of a s (x ∷ [])) h)
+line_there s line ends memory a h = (line_keeps s line ends memory a).frames h
+
+pub line_labelled : (s : System) (line : Line) (ends : List Ended) (memory : Bool) (a : List ℕ) → AreLabelled (machine_of s a) → AreLabelled (machine_of (line_turn s line ends memory).after a)
+line_labelled s line ends memory a h = (line_keeps s line ends memory a).labels h
 
 -- at the start of a run
 pub fresh_there : (size : ℕ) (a : List ℕ) → FramesThere (machine_of (fresh_system size) a)
@@ -375,7 +416,7 @@ stored_frames kind.Log blocks = refl
 stored_frames kind.Queue blocks = refl
 
 slot_there : (image : List (List ℕ)) (m : Machine) (t : Slot) → FramesThere m → FramesThere (with_slot image m t)
-slot_there image m t h = grown_there (new_grows m t.label (stored_area t.kind (view image t.blocks)) (stored_frames t.kind (view image t.blocks))) h
+slot_there image m t h = new_there m t.label (stored_area t.kind (view image t.blocks)) (stored_frames t.kind (view image t.blocks)) h
 
 unmade_there : FramesThere unmade
 unmade_there v p has = absurd (omega (arith, has.1))

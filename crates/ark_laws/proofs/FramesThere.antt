@@ -1,6 +1,6 @@
 -- The frames that are posted to transmit stay whole in their buffers, whatever comes to the machine.
 use Rattle.std.proofs.Common.{◌≡◌, ◌⊎◌, inl, ℕ, suc, ◌+◌, ◌*◌, Bool, true, false, not, ◌&&◌, List, [], ◌∷◌, length, refl, sym, ◌∙◌, subst, arith, cond}
-use Rattle.std.specs.Prelude.{Option, Some, None, option_map, unwrap_or, nat_lt, slice_index_or, Contains, Ok}
+use Rattle.std.specs.Prelude.{Option, Some, None, option_map, unwrap_or, nat_lt, slice_index_or, Contains}
 use Rattle.ark_base.specs.declared.kind.Outcome.{Outcome}
 use Rattle.ark_base.specs.declared.kind.Outcome.TheVariants as outcome
 use Rattle.ark_packet.specs.declared.own.Own.{Own}
@@ -16,7 +16,7 @@ use Rattle.ark_machine.specs.Areas.{raw_written}
 use Rattle.ark_machine.specs.Buffers.{with_bytes}
 use Rattle.ark_machine.specs.Rates.{is_over_burst, may_pass, passed}
 use Rattle.ark_machine.specs.Cards.{posting}
-use Rattle.ark_machine.specs.Moves.{Move, moves, ending, ended, ends, outcome_of, block_passed, block_moved, tried, gated, is_granted, transferred, transfer_call, raw_numbered, log_on, deciding_tried, phase_written, phase_moves, phase_moves_on, moved, move, log_moved, first_end}
+use Rattle.ark_machine.specs.Moves.{Move, moves, ending, ended, ends, outcome_of, block_passed, block_moved, tried, gated, is_bound, transferred, transfer_call, raw_numbered, log_on, deciding_tried, phase_written, phase_moves, phase_moves_on, moved, move, log_moved, first_end}
 use Rattle.ark_machine.specs.Logs.{with_opened, card_of}
 use Rattle.ark_machine.specs.Polls.{Polled, acknowledging, next_phase, phases_left, emptied, failing, one_done, phase_ended, poll_card, unreaped_on, posted_on, poll_oldest, poll_opened, poll_log, polled, is_held, settle_move, Next, stops, calls_on, by_calls, due_move, next_of, next_call, settling}
 use Rattle.ark_machine.specs.Network.{bytes_in, is_let_out, tx_ending, tx_ended, tx_passed, frame_moves, tx_moves, with_frame, filled, rx_ending, rx_passed, received, arrival, arrive}
@@ -144,7 +144,7 @@ moved_grows m v x (flush ∷ js) e = then_grows (synced_grows e.ok m) (ended_gro
 moved_grows m v x (transfer t ∷ js) e =
     let after : Machine = transferred m t x.queue.moved e (raw_numbered m t.vsa) in
     let calls : List Call = transfer_call m t x.queue.moved ∷ [] in
-    gated_grows m v x (transfer t) js (is_granted m x t.vsa) (tried m.now e.ok t.count after v x (transfer t) js calls)
+    gated_grows m v x (transfer t) js (is_bound m x t.vsa) (tried m.now e.ok t.count after v x (transfer t) js calls)
     (tried_grows m m.now e.ok t.count after v x (transfer t) js calls (transferred_grows m t x.queue.moved e (raw_numbered m t.vsa)))
 moved_grows m v x (phase p ∷ js) e = phase_on_grows (log_on m v) m v x p js e
 

@@ -1,5 +1,5 @@
 -- A frame that a reply shows is let out or in, within the rate of its card's queue.
-use Rattle.std.proofs.Common.{◌≡◌, ◌≤◌, ℕ, Bool, true, false, ◌&&◌, List, [], ◌∷◌, length, refl, sym, ◌∙◌, ap, subst, arith, cond}
+use Rattle.std.proofs.Common.{◌≡◌, ◌≤◌, ℕ, Bool, true, false, ◌&&◌, List, [], ◌∷◌, ◌++◌, length, refl, sym, ◌∙◌, ap, subst, arith, cond}
 use Rattle.std.proofs.lemmas.Bool.{and_parts, false≢true}
 use Rattle.std.specs.Prelude.{Option, Some, None, is_some, option_and_then, find, unwrap_or, Ok, Err}
 use Rattle.ark_base.specs.declared.refusal.Refusal.TheVariants as r
@@ -22,14 +22,14 @@ use Rattle.ark_machine.specs.System.{System, machine_of, owner, takes, quiet_tur
 use Rattle.ark_machine.specs.Built.{turn, is_built, so_far}
 use Rattle.ark_machine.specs.Follow.{ends_of}
 use Rattle.ark_machine.specs.Replies.{turn_for, has_lacked, Answers}
-use Rattle.ark_machine.specs.Sending.{KeepsWith, tx_pace_at, rx_pace_at, FrameWithin, IsLetOut, IsPacedOut, SendsWithin, IsLetIn, IsDelivered, DeliversWithin}
+use Rattle.ark_machine.specs.Sending.{KeepsWith, tx_pace_at, rx_pace_at, FrameWithin, IsLetOut, IsPacedOut, SendsWithin, SendsFront, IsLetIn, IsDelivered, DeliversWithin, DeliversFront}
 use Rattle.ark_machine.specs.Frames.{IsCounted}
 use Rattle.ark_machine.specs.Paced.{IsPacedAt, MachinePacedAt, StandsPaced}
 use Rattle.ark_laws.proofs.Paced.{VnicPaced, vnic_at_paced}
 use Rattle.ark_laws.proofs.Rows.{row_is, within_of, arrive_is}
 use Rattle.ark_laws.proofs.Letting.{sent_counted, sends_by_card}
 use Rattle.ark_laws.proofs.Sent.{machine_paced, line_sends, line_paced}
-use Rattle.ark_laws.proofs.Texts.{text_sent, text_delivered}
+use Rattle.ark_laws.proofs.Texts.{sent_letter, text_sent, delivered_letters, text_delivered}
 
 -- Frames that go out.
 
@@ -159,3 +159,21 @@ delivered_of s m x bytes output lets is a v h =
 pub delivers_within : (s : System) (m : Meaning) (part : List Event) → StandsPaced s → Answers s m part → DeliversWithin s m (output_of part)
 delivers_within s m part paced h =
     delivered_of s m (turn_for s m part).said (turn_for s m part).bytes (output_of part) (turn_delivers s m (ends_of (device_events part)) (has_lacked part) paced) h.output
+
+-- A reply's line of which the first bytes came out.
+
+sent_front : (s : System) (m : Meaning) (x : Said) (bytes output more : List ℕ) → (x ≡ said.Sent → IsLetOut s m bytes × IsPacedOut s m bytes) → text x bytes ≡ output ++ more → SendsFront s m output
+sent_front s m x bytes output more lets is rest begins =
+    let sent : x ≡ said.Sent = sent_letter x bytes _ (is ∙ ap (λ (o : List ℕ). o ++ more) begins) in
+    (bytes, more, ap (λ (y : Said). text y bytes) (sym sent) ∙ is, (lets sent).0, (lets sent).1)
+
+pub sends_front : (s : System) (m : Meaning) (ends : List Ended) (memory : Bool) (output more : List ℕ) → StandsPaced s → text (turn s m ends memory).said (turn s m ends memory).bytes ≡ output ++ more → SendsFront s m output
+sends_front s m ends memory output more paced is = sent_front s m (turn s m ends memory).said (turn s m ends memory).bytes output more (turn_sends s m ends memory paced) is
+
+delivered_front : (s : System) (m : Meaning) (x : Said) (bytes output more : List ℕ) → ((b u : List ℕ) → x ≡ said.Delivered b u → IsDelivered s m b u) → text x bytes ≡ output ++ more → DeliversFront s m output
+delivered_front s m x bytes output more lets is rest begins =
+    let d = delivered_letters x bytes _ (is ∙ ap (λ (o : List ℕ). o ++ more) begins) in
+    (d.0, d.1, more, ap (λ (y : Said). text y bytes) (sym d.2) ∙ is, lets d.0 d.1 d.2)
+
+pub delivers_front : (s : System) (m : Meaning) (ends : List Ended) (memory : Bool) (output more : List ℕ) → StandsPaced s → text (turn s m ends memory).said (turn s m ends memory).bytes ≡ output ++ more → DeliversFront s m output
+delivers_front s m ends memory output more paced is = delivered_front s m (turn s m ends memory).said (turn s m ends memory).bytes output more (turn_delivers s m ends memory paced) is

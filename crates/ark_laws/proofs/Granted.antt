@@ -1,6 +1,6 @@
 -- Every line keeps it that no block is granted twice.
 use Rattle.std.proofs.Common.{◌≡◌, ◌<◌, ℕ, Bool, true, false, List, [], ◌∷◌, ◌||◌, length, refl, sym, ◌∙◌, subst, arith, cond}
-use Rattle.std.proofs.lemmas.Bool.{false≢true, and_parts}
+use Rattle.std.proofs.lemmas.Bool.{false≢true, and_parts, or_left, or_right}
 use Rattle.std.proofs.lemmas.Bool.Decides.{nat_tests}
 use Rattle.std.specs.Prelude.{Option, Some, None, option_map, find, unwrap_or, bytes_eq, nat_le, Contains}
 use Rattle.ark_base.specs.Conditions.{Conditions, early, late, when, when_some}
@@ -17,7 +17,7 @@ use Rattle.ark_machine.specs.Objects.{is_vsa}
 use Rattle.ark_machine.specs.Machine.{Machine, object_at, is_full, count_of}
 use Rattle.ark_machine.specs.Areas.{max_areas}
 use Rattle.ark_machine.specs.Row.{Row, Given, Ended, answer, unless_refused}
-use Rattle.ark_machine.specs.Plane.{Plane, LiveFilter, Change, makes, grows, drops, is_granted, max_slots, lowest, is_slot_of, slot_of, blocks_at, asked, granted, recorded}
+use Rattle.ark_machine.specs.Plane.{Plane, LiveFilter, Change, makes, grows, drops, is_granted, max_slots, lowest, is_slot_of, slot_of, blocks_at, asked, asked_blocks, recorded}
 use Rattle.ark_machine.specs.Granting.{changed, failed_change, change_of, with_granted, after_refusal, plane_after}
 use Rattle.ark_machine.specs.Step.{step}
 use Rattle.ark_machine.specs.System.{System, machine_of, owner, takes, nic_turn, taken_turn, wire_turn, common_turn, owned_turn, line_turn}
@@ -145,17 +145,10 @@ in_found : (q : Slot → Bool) (ss : List Slot) (n : ℕ) → has_block (unwrap_
 in_found q [] n h = absurd (false≢true h)
 in_found q (s ∷ ss) n h = by (q s) h (in_found q ss n)
   where
-    front : (a b : Bool) → a ≡ true → (a || b) ≡ true
-    front a b e = rw e refl
-
-    back : (a b : Bool) → b ≡ true → (a || b) ≡ true
-    back true b e = refl
-    back false b e = e
-
     by : (b : Bool) → has_block (unwrap_or (option_map (λ t. t.blocks) (cond b (Some s) (find q ss))) []) n ≡ true
         → (has_block (unwrap_or (option_map (λ t. t.blocks) (find q ss)) []) n ≡ true → is_granted ss n ≡ true) → is_granted (s ∷ ss) n ≡ true
-    by true e next = front (has_block s.blocks n) (is_granted ss n) e
-    by false e next = back (has_block s.blocks n) (is_granted ss n) (next e)
+    by true e next = or_left (has_block s.blocks n) (is_granted ss n) e
+    by false e next = or_right (has_block s.blocks n) (is_granted ss n) (next e)
 
 two_apart : (ss : List Slot) (a b l k : List ℕ) (n : ℕ) → SlotsApart ss → bytes_eq a b ≡ false → has_block (unwrap_or (option_map (λ t. t.blocks) (find (λ t. is_slot_of a l t) ss)) []) n ≡ true
     → has_block (unwrap_or (option_map (λ t. t.blocks) (find (λ t. is_slot_of b k t) ss)) []) n ≡ true → ⊥
@@ -191,7 +184,7 @@ others_apart p a b l k n h apart one two = two_apart p.slots a b l k n h.apart a
 pub areas_apart : (p : Plane) (a b l k : List ℕ) (n : ℕ) → GrantsApart p → bytes_eq a b ≡ false → Contains (blocks_at p a l) n → Contains (blocks_at p b k) n → ⊥
 areas_apart p a b l k n h apart one two = others_apart p a b l k n h apart (has_of (blocks_at p a l) n one) (has_of (blocks_at p b k) n two)
 
-pub new_free : (p : Plane) (line : Line) (n : ℕ) → Contains (granted p line) n → is_granted p.slots n ≡ false
+pub new_free : (p : Plane) (line : Line) (n : ℕ) → Contains (asked_blocks p line) n → is_granted p.slots n ≡ false
 new_free p line n h = by (asked line) h
   where
     by : (o : Option ℕ) → Contains (unwrap_or (option_map (λ k. lowest p k) o) []) n → is_granted p.slots n ≡ false
@@ -199,5 +192,5 @@ new_free p line n h = by (asked line) h
     by (Some k) g = lowest_free p k n (has_of (lowest p k) n g)
 
 -- a new block is in no area
-pub new_apart : (p : Plane) (line : Line) (b k : List ℕ) (n : ℕ) → Contains (granted p line) n → Contains (blocks_at p b k) n → ⊥
+pub new_apart : (p : Plane) (line : Line) (b k : List ℕ) (n : ℕ) → Contains (asked_blocks p line) n → Contains (blocks_at p b k) n → ⊥
 new_apart p line b k n new old = clash (in_found (λ t. is_slot_of b k t) p.slots n (has_of (blocks_at p b k) n old)) (new_free p line n new)

@@ -1,8 +1,9 @@
--- Changes of a machine that leave the bytes of each buffer, or add some, and post no frame that its buffer has not whole.
+-- Changes of a machine that leave the bytes of each buffer, or add some, post no frame that its buffer has not whole, and give
+-- no label twice.
 use Rattle.std.proofs.Common.{◌≡◌, ◌≤◌, ◌⊎◌, inl, inr, ℕ, ◌+◌, Bool, true, false, not, List, [], ◌∷◌, ◌++◌, length, take, drop, refl, sym, ◌∙◌, ap, subst, arith, cond}
 use Rattle.std.proofs.lemmas.List.{length-take, length-drop, length-append}
 use Rattle.std.proofs.lemmas.List.Folds.{find-append}
-use Rattle.std.specs.Prelude.{Option, Some, None, option_map, option_and_then, find, filter as select, unwrap_or, bytes_eq, Contains}
+use Rattle.std.specs.Prelude.{Option, Some, None, option_map, option_and_then, filter as select, unwrap_or, bytes_eq, Contains}
 use Rattle.std.specs.Option.{option_or}
 use Rattle.ark_vic.specs.Bells as bells
 use Rattle.ark_vic.specs.declared.door.Bell.{Bell}
@@ -11,13 +12,14 @@ use Rattle.ark_caladan.specs.Chain.{Log}
 use Rattle.ark_machine.specs.Bytes.{written}
 use Rattle.ark_machine.specs.Objects
 use Rattle.ark_machine.specs.Objects.{Object, Raw, Vsic, Vnic, Buffer, Socket, Place, as_raw, as_log, as_vsic, as_vnic, as_door, as_buffer, as_socket}
-use Rattle.ark_machine.specs.Machine.{Machine, Held, object_at, raw_at, log_at, vsic_at, vnic_at, door_at, buffer_at, socket_at, with_object, each_object, with_new, without, with_vsic, with_vnic, with_log, with_buffer, with_socket}
+use Rattle.ark_machine.specs.Machine.{Machine, Held, at, object_at, raw_at, log_at, vsic_at, vnic_at, door_at, buffer_at, socket_at, with_object, each_object, with_new, without, with_vsic, with_vnic, with_log, with_buffer, with_socket}
 use Rattle.ark_machine.specs.Row.{settled, synced}
 use Rattle.ark_machine.specs.Areas.{with_raw}
 use Rattle.ark_machine.specs.Rates.{rung}
 use Rattle.ark_machine.specs.Frames.{frames_at, IsThere, FramesThere}
-use Rattle.ark_machine.proofs.Grants.{clash}
-use Rattle.ark_laws.proofs.Listed.{same_bytes, bytes_eq-same}
+use Rattle.ark_machine.specs.Labels.{AreLabelled}
+use Rattle.ark_laws.proofs.Labelled.{held_at, set_once, each_once, without_held, without_once, new_once}
+use Rattle.ark_laws.proofs.Listed.{same_bytes}
 use Rattle.ark_laws.proofs.Setting.{found_at, set_here, set_there, each_found}
 
 -- what of an object counts: its bytes, and the frames that are posted on it
@@ -30,17 +32,22 @@ frames_in o = unwrap_or (option_map (λ x. x.tx.posted) (option_and_then as_vnic
 pub record Grows (m n : Machine) : Type 0 where
   pub sizes : (b : List ℕ) → size_in (object_at m b) ≤ size_in (object_at n b)
   pub frames : (v : List ℕ) (p : Place × ℕ) → Contains (frames_at n v) p → Contains (frames_at m v) p ⊎ IsThere n p
+  pub labels : AreLabelled m → AreLabelled n
 
 there_after : (m n : Machine) → ((b : List ℕ) → size_in (object_at m b) ≤ size_in (object_at n b)) → (p : Place × ℕ) → IsThere m p → IsThere n p
 there_after m n sizes (Objects.named b, len) h = let more = sizes b in omega (arith, h, more)
 there_after m n sizes (Objects.taken y, len) h = h
 
+still_there : (m n : Machine) → ((b : List ℕ) → size_in (object_at m b) ≤ size_in (object_at n b))
+    → ((v : List ℕ) (p : Place × ℕ) → Contains (frames_at n v) p → Contains (frames_at m v) p ⊎ IsThere n p) → FramesThere m → FramesThere n
+still_there m n sizes frames h v p has = elim (frames v p has) [ inl old ↦ there_after m n sizes p (h v p old) | inr new ↦ new ]
+
 -- then the frames that were there stay so
 pub grown_there : {m n : Machine} → Grows m n → FramesThere m → FramesThere n
-grown_there {m = m} {n = n} g h v p has = elim (g.frames v p has) [ inl old ↦ there_after m n g.sizes p (h v p old) | inr new ↦ new ]
+grown_there {m = m} {n = n} g h = still_there m n g.sizes g.frames h
 
 pub same_grows : (m : Machine) → Grows m m
-same_grows m = record { sizes = λ b. omega arith; frames = λ v p has. inl has }
+same_grows m = record { sizes = λ b. omega arith; frames = λ v p has. inl has; labels = λ once. once }
 
 pub then_grows : {m n k : Machine} → Grows m n → Grows n k → Grows m k
 then_grows {m = m} {n = n} {k = k} f g = record {
@@ -49,6 +56,7 @@ then_grows {m = m} {n = n} {k = k} f g = record {
     | inl old ↦ elim (f.frames v p old) [ inl older ↦ inl older | inr there ↦ inr (there_after n k g.sizes p there) ]
     | inr new ↦ inr new
   ];
+  labels = λ once. g.labels (f.labels once);
 }
 
 pub cond_grows : {m k n : Machine} (b : Bool) → Grows m k → Grows m n → Grows m (cond b k n)
@@ -77,6 +85,7 @@ module _ (m : Machine) (l : List ℕ) (o old : Object) (is : object_at m l ≡ S
   object_grows posts = record {
     sizes = set_sizes;
     frames = λ v p has. by v p has (bytes_eq v l) refl;
+    labels = λ once. set_once l o m.held once;
   }
     where
       at : (p : Place × ℕ) → Contains (frames_in (object_at n l)) p → Contains (frames_in (object_at m l)) p ⊎ IsThere n p
@@ -188,6 +197,7 @@ pub each_grows : (m : Machine) (f : Object → Object) → ((o : Object) → siz
 each_grows m f sizes posts = record {
   sizes = λ b. let e = same_size (object_at m b) in let k : object_at (each_object f m) b ≡ option_map f (object_at m b) = each_found f b m.held in subst (λ q. size_in (object_at m b) ≤ size_in q) (sym k) (omega (arith, e));
   frames = λ v p has. inl (subst (λ (ps : List (Place × ℕ)). Contains ps p) (same_posts (object_at m v)) (subst (λ q. Contains (frames_in q) p) (each_found f v m.held) has));
+  labels = λ once. each_once f m.held once;
 }
   where
     same_size : (q : Option Object) → size_in (option_map f q) ≡ size_in q
@@ -214,50 +224,44 @@ synced_grows false m = same_grows m
 
 -- A new object, and one that goes.
 
-pub new_grows : (m : Machine) (l : List ℕ) (o : Object) → frames_in (Some o) ≡ [] → Grows m (with_new m l o)
-new_grows m l o posts = record {
-  sizes = λ b. subst (λ q. size_in (object_at m b) ≤ size_in (option_map (λ h. h.object) q)) (sym (find-append (λ h. bytes_eq b h.label) m.held (x ∷ []))) (bigger b (find (λ h. bytes_eq b h.label) m.held));
-  frames = λ v p has. inl (fewer v p (find (λ h. bytes_eq v h.label) m.held) (subst (λ q. Contains (frames_in (option_map (λ h. h.object) q)) p) (find-append (λ h. bytes_eq v h.label) m.held (x ∷ [])) has));
-}
-  where
-    x : Held
-    x = record { label = l; serial = m.serial; object = o }
+module _ (m : Machine) (l : List ℕ) (o : Object) (posts : frames_in (Some o) ≡ []) where
+  abbrev newest : Held
+  newest = record { label = l; serial = m.serial; object = o }
 
-    bigger : (b : List ℕ) (q : Option Held) → size_in (option_map (λ h. h.object) q) ≤ size_in (option_map (λ h. h.object) (option_or q (find (λ h. bytes_eq b h.label) (x ∷ []))))
-    bigger b None = omega arith
-    bigger b (Some h) = omega arith
+  new_sizes : (b : List ℕ) → size_in (object_at m b) ≤ size_in (object_at (with_new m l o) b)
+  new_sizes b = subst (λ q. size_in (object_at m b) ≤ size_in (option_map (λ h. h.object) q)) (sym (find-append (λ h. bytes_eq b h.label) m.held (newest ∷ []))) (bigger (held_at b m.held))
+    where
+      bigger : (q : Option Held) → size_in (option_map (λ h. h.object) q) ≤ size_in (option_map (λ h. h.object) (option_or q (held_at b (newest ∷ []))))
+      bigger None = omega arith
+      bigger (Some h) = omega arith
 
-    fewer : (v : List ℕ) (p : Place × ℕ) (q : Option Held) → Contains (frames_in (option_map (λ h. h.object) (option_or q (find (λ h. bytes_eq v h.label) (x ∷ []))))) p → Contains (frames_in (option_map (λ h. h.object) q)) p
-    fewer v p (Some h) has = has
-    fewer v p None has = by (bytes_eq v l) has
-      where
-        by : (t : Bool) → Contains (frames_in (option_map (λ h. h.object) (cond t (Some x) None))) p → Contains {X = Place × ℕ} [] p
-        by true has = subst (λ (ps : List (Place × ℕ)). Contains ps p) posts has
-        by false has = has
+  new_frames : (v : List ℕ) (p : Place × ℕ) → Contains (frames_at (with_new m l o) v) p → Contains (frames_at m v) p
+  new_frames v p has = fewer (held_at v m.held) (subst (λ q. Contains (frames_in (option_map (λ h. h.object) q)) p) (find-append (λ h. bytes_eq v h.label) m.held (newest ∷ [])) has)
+    where
+      fewer : (q : Option Held) → Contains (frames_in (option_map (λ h. h.object) (option_or q (held_at v (newest ∷ []))))) p → Contains (frames_in (option_map (λ h. h.object) q)) p
+      fewer (Some h) has = has
+      fewer None has = by (bytes_eq v l) has
+        where
+          by : (t : Bool) → Contains (frames_in (option_map (λ h. h.object) (cond t (Some newest) None))) p → Contains {X = Place × ℕ} [] p
+          by true has = subst (λ (ps : List (Place × ℕ)). Contains ps p) posts has
+          by false has = has
+
+  -- whatever its label
+  pub new_there : FramesThere m → FramesThere (with_new m l o)
+  new_there h = still_there m (with_new m l o) new_sizes (λ v p has. inl (new_frames v p has)) h
+
+  pub new_grows : at m l ≡ None → Grows m (with_new m l o)
+  new_grows free = record { sizes = new_sizes; frames = λ v p has. inl (new_frames v p has); labels = λ once. new_once newest m.held free once }
 
 pub without_at : (l k : List ℕ) (hs : List Held) → found_at k (select (λ h. not (bytes_eq l h.label)) hs) ≡ cond (bytes_eq k l) None (found_at k hs)
-without_at l k [] = elim (bytes_eq k l) as (λ t. ◌≡◌ {A = Option Object} None (cond t None None)) [ true ↦ refl | false ↦ refl ]
-without_at l k (x ∷ xs) = by (bytes_eq l x.label) (bytes_eq k x.label) (bytes_eq k l) refl refl refl (without_at l k xs)
-  where
-    rest : List Held
-    rest = select (λ h. not (bytes_eq l h.label)) xs
-
-    by : (b c d : Bool) → bytes_eq l x.label ≡ b → bytes_eq k x.label ≡ c → bytes_eq k l ≡ d → found_at k rest ≡ cond d None (found_at k xs)
-        → found_at k (cond (not b) (x ∷ rest) rest) ≡ cond d None (option_map (λ h. h.object) (cond c (Some x) (find (λ h. bytes_eq k h.label) xs)))
-    by true true true e f g next = next
-    by true true false e f g next = absurd (clash (subst (λ y. bytes_eq k y ≡ true) (same_bytes k x.label f ∙ sym (same_bytes l x.label e)) (bytes_eq-same k)) g)
-    by true false true e f g next = next
-    by true false false e f g next = next
-    by false true true e f g next = absurd (clash (subst (λ y. bytes_eq l y ≡ true) (sym (same_bytes k l g) ∙ same_bytes k x.label f) (bytes_eq-same l)) e)
-    by false true false e f g next = rw f refl
-    by false false true e f g next = rw f next
-    by false false false e f g next = rw f next
+without_at l k hs = ap (λ (q : Option Held). option_map (λ h. h.object) q) (without_held l k hs) ∙ elim (bytes_eq k l) as (λ t. option_map (λ h. h.object) (cond t None (held_at k hs)) ≡ cond t None (found_at k hs)) [ true ↦ refl | false ↦ refl ]
 
 -- what goes has no bytes
 pub without_grows : (m : Machine) (l : List ℕ) → size_in (object_at m l) ≡ 0 → Grows m (without m l)
 without_grows m l none = record {
   sizes = λ b. subst (λ q. size_in (object_at m b) ≤ size_in q) (sym (without_at l b m.held)) (bigger b (bytes_eq b l) refl);
   frames = λ v p has. inl (fewer v p (bytes_eq v l) (subst (λ q. Contains (frames_in q) p) (without_at l v m.held) has));
+  labels = λ once. without_once l m.held once;
 }
   where
     bigger : (b : List ℕ) (t : Bool) → bytes_eq b l ≡ t → size_in (object_at m b) ≤ size_in (cond t None (object_at m b))

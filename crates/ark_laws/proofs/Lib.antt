@@ -15,6 +15,7 @@ pub mod Framing
 pub mod Granted
 pub mod Growing
 pub mod Keeping
+pub mod Labelled
 pub mod Labels
 pub mod Leading
 pub mod Leaving
@@ -44,6 +45,7 @@ pub mod Settling
 pub mod Sharing
 pub mod Steady
 pub mod Stored
+pub mod StoredLabels
 pub mod Synced
 pub mod TableFailed
 pub mod Texts

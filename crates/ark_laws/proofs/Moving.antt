@@ -16,7 +16,7 @@ use Rattle.ark_machine.specs.Machine.{Machine, vsic_at, vnic_at, label_numbered,
 use Rattle.ark_machine.specs.Row
 use Rattle.ark_machine.specs.Row.{Row, Call, Ended, Given, answer, unless_refused}
 use Rattle.ark_machine.specs.Rates.{is_over_burst, may_pass, passed}
-use Rattle.ark_machine.specs.Moves.{Move, moves, move, gated, tried, ends, outcome_of, block_passed, block_moved, is_granted, raw_numbered, transferred, transfer_call, log_on, phase_written, phase_moves, phase_moves_on, moved, first_end}
+use Rattle.ark_machine.specs.Moves.{Move, moves, move, gated, tried, ends, outcome_of, block_passed, block_moved, is_bound, raw_numbered, transferred, transfer_call, log_on, phase_written, phase_moves, phase_moves_on, moved, first_end}
 use Rattle.ark_machine.specs.Logs.{card_of}
 use Rattle.ark_machine.specs.Devices.{card_moves}
 use Rattle.ark_machine.specs.Plane.{recorded}
@@ -36,8 +36,8 @@ one_fits : (now : ℕ) (p : Option Paced) → IsPacedAt now p → may_pass p now
 one_fits now None h may = tt
 one_fits now (Some p) h may = (passed_paced now now 512 (Some p) refl h may).0
 
-gated_fits : (now : ℕ) (m : Machine) (v : List ℕ) (x : Vsic) (j : Job) (js : List Job) (granted : Bool) (move : Move) → m.now ≡ now → IsPacedAt now x.pace
-    → (KeepsWith x.pace ((now, 512) ∷ []) → FitsCalls now x.pace move.calls) → FitsCalls now x.pace (gated m v x j js granted move).calls
+gated_fits : (now : ℕ) (m : Machine) (v : List ℕ) (x : Vsic) (j : Job) (js : List Job) (bound : Bool) (move : Move) → m.now ≡ now → IsPacedAt now x.pace
+    → (KeepsWith x.pace ((now, 512) ∷ []) → FitsCalls now x.pace move.calls) → FitsCalls now x.pace (gated m v x j js bound move).calls
 gated_fits now m v x j js false move is h fits = (tt, paced_with now x.pace h)
 gated_fits now m v x j js true move is h fits = by (is_over_burst x.pace 512) (may_pass x.pace m.now 512) refl
   where
@@ -86,7 +86,7 @@ moved_fits now m v x (phase p ∷ js) e is h = phases_fit now (log_on m v) m v x
 moved_fits now m v x (transfer t ∷ js) e is h =
     let after : Machine = transferred m t x.queue.moved e (raw_numbered m t.vsa) in
     let calls : List Call = transfer_call m t x.queue.moved ∷ [] in
-    gated_fits now m v x (transfer t) js (is_granted m x t.vsa) (tried m.now e.ok t.count after v x (transfer t) js calls) is h
+    gated_fits now m v x (transfer t) js (is_bound m x t.vsa) (tried m.now e.ok t.count after v x (transfer t) js calls) is h
     (λ one. tried_fits now m.now e.ok t.count after v x (transfer t) js calls (transfer_fits now m t x.queue.moved x.pace one))
 
 move_fits : (now : ℕ) (m : Machine) (v : List ℕ) (e : Ended) → MachinePacedAt now m → FitsCalls now (pace_at m v) (move m v e).calls

@@ -7,7 +7,7 @@ use Rattle.ark_script.specs.Line as w
 use Rattle.ark_script.specs.Line.{Line}
 use Rattle.ark_machine.specs.Machine.{Held, label_numbered}
 use Rattle.ark_machine.specs.Control.{is_open_on}
-use Rattle.ark_machine.specs.Plane.{blocks_at, granted}
+use Rattle.ark_machine.specs.Plane.{blocks_at, asked_blocks}
 use Rattle.ark_machine.specs.System.{System, machine_of, owner}
 use Rattle.ark_machine.specs.Follow.{slots_for}
 use Rattle.ark_machine.specs.Confined.{bound_to, blocks_numbered, open_blocks, reach, readable, writable}
@@ -67,15 +67,15 @@ reads_own s _ a n is h = absurd (none_in n h)
 
 -- an own block, a new one, or the slot
 abbrev IsWritten : System → Line → List ℕ → ℕ → Type 0
-IsWritten s line a n = IsOwn s a n ⊎ (Contains (granted s.plane line) n ⊎ Contains (slots_for s.plane a line) n)
+IsWritten s line a n = IsOwn s a n ⊎ (Contains (asked_blocks s.plane line) n ⊎ Contains (slots_for s.plane a line) n)
 
 slot_of_own : (s : System) (a b : List ℕ) (line : Line) (n : ℕ) → ◌≡◌ {A = Option (List ℕ)} (Some b) (Some a) → Contains (slots_for s.plane b line) n → IsWritten s line a n
 slot_of_own s a b line n is h = inr (inr (subst (λ c. Contains (slots_for s.plane c line) n) (same_owner b a is) h))
 
-slot_or_new : (s : System) (a b : List ℕ) (line : Line) (n : ℕ) → ◌≡◌ {A = Option (List ℕ)} (Some b) (Some a) → Contains (slots_for s.plane b line ++ granted s.plane line) n → IsWritten s line a n
-slot_or_new s a b line n is h = by (Contains-append_cases (slots_for s.plane b line) (granted s.plane line) n h)
+slot_or_new : (s : System) (a b : List ℕ) (line : Line) (n : ℕ) → ◌≡◌ {A = Option (List ℕ)} (Some b) (Some a) → Contains (slots_for s.plane b line ++ asked_blocks s.plane line) n → IsWritten s line a n
+slot_or_new s a b line n is h = by (Contains-append_cases (slots_for s.plane b line) (asked_blocks s.plane line) n h)
   where
-    by : Contains (slots_for s.plane b line) n ⊎ Contains (granted s.plane line) n → IsWritten s line a n
+    by : Contains (slots_for s.plane b line) n ⊎ Contains (asked_blocks s.plane line) n → IsWritten s line a n
     by (inl slot) = slot_of_own s a b line n is slot
     by (inr new) = inr (inl new)
 

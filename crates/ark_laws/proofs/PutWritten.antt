@@ -16,7 +16,7 @@ use Rattle.ark_machine.specs.Bytes.{block_of}
 use Rattle.ark_machine.specs.Row.{Row, Given, Ended, Call, reads, writes, reads_in, writes_in, answer, unless_refused}
 use Rattle.ark_machine.specs.Areas.{raw_written, with_raw}
 use Rattle.ark_machine.specs.Rates.{is_over_burst, may_pass, passed}
-use Rattle.ark_machine.specs.Moves.{Move, moves, moved, ending, ended, ends, outcome_of, block_passed, block_moved, tried, gated, is_granted, transferred, transfer_call, raw_numbered, log_on, phase_written, phase_moves, phase_moves_on, row_of}
+use Rattle.ark_machine.specs.Moves.{Move, moves, moved, ending, ends, outcome_of, block_passed, block_moved, tried, gated, is_bound, transferred, transfer_call, raw_numbered, log_on, phase_written, phase_moves, phase_moves_on, row_of}
 use Rattle.ark_machine.specs.Network.{bytes_in, frame_moves, tx_moves}
 use Rattle.ark_machine.specs.Devices.{card_moves}
 use Rattle.ark_machine.specs.Labels.{AreLabelled}
@@ -90,9 +90,9 @@ module _ (m : Machine) (l : List ℕ) (k : ℕ) (content : List ℕ) (e : Ended)
 
   transfer_writes : (v : List ℕ) (y : Vsic) (t : Transfer) (js : List Job) → Follows (moved m v y (transfer t ∷ js) e)
   transfer_writes v y t js =
-      gated_writes v y (transfer t) js (is_granted m y t.vsa) (tried m.now e.ok t.count (transferred m t y.queue.moved e (raw_numbered m t.vsa)) v y (transfer t) js (transfer_call m t y.queue.moved ∷ []))
-      (λ granted. tried_writes m.now e.ok t.count (transferred m t y.queue.moved e (raw_numbered m t.vsa)) v y (transfer t) js (transfer_call m t y.queue.moved)
-      (λ is. by t.put refl (and_parts (list_any (λ b. b == t.vsa) y.bound) (is_some (at_serial m t.vsa)) granted).1 is))
+      gated_writes v y (transfer t) js (is_bound m y t.vsa) (tried m.now e.ok t.count (transferred m t y.queue.moved e (raw_numbered m t.vsa)) v y (transfer t) js (transfer_call m t y.queue.moved ∷ []))
+      (λ bound. tried_writes m.now e.ok t.count (transferred m t y.queue.moved e (raw_numbered m t.vsa)) v y (transfer t) js (transfer_call m t y.queue.moved)
+      (λ is. by t.put refl (and_parts (list_any (λ b. b == t.vsa) y.bound) (is_some (at_serial m t.vsa)) bound).1 is))
     where
       i : ℕ
       i = y.queue.moved

@@ -20,7 +20,7 @@ use Rattle.ark_machine.specs.Machine.{with_vsic}
 use Rattle.ark_machine.specs.Logs.{opening_calls, with_opened}
 use Rattle.ark_machine.specs.Polls.{polled, poll_log, poll_opened, poll_oldest, poll_card, phase_ended, next_phase, phases_left, one_done, emptied, unreaped_on, posted_on}
 use Rattle.ark_machine.specs.System.{System}
-use Rattle.ark_machine.specs.Plane.{blocks_at, granted}
+use Rattle.ark_machine.specs.Plane.{blocks_at, asked_blocks}
 use Rattle.ark_machine.specs.Follow.{Makes, slots_for}
 use Rattle.ark_machine.specs.Confined.{IsAllowed, readable, writable, may_sync}
 
@@ -100,8 +100,8 @@ syncs s a line may (Read n ok) h = absurd h
 syncs s a line may (Write n b took ok) h = absurd h
 syncs s a line may (Out bytes) h = absurd h
 
-zeroes_new : (s : System) (a : List ℕ) (line : Line) (k : ℕ) → AreIn (granted s.plane line) (writable s line) → AllowsCall s a line (Row.zeroes_new k)
-zeroes_new s a line k within (Write n b took ok) h = within n (at_contains (granted s.plane line) k n h.0)
+zeroes_new : (s : System) (a : List ℕ) (line : Line) (k : ℕ) → AreIn (asked_blocks s.plane line) (writable s line) → AllowsCall s a line (Row.zeroes_new k)
+zeroes_new s a line k within (Write n b took ok) h = within n (at_contains (asked_blocks s.plane line) k n h.0)
 zeroes_new s a line k within (Read n ok) h = absurd h
 zeroes_new s a line k within (Sync ok) h = absurd h
 zeroes_new s a line k within (Out bytes) h = absurd h
@@ -117,11 +117,11 @@ all_append P [] ds h k = k
 all_append P (c ∷ cs) ds h k = (h.0, all_append P cs ds h.1 k)
 
 -- `vsa` and `grow`
-zeroes_all : (s : System) (a : List ℕ) (line : Line) → AreIn (granted s.plane line) (writable s line) → (ks : List ℕ) → AllowsAll s a line (map Row.zeroes_new ks)
+zeroes_all : (s : System) (a : List ℕ) (line : Line) → AreIn (asked_blocks s.plane line) (writable s line) → (ks : List ℕ) → AllowsAll s a line (map Row.zeroes_new ks)
 zeroes_all s a line within [] = tt
 zeroes_all s a line within (k ∷ ks) = (zeroes_new s a line k within, zeroes_all s a line within ks)
 
-pub grants : (s : System) (a : List ℕ) (line : Line) (n : ℕ) → AreIn (granted s.plane line) (writable s line) → AreIn (slots_for s.plane a line) (writable s line) → IsTrue (may_sync s line)
+pub grants : (s : System) (a : List ℕ) (line : Line) (n : ℕ) → AreIn (asked_blocks s.plane line) (writable s line) → AreIn (slots_for s.plane a line) (writable s line) → IsTrue (may_sync s line)
     → AllowsAll s a line (grant_calls n)
 grants s a line n within slot may =
     all_append (AllowsCall s a line) (map Row.zeroes_new (range_with_len 0 n)) (Row.syncs ∷ Row.writes_slot ∷ Row.syncs ∷ []) (zeroes_all s a line within (range_with_len 0 n))
@@ -141,8 +141,8 @@ opens s a line l (found es) r x may = (reads_some s a line l r, (syncs s a line 
 
 -- Moves.
 
-pub gated_calls : (P : Call → Type 0) (m : Machine) (v : List ℕ) (x : Vsic) (j : Job) (js : List Job) (granted : Bool) (move : Move) →
-    (granted ≡ true → AllByRecursion P move.calls) → AllByRecursion P (gated m v x j js granted move).calls
+pub gated_calls : (P : Call → Type 0) (m : Machine) (v : List ℕ) (x : Vsic) (j : Job) (js : List Job) (bound : Bool) (move : Move) →
+    (bound ≡ true → AllByRecursion P move.calls) → AllByRecursion P (gated m v x j js bound move).calls
 gated_calls P m v x j js false move some = tt
 gated_calls P m v x j js true move some =
     let held : Move = moves m said.Held [] in

@@ -18,7 +18,7 @@ use Rattle.ark_machine.specs.Areas.{raw_written, with_raw}
 use Rattle.ark_machine.specs.Buffers.{with_bytes}
 use Rattle.ark_machine.specs.Rates.{is_over_burst, may_pass, passed}
 use Rattle.ark_machine.specs.Cards.{posting}
-use Rattle.ark_machine.specs.Moves.{Move, moves, ending, ended, ends, outcome_of, block_passed, block_moved, tried, gated, raw_numbered, is_granted, transferred, transfer_call, log_on, deciding_tried, phase_written, phase_moves, phase_moves_on, moved, move, log_moved, log_move, first_end}
+use Rattle.ark_machine.specs.Moves.{Move, moves, ending, ended, ends, outcome_of, block_passed, block_moved, tried, gated, raw_numbered, is_bound, transferred, transfer_call, log_on, deciding_tried, phase_written, phase_moves, phase_moves_on, moved, move, log_moved, log_move, first_end}
 use Rattle.ark_machine.specs.Logs.{with_opened, card_of}
 use Rattle.ark_machine.specs.Polls.{Polled, acknowledging, next_phase, phases_left, emptied, failing, one_done, phase_ended, poll_card, unreaped_on, posted_on, poll_oldest, poll_opened, poll_log, polled, is_held, settle_move, Next, stops, calls_on, without_call, by_calls, due_move, next_of, next_call, settling}
 use Rattle.ark_machine.specs.Network.{is_let_out, bytes_in, tx_ended, tx_ending, tx_passed, frame_moves, tx_moves, with_frame, filled, rx_ending, rx_passed, received, arrival, arrive}
@@ -41,7 +41,7 @@ tried_sees now ok count m v x j js calls =
       | false ↦ sees_then (vsic_sees m v (block_passed pace)) (ended_sees (with_vsic m v (block_passed pace)) v x j js (outcome_of ok))
     ]
 
-gated_sees : (m : Machine) (v : List ℕ) (x : Vsic) (j : Job) (js : List Job) (granted : Bool) (move : Move) → Sees m move.machine → Sees m (gated m v x j js granted move).machine
+gated_sees : (m : Machine) (v : List ℕ) (x : Vsic) (j : Job) (js : List Job) (bound : Bool) (move : Move) → Sees m move.machine → Sees m (gated m v x j js bound move).machine
 gated_sees m v x j js false move h = ended_sees m v x j js outcome.NoGrant
 gated_sees m v x j js true move h =
     let held : Move = moves m said.Held [] in
@@ -89,7 +89,7 @@ moved_sees m v x (flush ∷ js) e = sees_then (synced_sees e.ok m) (ended_sees (
 moved_sees m v x (transfer y ∷ js) e =
     let after : Machine = transferred m y x.queue.moved e (raw_numbered m y.vsa) in
     let calls : List Call = transfer_call m y x.queue.moved ∷ [] in
-    gated_sees m v x (transfer y) js (is_granted m x y.vsa) (tried m.now e.ok y.count after v x (transfer y) js calls)
+    gated_sees m v x (transfer y) js (is_bound m x y.vsa) (tried m.now e.ok y.count after v x (transfer y) js calls)
     (sees_then (transferred_sees m y x.queue.moved e (raw_numbered m y.vsa)) (tried_sees m.now e.ok y.count after v x (transfer y) js calls))
 moved_sees m v x (phase p ∷ js) e = phase_on_sees (log_on m v) m v x p js e
 

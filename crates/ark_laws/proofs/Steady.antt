@@ -18,7 +18,7 @@ use Rattle.ark_machine.specs.Areas.{raw_written, with_raw}
 use Rattle.ark_machine.specs.Buffers.{with_bytes}
 use Rattle.ark_machine.specs.Rates.{is_over_burst, may_pass, passed}
 use Rattle.ark_machine.specs.Cards.{posting}
-use Rattle.ark_machine.specs.Moves.{Move, moves, ending, ended, ends, outcome_of, block_passed, block_moved, tried, gated, raw_numbered, is_granted, transferred, transfer_call, log_on, deciding_tried, phase_written, phase_moves, phase_moves_on, moved, move, log_moved, log_move, first_end}
+use Rattle.ark_machine.specs.Moves.{Move, moves, ending, ended, ends, outcome_of, block_passed, block_moved, tried, gated, raw_numbered, is_bound, transferred, transfer_call, log_on, deciding_tried, phase_written, phase_moves, phase_moves_on, moved, move, log_moved, log_move, first_end}
 use Rattle.ark_machine.specs.Logs.{with_opened, card_of}
 use Rattle.ark_machine.specs.Polls.{Polled, acked, next_phase, phases_left, emptied, failing, one_done, phase_ended, poll_card, unreaped_on, posted_on, poll_oldest, poll_opened, poll_log, polled, is_held, settle_move, Next, stops, calls_on, without_call, by_calls, due_move, next_of, next_call, settle_end, settling}
 use Rattle.ark_machine.specs.Paced.{IsPacedAt, ArePacedAt, MachinePacedAt}
@@ -65,8 +65,8 @@ tried_steady m now ok count k v x j js calls of lead =
       | false ↦ record { plain = refl; paced = ended_leads m (with_vsic k v (block_passed pace)) v x j js (outcome_of ok) (λ t h. vsic_paced t k v (block_passed pace) (λ y q. of t h) (lead t h)) }
     ]
 
-gated_steady : (m : Machine) (v : List ℕ) (x : Vsic) (j : Job) (js : List Job) (granted : Bool) (move : Move)
-    → (may_pass x.pace m.now 512 ≡ true → IsSteady m move.machine move.said) → IsSteady m (gated m v x j js granted move).machine (gated m v x j js granted move).said
+gated_steady : (m : Machine) (v : List ℕ) (x : Vsic) (j : Job) (js : List Job) (bound : Bool) (move : Move)
+    → (may_pass x.pace m.now 512 ≡ true → IsSteady m move.machine move.said) → IsSteady m (gated m v x j js bound move).machine (gated m v x j js bound move).said
 gated_steady m v x j js false move some = record { plain = refl; paced = ended_leads m m v x j js outcome.NoGrant (λ t h. h) }
 gated_steady m v x j js true move some =
     let held : Move = moves m said.Held [] in
@@ -127,7 +127,7 @@ moved_steady m v x (flush ∷ js) e of = record { plain = refl; paced = ended_le
 moved_steady m v x (transfer y ∷ js) e of =
     let after : Machine = transferred m y x.queue.moved e (raw_numbered m y.vsa) in
     let calls : List Call = transfer_call m y x.queue.moved ∷ [] in
-    gated_steady m v x (transfer y) js (is_granted m x y.vsa) (tried m.now e.ok y.count after v x (transfer y) js calls)
+    gated_steady m v x (transfer y) js (is_bound m x y.vsa) (tried m.now e.ok y.count after v x (transfer y) js calls)
     (λ fits. tried_steady m m.now e.ok y.count after v x (transfer y) js calls (passes_of m 512 x.pace of fits) (transferred_leads m y x.queue.moved e (raw_numbered m y.vsa)))
 moved_steady m v x (phase p ∷ js) e of = phase_on_steady (log_on m v) m v x p js e of
 

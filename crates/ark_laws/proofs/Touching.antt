@@ -22,7 +22,7 @@ use Rattle.ark_machine.specs.Control.{is_open_on}
 use Rattle.ark_machine.specs.Bytes.{block_of}
 use Rattle.ark_machine.specs.Rates.{is_over_burst, may_pass, passed}
 use Rattle.ark_machine.specs.Cards.{reap_oldest}
-use Rattle.ark_machine.specs.Moves.{Move, moves, moved, tried, is_granted, transfer_call, transferred, raw_numbered, phase_moves_on, log_on, log_moved, first_end}
+use Rattle.ark_machine.specs.Moves.{Move, moves, moved, tried, is_bound, transfer_call, transferred, raw_numbered, phase_moves_on, log_on, log_moved, first_end}
 use Rattle.ark_machine.specs.Logs.{card_of}
 use Rattle.ark_machine.specs.Polls.{Polled, polled, is_held, settle_move, Next, stops, calls_on, settling, settle_end, next_call, next_of, due_move, by_calls, without_call}
 use Rattle.ark_machine.specs.Network.{take_received, take_sent, take_oldest, received_at, sent_at, tx_moves, frame_moves, bytes_in, is_let_out, tx_ended, tx_passed}
@@ -153,7 +153,7 @@ moves_in s a v x (transfer t ∷ js) e at =
     let m : Machine = machine_of s a in
     let after : Machine = transferred m t x.queue.moved e (raw_numbered m t.vsa) in
     let calls : List Call = transfer_call m t x.queue.moved ∷ [] in
-    gated_calls (AllowsCall s a (w.dev a v)) m v x (transfer t) js (is_granted m x t.vsa) (tried m.now e.ok t.count after v x (transfer t) js calls)
+    gated_calls (AllowsCall s a (w.dev a v)) m v x (transfer t) js (is_bound m x t.vsa) (tried m.now e.ok t.count after v x (transfer t) js calls)
     (λ g. tried_calls (AllowsCall s a (w.dev a v)) m.now e.ok t.count after v x (transfer t) js calls
     (transfer_calls s a v t x.queue.moved (reaches_bound s a v x t.vsa at (and_parts (list_any (λ b. b == t.vsa) x.bound) (is_some (at_serial m t.vsa)) g).0)))
 

@@ -6,7 +6,7 @@ ghost use Rattle.ark_base.specs.declared.refusal.Refusal.TheVariants as r;
 ghost use Rattle.ark_caladan.specs.Chain.{syncing};
 ghost use Rattle.ark_media.specs.Journal.{Event, onto};
 ghost use Rattle.ark_media.specs.Stops.{MayHold, Whole, AnyBytes};
-ghost use Rattle.ark_table.specs.Slots.{Slot};
+ghost use Rattle.ark_table.specs.Slots.{Slot, slots_of};
 ghost use Rattle.ark_script.specs.Line as w;
 ghost use Rattle.ark_script.specs.Line.{Line};
 ghost use Rattle.ark_script.specs.declared.said.Said.TheVariants as said;
@@ -81,4 +81,12 @@ pub fn area_laws()
     ensures put { (s : System) (a v l : List ℕ) (k : ℕ) (content : List ℕ) (e : Ended) (memory : Bool) (x : Raw) → AreLabelled (machine_of s a) → raw_at (machine_of s a) l ≡ Some x → (line_turn s (w.dev a v) (e ∷ []) memory).calls ≡ writes l k content ∷ [] → raw_at (machine_of (line_turn s (w.dev a v) (e ∷ []) memory).after a) l ≡ Some (raw_written k content e.took x) }
     ensures settle_synced { (s : System) (a b : List ℕ) (ends : List Ended) (memory : Bool) (i : ℕ) (e : Ended) → slice_get (line_turn s (w.settle a b) ends memory).calls i ≡ Some syncs → slice_get ends i ≡ Some e → e.ok ≡ true → (l : List ℕ) (x : Raw) → raw_at (machine_of (line_turn s (w.settle a b) ends memory).after a) l ≡ Some x → x.maybe ≡ map (λ b. b ∷ []) x.content }
     ensures settled { (x : Raw) (k : ℕ) → k < length x.content → slice_index_or (map (λ b. b ∷ []) x.content) k [] ≡ slice_index_or x.content k [] ∷ [] }
+{}
+
+/// No label of an application stands twice: each of its objects is the one that is found at its label. It is so at the start of a
+/// run, on a fresh device or a stored one, and after each line.
+pub fn label_laws()
+    ensures fresh { (size : ℕ) (a : List ℕ) → AreLabelled (machine_of (fresh_system size) a) }
+    ensures stored { (image : List (List ℕ)) (slots : List Slot) (a : List ℕ) → slots_of image ≡ Ok slots → AreLabelled (machine_of (start_system image slots) a) }
+    ensures kept { (s : System) (line : Line) (ends : List Ended) (memory : Bool) (a : List ℕ) → AreLabelled (machine_of s a) → AreLabelled (machine_of (line_turn s line ends memory).after a) }
 {}

@@ -8,17 +8,19 @@ ghost use Rattle.ark_table.specs.Slots.{Slot, slots_of};
 ghost use Rattle.ark_script.specs.Line as w;
 ghost use Rattle.ark_script.specs.Line.{Line};
 ghost use Rattle.ark_script.specs.Lines.{Meaning};
+ghost use Rattle.ark_script.specs.Text.{text};
 ghost use Rattle.ark_script.specs.declared.said.Said.TheVariants as said;
 ghost use Rattle.ark_machine.specs.Machine.{Machine, unmade, at};
 ghost use Rattle.ark_machine.specs.Row.{Row, Ended, answer, synced_by};
 ghost use Rattle.ark_machine.specs.System.{System, fresh_system, machine_of, set_machine, owner, line_turn};
 ghost use Rattle.ark_machine.specs.Sockets.{sent_reaped};
 ghost use Rattle.ark_machine.specs.Start.{start_system};
-ghost use Rattle.ark_machine.specs.Plane.{Plane, blocks_at, granted};
+ghost use Rattle.ark_machine.specs.Plane.{Plane, blocks_at, asked_blocks};
+ghost use Rattle.ark_machine.specs.Built.{turn};
 ghost use Rattle.ark_machine.specs.Follow.{PerformsFor};
 ghost use Rattle.ark_machine.specs.Grants.{GrantsApart};
 ghost use Rattle.ark_machine.specs.Replies.{Answers, EachAnswers, turn_for, system_after, Replies};
-ghost use Rattle.ark_machine.specs.Sending.{IsLetOut, AllKeep, PassesWithin};
+ghost use Rattle.ark_machine.specs.Sending.{IsLetOut, AllKeep, PassesWithin, SendsFront, DeliversFront};
 ghost use Rattle.ark_machine.specs.Paced.{StandsPaced};
 ghost use Rattle.ark_machine.specs.Confined.{AllAllowed, EndsAtFailure, Confined, readable, writable};
 ghost use Rattle.ark_machine.specs.Private.{Play, after_plays, inputs_of, replies_to, private_replies, private_machine};
@@ -31,6 +33,7 @@ ghost use Rattle.ark_machine.specs.Refused.{is_told_late, is_of_sending, may_lea
 /// assigned to the card takes it. Each queue keeps its rate after a line if it did before, with no pass in the time to come, and
 /// the blocks of the line's device calls, as far as they are made, are within the rate of the storage card that it moves; at the
 /// start of a run, on a fresh device or a stored one, there is no pass. So whoever answers as the machines do is confined.
+/// Where the first bytes of a reply show a frame that goes out or in, it is let out or in, within the rate of its card's queue.
 pub fn confinement_laws()
     ensures touches { (s : System) (line : Line) (ends : List Ended) (memory : Bool) (es : List Event) → PerformsFor s line (line_turn s line ends memory).calls es (owner line) → AllAllowed s line es }
     ensures passes { (s : System) (line : Line) (ends : List Ended) (memory : Bool) (es : List Event) → StandsPaced s → PerformsFor s line (line_turn s line ends memory).calls es (owner line) → PassesWithin s line es }
@@ -41,6 +44,8 @@ pub fn confinement_laws()
     ensures fresh { (size : ℕ) → StandsPaced (fresh_system size) }
     ensures stored { (image : List (List ℕ)) (slots : List Slot) → StandsPaced (start_system image slots) }
     ensures confined { (s : System) (lines : List (List ℕ)) (whole : List (List Event)) (unfinished : List Event) → StandsPaced s → Replies s lines whole unfinished → Confined s lines whole unfinished }
+    ensures front_sends { (s : System) (m : Meaning) (ends : List Ended) (memory : Bool) (output more : List ℕ) → StandsPaced s → text (turn s m ends memory).said (turn s m ends memory).bytes ≡ output ++ more → SendsFront s m output }
+    ensures front_delivers { (s : System) (m : Meaning) (ends : List Ended) (memory : Bool) (output more : List ℕ) → StandsPaced s → text (turn s m ends memory).said (turn s m ends memory).bytes ≡ output ++ more → DeliversFront s m output }
 {}
 
 /// No block is granted twice, and each that is granted is a data block: so it is of the slots that are read from an image, and
@@ -50,7 +55,7 @@ pub fn grant_laws()
     ensures stored { (image : List (List ℕ)) (slots : List Slot) → slots_of image ≡ Ok slots → GrantsApart (start_system image slots).plane }
     ensures kept { (s : System) (line : Line) (ends : List Ended) (memory : Bool) → GrantsApart s.plane → GrantsApart (line_turn s line ends memory).after.plane }
     ensures apart { (p : Plane) (a b l k : List ℕ) (n : ℕ) → GrantsApart p → bytes_eq a b ≡ false → Contains (blocks_at p a l) n → Contains (blocks_at p b k) n → ⊥ }
-    ensures new_blocks { (p : Plane) (line : Line) (b k : List ℕ) (n : ℕ) → Contains (granted p line) n → Contains (blocks_at p b k) n → ⊥ }
+    ensures new_blocks { (p : Plane) (line : Line) (b k : List ℕ) (n : ℕ) → Contains (asked_blocks p line) n → Contains (blocks_at p b k) n → ⊥ }
     ensures reads { (s : System) (line : Line) (a b l : List ℕ) (n : ℕ) → GrantsApart s.plane → owner line ≡ Some a → bytes_eq a b ≡ false → Contains (readable s line) n → Contains (blocks_at s.plane b l) n → ⊥ }
     ensures writes { (s : System) (line : Line) (a b l : List ℕ) (n : ℕ) → GrantsApart s.plane → owner line ≡ Some a → bytes_eq a b ≡ false → Contains (writable s line) n → Contains (blocks_at s.plane b l) n → ⊥ }
 {}

@@ -7,7 +7,7 @@ use Rattle.ark_script.specs.Line.{Line}
 use Rattle.ark_script.specs.Lines.{Meaning, Says, FirstSay}
 use Rattle.ark_machine.specs.Machine.{Machine, Held, raw_at, vsic_at, label_numbered}
 use Rattle.ark_machine.specs.Control.{is_open_on}
-use Rattle.ark_machine.specs.Plane.{blocks_at, slot_of, granted}
+use Rattle.ark_machine.specs.Plane.{blocks_at, slot_of, asked_blocks}
 use Rattle.ark_machine.specs.System.{System, machine_of}
 use Rattle.ark_machine.specs.Follow.{slots_for}
 use Rattle.ark_machine.specs.Sending.{SendsWithin, DeliversWithin, AllKeep, PassesWithin}
@@ -45,8 +45,8 @@ writable s (w.log a l v) = blocks_at s.plane a l
 writable s (w.queue a l v) = blocks_at s.plane a l
 writable s (w.settle a l) = blocks_at s.plane a l
 writable s (w.dev a v) = reach s a v
-writable s (w.vsa a l n k) = slots_for s.plane a (w.vsa a l n k) ++ granted s.plane (w.vsa a l n k)
-writable s (w.grow a l n) = slots_for s.plane a (w.grow a l n) ++ granted s.plane (w.grow a l n)
+writable s (w.vsa a l n k) = slots_for s.plane a (w.vsa a l n k) ++ asked_blocks s.plane (w.vsa a l n k)
+writable s (w.grow a l n) = slots_for s.plane a (w.grow a l n) ++ asked_blocks s.plane (w.grow a l n)
 writable s (w.drop a x) = slots_for s.plane a (w.drop a x)
 writable s _ = []
 

@@ -8,7 +8,7 @@ use Rattle.ark_script.specs.Line.{Line}
 use Rattle.ark_script.specs.Lines.{Meaning}
 use Rattle.ark_machine.specs.Row
 use Rattle.ark_machine.specs.Row.{Call, Ended}
-use Rattle.ark_machine.specs.Plane.{Plane, blocks_at, granted, slot_of, max_slots, free_slot}
+use Rattle.ark_machine.specs.Plane.{Plane, blocks_at, asked_blocks, slot_of, max_slots, free_slot}
 use Rattle.ark_machine.specs.Granting.{new_slot, with_more}
 use Rattle.ark_machine.specs.System.{System, owner}
 
@@ -58,7 +58,7 @@ grown_content slot more = unwrap_or (option_map (λ t. slot_bytes (with_more t m
 
 abbrev pub slot_content : Plane → List ℕ → Line → List ℕ
 slot_content p a (w.vsa b s n k) = slot_bytes (new_slot p a s k n)
-slot_content p a (w.grow b s n) = grown_content (slot_of p a s) (granted p (w.grow b s n))
+slot_content p a (w.grow b s n) = grown_content (slot_of p a s) (asked_blocks p (w.grow b s n))
 slot_content p a _ = zero_block
 
 -- The event is what came of this call, where these are the blocks under a label. A line of an application alone neither grants
@@ -77,7 +77,7 @@ MakesAt blocks Row.writes_slot e = ⊥
 
 -- the same in any line of application a
 abbrev pub Makes : System → List ℕ → Line → Call → Event → Type 0
-Makes s a line (Row.zeroes_new k) e = WritesAt (slice_get (granted s.plane line) k) zero_block e
+Makes s a line (Row.zeroes_new k) e = WritesAt (slice_get (asked_blocks s.plane line) k) zero_block e
 Makes s a line Row.writes_slot e = WritesAt (slice_get (slots_for s.plane a line) 0) (slot_content s.plane a line) e
 Makes s a line c e = MakesAt (blocks_at s.plane a) c e
 

@@ -59,8 +59,8 @@ tried now ok count m v x j js calls =
 
 -- the first of these that applies to the next block, before it is tried
 abbrev pub gated : Machine → List ℕ → Vsic → Job → List Job → Bool → Move → Move
-gated m v x j js is_granted move =
-    if not is_granted then ends m v x j js outcome.NoGrant []
+gated m v x j js is_bound move =
+    if not is_bound then ends m v x j js outcome.NoGrant []
     else if is_over_burst x.pace 512 then ends m v x j js outcome.OverBurst []
     else if not (may_pass x.pace m.now 512) then moves m said.Held []
     else move
@@ -71,8 +71,8 @@ abbrev pub raw_numbered : Machine → ℕ → Option Raw
 raw_numbered m n = option_and_then (λ h. as_raw h.object) (at_serial m n)
 
 -- the area is held still, and bound to the card
-abbrev pub is_granted : Machine → Vsic → ℕ → Bool
-is_granted m x n = list_any (λ b. b == n) x.bound && is_some (at_serial m n)
+abbrev pub is_bound : Machine → Vsic → ℕ → Bool
+is_bound m x n = list_any (λ b. b == n) x.bound && is_some (at_serial m n)
 
 -- block k of a transfer was tried: a put writes the buffer's block to the area, a get the area's block to the buffer
 abbrev pub transferred : Machine → Transfer → ℕ → Ended → Option Raw → Machine
@@ -120,7 +120,7 @@ abbrev pub moved : Machine → List ℕ → Vsic → List Job → Ended → Move
 moved m v x [] e = moves m said.Idle []
 moved m v x (flush ∷ js) e = ends (synced e.ok m) v x flush js (outcome_of e.ok) (syncs ∷ [])
 moved m v x (transfer t ∷ js) e =
-    gated m v x (transfer t) js (is_granted m x t.vsa)
+    gated m v x (transfer t) js (is_bound m x t.vsa)
     (tried m.now e.ok t.count (transferred m t x.queue.moved e (raw_numbered m t.vsa)) v x (transfer t) js (transfer_call m t x.queue.moved ∷ []))
 moved m v x (phase p ∷ js) e = phase_moves_on (log_on m v) m v x p js e
 

@@ -57,6 +57,7 @@ slot_of p a l = find (λ s. is_slot_of a l s) p.slots
 abbrev pub blocks_at : Plane → List ℕ → List ℕ → List ℕ
 blocks_at p a l = unwrap_or (option_map (λ s. s.blocks) (slot_of p a l)) []
 
+-- the block is in a slot
 abbrev pub is_granted : List Slot → ℕ → Bool
 is_granted slots n = list_any (λ s. list_any (λ b. b == n) s.blocks) slots
 
@@ -88,8 +89,8 @@ abbrev pub lowest : Plane → ℕ → List ℕ
 lowest p n = take n (free_blocks p)
 
 -- the blocks that the line asks for
-abbrev pub granted : Plane → Line → List ℕ
-granted p line = unwrap_or (option_map (λ n. lowest p n) (asked line)) []
+abbrev pub asked_blocks : Plane → Line → List ℕ
+asked_blocks p line = unwrap_or (option_map (λ n. lowest p n) (asked line)) []
 
 -- the blocks that stand before them in their area
 abbrev pub before_them : Plane → Line → List ℕ
@@ -136,7 +137,7 @@ recorded p line ends memory = record {
   limit = is_at_limit p line;
   no_nic = is_none p.own;
   no_space = unwrap_or (option_map (λ n. nat_lt (length (free_blocks p)) n) (asked line)) false;
-  scattered = nat_lt max_runs (length (runs_of (before_them p line ++ granted p line)));
+  scattered = nat_lt max_runs (length (runs_of (before_them p line ++ asked_blocks p line)));
   overlap = overlapped p line;
   table_failed = is_change p line && p.failed;
   own = p.own;

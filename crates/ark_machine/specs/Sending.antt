@@ -1,5 +1,5 @@
 -- The rates that queues keep, what passes them in a line, and the frames that go out and come in.
-use Rattle.std.specs.Prelude.{◌≡◌, ℕ, List, [], ◌∷◌, ◌++◌, length, IsTrue, Option, Some, None, option_and_then, Ok}
+use Rattle.std.specs.Prelude.{◌≡◌, ℕ, List, [], ◌∷◌, ◌++◌, length, codes, IsTrue, Option, Some, None, option_and_then, Ok}
 use Rattle.std.specs.List.{AllByRecursion}
 use Rattle.ark_media.specs.Journal.{Event, Read, Write, Sync, Out}
 use Rattle.ark_vic.specs.Pace.{Pass, Keeps}
@@ -97,6 +97,12 @@ IsPacedOut s _ frame = ⊥
 abbrev pub SendsWithin : System → Meaning → List ℕ → Type 0
 SendsWithin s m output = (frame : List ℕ) → output ≡ text said.Sent frame → (sent : List ℕ) × (output ≡ text said.Sent sent) × IsLetOut s m sent × IsPacedOut s m sent
 
+-- The first bytes of a reply's line, none, some or all: where they begin with the word of a frame that went out, they are those
+-- of the line of a frame that was let out and is within the rate.
+abbrev pub SendsFront : System → Meaning → List ℕ → Type 0
+SendsFront s m output = (rest : List ℕ) → output ≡ codes "sent" ++ rest →
+    (sent more : List ℕ) × (text said.Sent sent ≡ output ++ more) × IsLetOut s m sent × IsPacedOut s m sent
+
 -- A frame comes to card v of application a: a receive filter that is assigned to the card takes it, and it is within the rate
 -- of the card's receive queue.
 pub record IsLetIn (s : System) (a v frame : List ℕ) : Type 0 where
@@ -113,3 +119,9 @@ IsDelivered s _ a v = ⊥
 -- what was put out for a line: where it shows that a frame was delivered, the frame was let in there
 abbrev pub DeliversWithin : System → Meaning → List ℕ → Type 0
 DeliversWithin s m output = (a v : List ℕ) → output ≡ text (said.Delivered a v) [] → (b u : List ℕ) × (output ≡ text (said.Delivered b u) []) × IsDelivered s m b u
+
+-- the first bytes of a reply's line: where they begin with the word of a frame that was delivered, they are those of the line of
+-- one that was let in where that line says
+abbrev pub DeliversFront : System → Meaning → List ℕ → Type 0
+DeliversFront s m output = (rest : List ℕ) → output ≡ codes "delivered" ++ rest →
+    (b u more : List ℕ) × (text (said.Delivered b u) [] ≡ output ++ more) × IsDelivered s m b u

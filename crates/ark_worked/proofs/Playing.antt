@@ -10,7 +10,7 @@ use Rattle.ark_script.specs.Line.{Line}
 use Rattle.ark_script.specs.Text.{reply_words}
 use Rattle.ark_machine.specs.Row
 use Rattle.ark_machine.specs.Row.{Call}
-use Rattle.ark_machine.specs.Plane.{blocks_at, granted}
+use Rattle.ark_machine.specs.Plane.{blocks_at, asked_blocks}
 use Rattle.ark_machine.specs.System.{System, Turn, line_turn, owner}
 use Rattle.ark_machine.specs.Follow.{slots_for, slot_content, is_repeated, ends_of, Makes, Took, ReadsAt, WritesAt, ReadsIn, WritesIn, ZeroesIn, IsSync, Follow, ended, fails, goes_on, again, passes}
 
@@ -76,7 +76,7 @@ makes s a line (Row.writes_in l) e = writes_in (blocks_at s.plane a l) e
 makes s a line (Row.writes_first l) e = writes_in (take 1 (blocks_at s.plane a l)) e
 makes s a line (Row.reads_some l) e = reads_in (blocks_at s.plane a l) e
 makes s a line (Row.zeroes_some l) e = zeroes_in (drop 1 (blocks_at s.plane a l)) e
-makes s a line (Row.zeroes_new k) e = writes_at (slice_get (granted s.plane line) k) zero_block e
+makes s a line (Row.zeroes_new k) e = writes_at (slice_get (asked_blocks s.plane line) k) zero_block e
 makes s a line Row.writes_slot e = writes_at (slice_get (slots_for s.plane a line) 0) (slot_content s.plane a line) e
 
 abbrev is_none_left : List Event → Bool
@@ -180,7 +180,7 @@ makes_is s a line (Row.writes_in l) e h = writes_in_is (blocks_at s.plane a l) e
 makes_is s a line (Row.writes_first l) e h = writes_in_is (take 1 (blocks_at s.plane a l)) e h
 makes_is s a line (Row.reads_some l) e h = reads_in_is (blocks_at s.plane a l) e h
 makes_is s a line (Row.zeroes_some l) e h = zeroes_in_is (drop 1 (blocks_at s.plane a l)) e h
-makes_is s a line (Row.zeroes_new k) e h = writes_at_is (slice_get (granted s.plane line) k) zero_block e h
+makes_is s a line (Row.zeroes_new k) e h = writes_at_is (slice_get (asked_blocks s.plane line) k) zero_block e h
 makes_is s a line Row.writes_slot e h = writes_at_is (slice_get (slots_for s.plane a line) 0) (slot_content s.plane a line) e h
 
 none_left : (es : List Event) → is_none_left es ≡ true → es ≡ []

@@ -12,7 +12,7 @@ use Rattle.ark_machine.specs.Row.{answer}
 use Rattle.ark_machine.specs.Step.{step}
 use Rattle.ark_machine.specs.System.{System, fresh_system, line_turn}
 use Rattle.ark_machine.specs.Objects.{Paced}
-use Rattle.ark_machine.specs.Sending.{KeepsWith, IsPacedOut}
+use Rattle.ark_machine.specs.Sending.{KeepsWith, IsPacedOut, SendsFront}
 use Rattle.ark_machine.specs.Confined.{IsPartConfined}
 use Rattle.ark_worked.proofs.Playing.{played}
 use Rattle.ark_worked.proofs.Scripts.{quiet}
@@ -63,3 +63,32 @@ text_length = refl
 pub second-refused : IsPartConfined once (Ok (w.dev a v)) again → ⊥
 unfolding encode_with digits
 second-refused c = let s = c.sends frame refl in too_much s.0 s.3 (shown_length s.0 (sym (ap (λ (x : List ℕ). length x) s.1) ∙ text_length))
+
+-- A reply that was cut is not confined either, where six bytes of the frame came out.
+
+abbrev cut : List ℕ
+cut = codes "sent 414243444546"
+
+cut_length : length cut ≡ 17
+cut_length = refl
+
+shown_least : (sent : List ℕ) → 17 ≤ length (text said.Sent sent) → 6 ≤ length sent
+shown_least [] h = absurd (omega (arith, h))
+shown_least (b ∷ bs) h =
+    let n = length-encode_with lower_digits (b ∷ bs) in
+    let m = length-append (encode_lower (b ∷ bs)) (10 ∷ []) in
+    omega (arith, h, n, m)
+
+above_least : (n : ℕ) → KeepsWith (Some pace) ((0, n) ∷ []) → 6 ≤ n → ⊥
+above_least n keeps least = let most : 15 + (n + 0) ≤ 20 + 10 * 0 = keeps 0 0 (omega arith) in absurd (omega (arith, most, least))
+
+too_many : (sent : List ℕ) → IsPacedOut once (Ok (w.dev a v)) sent → 6 ≤ length sent → ⊥
+unfolding step answer
+too_many sent keeps least = above_least (length sent) keeps least
+
+pub cut-refused : SendsFront once (Ok (w.dev a v)) cut → ⊥
+cut-refused c =
+    let s = c (codes " 414243444546") refl in
+    let all : length (text said.Sent s.0) ≡ length (cut ++ s.1) = ap (λ (x : List ℕ). length x) s.2 in
+    let both = length-append cut s.1 in
+    too_many s.0 s.4 (shown_least s.0 (omega (arith, all, both, cut_length)))

@@ -23,6 +23,7 @@ use Rattle.ark_cli.specs.Words.{IsRun}
 use Rattle.ark_cli.specs.Line.{limit}
 use Rattle.ark_cli.specs.Opening.{SinceMake, IsOpening}
 use Rattle.ark_cli.specs.Cut.{CutReplies}
+use Rattle.ark_cli.proofs.Cutting.{cut_confined_of}
 use Rattle.ark_cli.specs.Ending.{RecoversAtFronts, PutsLine, Closes, HasRun, Ends, IsClosed, Does, runs}
 
 abbrev pub line : List ℕ → List ℕ
@@ -227,7 +228,7 @@ cut_fronts = open_fronts 200 opened (Out (codes "ok") ∷ []) (lines_of one_line
 sink_run : Does run_words told_first (told_of cut_reply) (beside_first one_line) (beside_of one_line [] 0 1) Sink
 sink_run = runs 200 (codes "d") is_run
     (closed_run Sink cut_reply one_line [] 0 1 (Out (codes "ok") ∷ []) [] (refl, (refl, (refl, (refl, tt)))) cut_fronts
-    (is_opening, no_reply, confined_of (fresh_system 200) (lines_of one_line) [] (Out (codes "ok") ∷ []) tt no_reply) refl refl (λ h is. cut_shows) (λ e. cc) (λ e. cc) (lit≤ tt))
+    (is_opening, no_reply, confined_of (fresh_system 200) (lines_of one_line) [] (Out (codes "ok") ∷ []) tt no_reply) refl refl (λ h is. (cut_shows, cut_confined_of (fresh_system 200) (lines_of one_line) [] (Out (codes "ok") ∷ []) tt cut_shows)) (λ e. cc) (λ e. cc) (lit≤ tt))
 
 sink_output : output_of cut_reply ≡ line (codes "ready 200 0") ++ codes "ok"
 sink_output = refl

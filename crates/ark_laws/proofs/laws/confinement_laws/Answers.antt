@@ -1,4 +1,5 @@
 use Rattle.ark_laws.proofs.Confining.{line_confined, confined_of}
+use Rattle.ark_laws.proofs.FramesWithin.{sends_front, delivers_front}
 use Rattle.ark_laws.proofs.Moving.{line_passes}
 use Rattle.ark_laws.proofs.Sent.{line_sends, line_paced, paced_keep, start_paced}
 use Rattle.ark_laws.proofs.laws.confinement_laws.Goals as goal
@@ -14,4 +15,6 @@ returns c = record {
   fresh = λ size. tt;
   stored = start_paced;
   confined = confined_of;
+  front_sends = sends_front;
+  front_delivers = delivers_front;
 }
