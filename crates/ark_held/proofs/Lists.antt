@@ -23,6 +23,10 @@ not_some o a none some = false≢true (ap is_some (sym none ∙ some))
 pub some_same : {A : Type 0} (o : Option A) (a b : A) → o ≡ Some a → o ≡ Some b → a ≡ b
 some_same o a b p q = ap (λ z. unwrap_or z a) (sym p ∙ q)
 
+pub none_of : {A : Type 0} (o : Option A) → is_some o ≡ false → o ≡ None
+none_of None none = refl
+none_of (Some a) none = absurd (false≢true (sym none))
+
 -- Names.
 
 pub same_name : (l k : List ℕ) → bytes_eq l k ≡ true → l ≡ k
@@ -109,6 +113,9 @@ pub value_first : (p : List ℕ × Capability) (ps : Labels) → value_at (p ∷
 value_first p ps = ap (λ b. cond b (Some p.1) (value_at ps p.0)) (name_same p.0 p.0 refl)
 
 -- Sums.
+
+pub plus_zero : (n : ℕ) → n + 0 ≡ n
+plus_zero n = omega arith
 
 pub total_last : {X : Type 0} (f : X → ℕ) (xs : List X) (y : X) → total f (xs ++ y ∷ []) ≡ total f xs + f y
 total_last f [] y = omega arith
