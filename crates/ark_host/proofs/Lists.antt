@@ -1,30 +1,13 @@
 -- Members of lists, one by one.
-use Rattle.std.proofs.Common.{◌≡◌, ◌⊎◌, inl, inr, ℕ, zero, suc, ◌<◌, ◌≤◌, Bool, true, false, cond, ◌||◌, List, [], ◌∷◌, length, take, drop, map, get_or, set, nat_lt, refl, sym, ◌∙◌, ap, arith, Contains}
+use Rattle.std.proofs.Common.{◌≡◌, ◌⊎◌, inl, inr, ℕ, zero, suc, ◌<◌, ◌≤◌, Bool, true, false, cond, ◌||◌, List, [], ◌∷◌, length, map, get_or, set, nat_lt, refl, sym, ◌∙◌, ap, arith}
 use Rattle.std.specs.Prelude.{Some, None, find, position, filter as select, is_some, slice_get, unwrap_or}
 use Rattle.std.specs.List.{list_any, position_or_len}
 use Rattle.std.proofs.lemmas.Bool.{false≢true}
 use Rattle.std.proofs.lemmas.Bool.Decides.{nat_tests}
 use Rattle.std.proofs.lemmas.List.Quantifiers.{position-Some}
 use Rattle.std.proofs.lemmas.List.Folds.{find_at}
+use Rattle.ark_held.proofs.Members.{In}
 use Rattle.ark_host.proofs.Machines.{by_test}
-
--- x is the first, or in the rest
-abbrev pub In : {X : Type 0} → List X → X → Type 0
-In [] x = ⊥
-In (y ∷ ys) x = (y ≡ x) ⊎ In ys x
-
-in_at : {X : Type 0} (xs : List X) (k : ℕ) (x : X) → k < length xs → get_or xs k x ≡ x → In xs x
-in_at [] k x lt e = absurd (omega arith)
-in_at (y ∷ ys) zero x lt e = inl e
-in_at (y ∷ ys) (suc k) x lt e = inr (in_at ys k x (omega arith) e)
-
-pub contains_in : {X : Type 0} (xs : List X) (x : X) → Contains xs x → In xs x
-contains_in xs x h = in_at xs h.0 x h.1 h.2
-
-pub in_contains : {X : Type 0} (xs : List X) (x : X) → In xs x → Contains xs x
-in_contains [] x h = absurd h
-in_contains (y ∷ ys) x (inl e) = (0, omega arith, e)
-in_contains (y ∷ ys) x (inr h) = let c = in_contains ys x h in (suc c.0, omega (arith, c.1), c.2)
 
 module _ {X : Type 0} (p : X → Bool) where
   pub find_in : (xs : List X) (t : X) → find p xs ≡ Some t → In xs t × (p t ≡ true)
@@ -50,17 +33,6 @@ module _ {X : Type 0} (p : X → Bool) where
       first : p y ≡ true → (y ≡ x) ⊎ In (select p ys) x → (In (select p ys) x → In ys x × (p x ≡ true)) → ((y ≡ x) ⊎ In ys x) × (p x ≡ true)
       first q (inl e) rest = (inl e, ap p (sym e) ∙ q)
       first q (inr g) rest = let r = rest g in (inr r.0, r.1)
-
-pub in_take : {X : Type 0} (n : ℕ) (xs : List X) (x : X) → In (take n xs) x → In xs x
-in_take zero xs x h = absurd h
-in_take (suc n) [] x h = absurd h
-in_take (suc n) (y ∷ ys) x (inl e) = inl e
-in_take (suc n) (y ∷ ys) x (inr h) = inr (in_take n ys x h)
-
-pub in_drop : {X : Type 0} (n : ℕ) (xs : List X) (x : X) → In (drop n xs) x → In xs x
-in_drop zero xs x h = h
-in_drop (suc n) [] x h = absurd h
-in_drop (suc n) (y ∷ ys) x h = inr (in_drop n ys x h)
 
 -- Places.
 
