@@ -1,5 +1,5 @@
 -- Two buffers, as words on the bytes of both come to their rows.
-use Rattle.std.proofs.Common.{◌≡◌, ℕ, ◌<◌, ◌≤◌, true, false, not, nat_lt, List, [], ◌∷◌, length, refl, sym, ◌∙◌, ap, subst}
+use Rattle.std.proofs.Common.{◌≡◌, ℕ, ◌<◌, ◌≤◌, true, not, nat_lt, List, [], ◌∷◌, length, refl, sym, ◌∙◌, ap, subst}
 use Rattle.std.specs.Prelude.{Some, None, Result, Ok, Err, is_none, is_ok, ◌||◌}
 use Rattle.std.proofs.lemmas.Bool.{false≢true}
 use Rattle.ark_base.specs.Conditions.{Conditions, none, early}
@@ -20,7 +20,7 @@ use Rattle.ark_held.specs.declared.app.App.{App}
 use Rattle.ark_held.specs.declared.buffer.Buffer as kept
 use Rattle.ark_held.proofs.Doing.{refused_first, refuses}
 use Rattle.ark_own.specs.Keys.{buffer_key, both_keys}
-use Rattle.ark_own.proofs.OfBuffers.{HasBuffer, FoundAs, found_buffer, its, never_gone, lent_same, far_true, far_false}
+use Rattle.ark_own.proofs.OfBuffers.{HasBuffer, FoundAs, found_buffer, its, never_gone, len_same, lent_same, lt_true, lt_false}
 
 -- the conditions of a word on the first buffer's bytes up to `near`, and the second one's up to `far`
 abbrev pub conditions : Machine → List ℕ → List ℕ → ℕ → ℕ → Conditions
@@ -90,52 +90,46 @@ module _ (t : Told) (app : App) (b c : List ℕ) (near far : ℕ) (row rest : Ma
     no_second e gone = refused e (λ y h. absurd (never_gone app c k second_is y h gone))
 
     module _ (one two : kept.Buffer) (here : slot app.store.buffers j ≡ Some one) (there : slot app.store.buffers k ≡ Some two) where
-      pub past_first : one.len < near → Acts t app app row [] (said.Refused r.OutOfRange) []
-      past_first short = refused r.OutOfRange (λ y h.
+      -- its conditions, by what the table keeps
+      kept_conditions : (y : Beyond) → Holds (around y app)
+          → conditions y.machine b c near far ≡ record none { out_of_range = nat_lt one.len near || nat_lt two.len far; lent = is_none one.buf || is_none two.buf }
+      kept_conditions y h =
           let p = its app b j first_is y h in
           let q = its app c k second_is y h in
-          let past = far_true app b j first_is one here y p near short in
-          rw (h.made, p.there, q.there, p.object, q.object, past) refl)
+          let len = len_same app b j first_is one here y p in
+          let size = len_same app c k second_is two there y q in
+          let lent = lent_same app b j first_is one here y p in
+          let away = lent_same app c k second_is two there y q in
+          rw (h.made, p.there, q.there, p.object, q.object, len, size, lent, away) refl
+
+      pub past_first : one.len < near → Acts t app app row [] (said.Refused r.OutOfRange) []
+      past_first short = refused r.OutOfRange (λ y h. let past = lt_true one.len near short in ap early (kept_conditions y h) ∙ rw past refl)
 
       module _ (enough : near ≤ one.len) where
         pub past_second : two.len < far → Acts t app app row [] (said.Refused r.OutOfRange) []
         past_second short = refused r.OutOfRange (λ y h.
-            let p = its app b j first_is y h in
-            let q = its app c k second_is y h in
-            let within = far_false app b j first_is one here y p near enough in
-            let past = far_true app c k second_is two there y q far short in
-            rw (h.made, p.there, q.there, p.object, q.object, within, past) refl)
+            let within = lt_false one.len near enough in
+            let past = lt_true two.len far short in
+            ap early (kept_conditions y h) ∙ rw (within, past) refl)
 
         module _ (fits : far ≤ two.len) where
+          -- inside both, what is lent decides
+          both_inside : (y : Beyond) → Holds (around y app) → early (conditions y.machine b c near far) ≡ early (record none { lent = is_none one.buf || is_none two.buf })
+          both_inside y h =
+              let within = lt_false one.len near enough in
+              let too = lt_false two.len far fits in
+              ap early (kept_conditions y h) ∙ rw (within, too) refl
+
           pub first_away : one.buf ≡ None → Acts t app app row [] (said.Refused r.Lent) []
-          first_away gone = refused r.Lent (λ y h.
-              let p = its app b j first_is y h in
-              let q = its app c k second_is y h in
-              let within = far_false app b j first_is one here y p near enough in
-              let too = far_false app c k second_is two there y q far fits in
-              let lent : is_lent y.machine b ≡ true = lent_same app b j first_is one here y p ∙ ap (λ o. is_none o) gone in
-              rw (h.made, p.there, q.there, p.object, q.object, within, too, lent) refl)
+          first_away gone = refused r.Lent (λ y h. both_inside y h ∙ rw gone refl)
 
           module _ (piece : Piece) (right : one.buf ≡ Some piece) where
             pub second_away : two.buf ≡ None → Acts t app app row [] (said.Refused r.Lent) []
-            second_away gone = refused r.Lent (λ y h.
-                let p = its app b j first_is y h in
-                let q = its app c k second_is y h in
-                let within = far_false app b j first_is one here y p near enough in
-                let too = far_false app c k second_is two there y q far fits in
-                let free : is_lent y.machine b ≡ false = lent_same app b j first_is one here y p ∙ ap (λ o. is_none o) right in
-                let lent : is_lent y.machine c ≡ true = lent_same app c k second_is two there y q ∙ ap (λ o. is_none o) gone in
-                rw (h.made, p.there, q.there, p.object, q.object, within, too, free, lent) refl)
+            second_away gone = refused r.Lent (λ y h. both_inside y h ∙ rw (right, gone) refl)
 
             -- nothing refuses it
             pub done : (y : Beyond) (g : Given) → Holds (around y app) → (other : Piece) → two.buf ≡ Some other → row y.machine g ≡ rest y.machine g
             unfolding answer
             done y g h other its_right =
-                let p = its app b j first_is y h in
-                let q = its app c k second_is y h in
-                let within = far_false app b j first_is one here y p near enough in
-                let too = far_false app c k second_is two there y q far fits in
-                let free : is_lent y.machine b ≡ false = lent_same app b j first_is one here y p ∙ ap (λ o. is_none o) right in
-                let also : is_lent y.machine c ≡ false = lent_same app c k second_is two there y q ∙ ap (λ o. is_none o) its_right in
-                let none : early (conditions y.machine b c near far) ≡ None = rw (h.made, p.there, q.there, p.object, q.object, within, too, free, also) refl in
+                let none : early (conditions y.machine b c near far) ≡ None = both_inside y h ∙ rw (right, its_right) refl in
                 is_row y.machine g ∙ rw none refl
