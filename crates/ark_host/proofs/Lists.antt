@@ -2,8 +2,10 @@
 use Rattle.std.proofs.Common.{◌≡◌, ◌⊎◌, inl, inr, ℕ, zero, suc, ◌<◌, ◌≤◌, Bool, true, false, cond, ◌||◌, List, [], ◌∷◌, length, map, get_or, set, nat_lt, refl, sym, ◌∙◌, ap, arith}
 use Rattle.std.specs.Prelude.{Some, None, find, position, filter as select, is_some, slice_get, unwrap_or}
 use Rattle.std.specs.List.{list_any, position_or_len}
+use Rattle.std.proofs.Math.Bool.{or-true}
 use Rattle.std.proofs.lemmas.Bool.{false≢true}
 use Rattle.std.proofs.lemmas.Bool.Decides.{nat_tests}
+use Rattle.std.proofs.lemmas.Option.{slice_get_past}
 use Rattle.std.proofs.lemmas.List.Quantifiers.{position-Some}
 use Rattle.std.proofs.lemmas.List.Folds.{find_at}
 use Rattle.ark_held.proofs.Members.{In}
@@ -19,11 +21,7 @@ module _ {X : Type 0} (p : X → Bool) where
   pub any_in : (xs : List X) (x : X) → In xs x → p x ≡ true → list_any p xs ≡ true
   any_in [] x h is = absurd h
   any_in (y ∷ ys) x (inl e) is = ap (λ b. b || list_any p ys) (ap p e ∙ is)
-  any_in (y ∷ ys) x (inr h) is = ap (λ b. p y || b) (any_in ys x h is) ∙ or_true (p y)
-    where
-      or_true : (b : Bool) → (b || true) ≡ true
-      or_true true = refl
-      or_true false = refl
+  any_in (y ∷ ys) x (inr h) is = ap (λ b. p y || b) (any_in ys x h is) ∙ or-true (p y)
 
   pub in_select : (xs : List X) (x : X) → In (select p xs) x → In xs x × (p x ≡ true)
   in_select [] x h = absurd h
@@ -41,17 +39,11 @@ get_there [] k d lt = absurd (omega arith)
 get_there (x ∷ xs) zero d lt = refl
 get_there (x ∷ xs) (suc k) d lt = get_there xs k d (omega arith)
 
-get_none : {X : Type 0} (xs : List X) (k : ℕ) → length xs ≤ k → slice_get xs k ≡ None
-get_none [] zero le = refl
-get_none [] (suc k) le = refl
-get_none (x ∷ xs) zero le = absurd (omega arith)
-get_none (x ∷ xs) (suc k) le = get_none xs k (omega arith)
-
 module _ {X : Type 0} (p : X → Bool) where
   pub none_found : (xs : List X) → position p xs ≡ None → find p xs ≡ None
   none_found xs none = find_at p xs ∙ by_test (nat_lt (position_or_len p xs) (length xs)) (λ b. nat_lt (position_or_len p xs) (length xs) ≡ b → cond b (Some (position_or_len p xs)) None ≡ None → slice_get xs (position_or_len p xs) ≡ None)
       (λ yes q e. absurd (false≢true (sym (ap is_some e))))
-      (λ no q e. get_none xs (position_or_len p xs) (grind (arith, nat_tests))) refl none
+      (λ no q e. slice_get_past xs (position_or_len p xs) (grind (arith, nat_tests))) refl none
 
   find_first : (xs : List X) (i : ℕ) (d : X) → i < length xs → p (get_or xs i d) ≡ true → ((k : ℕ) → k < i → p (get_or xs k d) ≡ false) → find p xs ≡ Some (get_or xs i d)
   find_first [] i d lt at before = absurd (omega arith)
