@@ -1,5 +1,5 @@
 -- What stays where a word changes a buffer, its label and the application's memory, and nothing else that objects are compared with.
-use Rattle.std.proofs.Common.{◌≡◌, ℕ, ◌+◌, Bool, true, false, List, length, refl, ◌∙◌, ap, arith, nat_eq}
+use Rattle.std.proofs.Common.{◌≡◌, ℕ, Bool, true, List, length, refl, ◌∙◌, ap, arith, nat_eq}
 use Rattle.std.specs.Prelude.{Option, Some, None, option_map, slice_get}
 use Rattle.std.specs.Map.{lookup}
 use Rattle.ark_caps.specs.Labels.{value_at}
@@ -14,7 +14,6 @@ use Rattle.ark_held.specs.Words.{AreaList}
 use Rattle.ark_held.specs.Totals.{bit, total, uses}
 use Rattle.ark_held.specs.Kept.{BufferKept}
 use Rattle.ark_held.specs.Stored.{buffer_kept}
-use Rattle.ark_held.specs.Around.{Around}
 use Rattle.ark_held.specs.Held.{Fits, Holds}
 use Rattle.ark_held.specs.Keeps.{Keeps}
 use Rattle.ark_held.specs.Beyond.{Beyond, around}

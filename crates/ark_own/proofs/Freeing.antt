@@ -1,6 +1,6 @@
 -- The row of `free`: the buffer's label, its object and its frames go.
-use Rattle.std.proofs.Common.{◌≡◌, inl, ℕ, ◌+◌, ◌*◌, ◌<◌, ◌≤◌, Bool, true, false, not, nat_le, nat_lt, List, [], ◌∷◌, length, replicate, refl, sym, ◌∙◌, ap, arith, bytes_eq, nat_eq}
-use Rattle.std.specs.Prelude.{Option, Some, Ok, is_none, option_map, slice_range, slice_index_or, filter as select}
+use Rattle.std.proofs.Common.{◌≡◌, ℕ, ◌+◌, ◌*◌, Bool, true, false, not, nat_lt, List, [], ◌∷◌, length, replicate, refl, sym, ◌∙◌, ap, arith}
+use Rattle.std.specs.Prelude.{Option, Some, Ok, is_none, option_map, slice_range, slice_index_or}
 use Rattle.std.proofs.lemmas.Bool.Decides.{nat_tests}
 use Rattle.ark_base.specs.Conditions.{none}
 use Rattle.ark_media.specs.Calls.{Told}
@@ -9,14 +9,12 @@ use Rattle.ark_caps.specs.Labels.{value_at, others}
 use Rattle.ark_caps.specs.declared.capability.Capability.{Capability}
 use Rattle.ark_caps.specs.declared.capability.CapKind.TheVariants as cap_kind
 use Rattle.ark_region.specs.Frames.{Piece, frames_of, put}
-use Rattle.ark_machine.specs.Objects
-use Rattle.ark_machine.specs.Objects.{Object, Buffer}
 use Rattle.ark_machine.specs.Machine.{Machine, buffer_at, bytes_at, missing, without}
 use Rattle.ark_machine.specs.Buffers as rows
 use Rattle.ark_machine.specs.Buffers.{is_lent}
 use Rattle.ark_machine.specs.Row.{Row, Given, says, answer}
 use Rattle.ark_held.specs.Words.{Labels, AreaList}
-use Rattle.ark_held.specs.Totals.{bit, total, uses, covers, object_covers, cover_count, lent_count}
+use Rattle.ark_held.specs.Totals.{bit, uses, covers, object_covers, cover_count, lent_count}
 use Rattle.ark_held.specs.Kept.{BufferKept}
 use Rattle.ark_held.specs.Stored.{kept_of, buffer_kept, Gave}
 use Rattle.ark_held.specs.Around.{Around, piece_of}

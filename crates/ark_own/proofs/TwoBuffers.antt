@@ -21,7 +21,7 @@ use Rattle.ark_held.specs.declared.buffer.Buffer as kept
 use Rattle.ark_held.proofs.Lists.{lt_true, lt_false}
 use Rattle.ark_held.proofs.Doing.{refused_first, refuses}
 use Rattle.ark_own.specs.Keys.{buffer_key, both_keys}
-use Rattle.ark_own.proofs.OfBuffers.{HasBuffer, FoundAs, found_buffer, its, never_gone, len_same, lent_same}
+use Rattle.ark_own.proofs.OfBuffers.{FoundAs, found_buffer, its, never_gone, len_same, lent_same}
 
 -- the conditions of a word on the first buffer's bytes up to `near`, and the second one's up to `far`
 abbrev pub conditions : Machine → List ℕ → List ℕ → ℕ → ℕ → Conditions
