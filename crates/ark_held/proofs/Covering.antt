@@ -1,5 +1,5 @@
 -- No frame is in two buffers: what another object has keeps its bytes where a buffer is written.
-use Rattle.std.proofs.Common.{◌≡◌, inl, inr, ℕ, ◌+◌, ◌*◌, ◌<◌, ◌≤◌, Bool, true, false, cond, List, [], ◌∷◌, refl, sym, ◌∙◌, ap, arith, bytes_eq}
+use Rattle.std.proofs.Common.{◌≡◌, inl, inr, ℕ, ◌+◌, ◌*◌, ◌<◌, ◌≤◌, true, false, cond, List, [], ◌∷◌, refl, sym, ◌∙◌, ap, arith, bytes_eq}
 use Rattle.std.specs.Prelude.{Some, find, is_some, slice_index_or}
 use Rattle.std.specs.List.{AllByRecursion}
 use Rattle.std.proofs.lemmas.Bool.{false≢true}
@@ -15,6 +15,7 @@ use Rattle.ark_held.specs.Keeps.{Within, any_label}
 use Rattle.ark_held.proofs.Lists.{by_test, some_same}
 use Rattle.ark_held.proofs.Members.{In}
 use Rattle.ark_held.proofs.Placing.{has_covers}
+use Rattle.ark_held.proofs.Taking.{bit_most}
 use Rattle.ark_held.proofs.Staying.{within_by}
 
 covered : (j : ℕ) (f : Frames) → f.0 ≤ j → j < f.0 + f.1 → bit (covers j f) ≡ 1
@@ -56,10 +57,6 @@ found_in l [] h is = absurd (false≢true (ap is_some is))
 found_in l (z ∷ zs) h is = by_test (λ t. bytes_eq l z.label ≡ t → In (z ∷ zs) h × (bytes_eq l h.label ≡ true)) (bytes_eq l z.label)
     (λ yes q. let e : z ≡ h = some_same (Some z) z h refl (sym (ap (λ b. cond b (Some z) (find (λ g. bytes_eq l g.label) zs)) q) ∙ is) in (inl e, ap (λ (g : Held). bytes_eq l g.label) (sym e) ∙ q))
     (λ no q. let r = found_in l zs h (sym (ap (λ b. cond b (Some z) (find (λ g. bytes_eq l g.label) zs)) q) ∙ is) in (inr r.0, r.1)) refl
-
-pub bit_most : (b : Bool) → bit b ≤ 1
-bit_most true = omega arith
-bit_most false = omega arith
 
 -- the frames of a buffer are its own
 module _ (x : Around) (holds : Holds x) (l : List ℕ) (h : Held) (b : Buffer) (there : at x.machine l ≡ Some h) (object : h.object ≡ Objects.buffer b) (j : ℕ) (has : Covers (piece_of b) j) where

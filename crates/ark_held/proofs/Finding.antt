@@ -1,11 +1,11 @@
 -- What stands under one label, and how many objects there are of a kind.
 use Rattle.std.proofs.Common.{◌≡◌, ℕ, suc, Bool, true, false, cond, List, [], ◌∷◌, length, refl, sym, ◌∙◌, ap, subst, bytes_eq}
-use Rattle.std.specs.Prelude.{Option, Some, None, find, filter as select}
+use Rattle.std.specs.Prelude.{Option, Some, None, is_some, find, nat_le, filter as select}
 use Rattle.ark_caps.specs.Labels.{value_at}
 use Rattle.ark_caps.specs.declared.capability.Capability.{Capability}
 use Rattle.ark_machine.specs.Objects
 use Rattle.ark_machine.specs.Objects.{Object, is_vsa}
-use Rattle.ark_machine.specs.Machine.{Held, at, count_of}
+use Rattle.ark_machine.specs.Machine.{Held, at, is_full, count_of}
 use Rattle.ark_held.specs.Words.{Labels}
 use Rattle.ark_held.specs.Around.{Around}
 use Rattle.ark_held.specs.Held.{Fits, Matches, AllMatch, AtLabel, Holds, is_area, area_labels}
@@ -52,6 +52,16 @@ none_found x l ps hs all none = by (find (λ h. bytes_eq l h.label) hs) (subst (
     by None here = refl
     by (Some h) here = absurd here
 
+-- a label is there for the machine where it is kept
+pub there_same : (x : Around) (l : List ℕ) → Holds x → is_some (at x.machine l) ≡ is_some (value_at x.labels l)
+there_same x l h = by (value_at x.labels l) (at x.machine l) (found x l x.labels x.machine.held h.held)
+  where
+    by : (c : Option Capability) (o : Option Held) → AtLabel x l c o → is_some o ≡ is_some c
+    by None None here = refl
+    by (Some c) (Some g) here = refl
+    by None (Some g) here = absurd here
+    by (Some c) None here = absurd here
+
 -- Counts.
 
 kind_is : (x : Around) (l : List ℕ) (c : Capability) (o : Object) → Fits x l c o → is_vsa o ≡ is_area c.kind
@@ -85,3 +95,6 @@ count_labels x [] [] all = refl
 count_labels x (p ∷ ps) (h ∷ hs) all = ap suc (count_labels x ps hs all.1)
 count_labels x [] (h ∷ hs) all = absurd all
 count_labels x (p ∷ ps) [] all = absurd all
+
+pub full_is : (x : Around) → Holds x → is_full x.machine ≡ nat_le 64 (length x.labels)
+full_is x h = ap (λ n. nat_le 64 n) (count_labels x x.labels x.machine.held h.held)

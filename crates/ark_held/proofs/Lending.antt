@@ -25,17 +25,13 @@ use Rattle.ark_held.specs.Cards.{IsPaced, IsWatched, IsJob, IsEnded}
 use Rattle.ark_held.specs.Network.{IsPlace, IsReceiving, IsReceived, IsSending, IsSent}
 use Rattle.ark_held.specs.Held.{Fits, AllMatch}
 use Rattle.ark_held.specs.Keeps.{JobWithin, PlaceWithin, PacedWithin, LabelWithin, OpenedWithin, Within, any_label}
-use Rattle.ark_held.proofs.Lists.{name_other, not_some, some_same}
+use Rattle.ark_held.proofs.Lists.{by_test, name_other, not_some, some_same}
 use Rattle.ark_held.proofs.Creating.{but}
 
 -- Whether a buffer is lent.
 
-split : {P : Type 0} (b : Bool) → (b ≡ true → P) → (b ≡ false → P) → P
-split true h k = h refl
-split false h k = k refl
-
 some_of : (a b : ℕ) → nat_lt 0 (a + b) ≡ (nat_lt 0 a || nat_lt 0 b)
-some_of a b = split (nat_lt 0 a)
+some_of a b = by_test (λ t. nat_lt 0 (a + b) ≡ (nat_lt 0 a || nat_lt 0 b)) (nat_lt 0 a)
     (λ p. let lt : 0 < a = grind (arith, nat_tests, p) in let q : nat_lt 0 (a + b) ≡ true = grind (arith, nat_tests, lt) in rw (p, q) refl)
     (λ p. let e : a ≡ 0 = grind (arith, nat_tests, p) in let q : a + b ≡ b = omega (arith, e) in rw (p, q) refl)
 

@@ -1,9 +1,11 @@
 -- Lists of labels, numbers and sums.
-use Rattle.std.proofs.Common.{◌≡◌, inl, inr, ℕ, zero, suc, ◌+◌, Bool, true, false, cond, List, [], ◌∷◌, ◌++◌, length, refl, sym, ◌∙◌, ap, arith, bytes_eq}
+use Rattle.std.proofs.Common.{◌≡◌, inl, inr, ℕ, zero, suc, ◌+◌, ◌<◌, ◌≤◌, nat_le, nat_lt, Bool, true, false, cond, List, [], ◌∷◌, ◌++◌, length, refl, sym, ◌∙◌, ap, arith, bytes_eq}
 use Rattle.std.specs.Prelude.{◌⊎◌, Option, Some, None, is_some, slice_get, unwrap_or}
+use Rattle.std.specs.Option.{option_or}
 use Rattle.std.specs.Map.{lookup}
 use Rattle.std.specs.List.{AllByRecursion}
 use Rattle.std.proofs.lemmas.Bool.{false≢true}
+use Rattle.std.proofs.lemmas.Bool.Decides.{nat_tests}
 use Rattle.std.proofs.lemmas.Slice.Eq.{bytes_eq-Decides}
 use Rattle.ark_caps.specs.Labels.{value_at}
 use Rattle.ark_caps.specs.declared.capability.Capability.{Capability}
@@ -23,6 +25,14 @@ not_some o a none some = false≢true (ap is_some (sym none ∙ some))
 pub some_same : {A : Type 0} (o : Option A) (a b : A) → o ≡ Some a → o ≡ Some b → a ≡ b
 some_same o a b p q = ap (λ z. unwrap_or z a) (sym p ∙ q)
 
+pub none_of : {A : Type 0} (o : Option A) → is_some o ≡ false → o ≡ None
+none_of None none = refl
+none_of (Some a) none = absurd (false≢true (sym none))
+
+pub or_none : {A : Type 0} (o : Option A) → option_or o None ≡ o
+or_none None = refl
+or_none (Some x) = refl
+
 -- Names.
 
 pub same_name : (l k : List ℕ) → bytes_eq l k ≡ true → l ≡ k
@@ -41,6 +51,18 @@ pub turned : (l k : List ℕ) → bytes_eq l k ≡ false → bytes_eq k l ≡ fa
 turned l k apart = name_other k l (λ e. other_name l k apart (sym e))
 
 -- Numbers.
+
+pub le_true : (n m : ℕ) → n ≤ m → nat_le n m ≡ true
+le_true n m le = grind (arith, nat_tests)
+
+pub le_false : (n m : ℕ) → m < n → nat_le n m ≡ false
+le_false n m lt = grind (arith, nat_tests)
+
+pub lt_true : (n m : ℕ) → n < m → nat_lt n m ≡ true
+lt_true n m lt = grind (arith, nat_tests)
+
+pub lt_false : (n m : ℕ) → m ≤ n → nat_lt n m ≡ false
+lt_false n m le = grind (arith, nat_tests)
 
 pub number_front : (n : List ℕ) (x i g : ℕ) → slice_get n i ≡ Some g → slice_get (n ++ x ∷ []) i ≡ Some g
 number_front [] x i g h = absurd (false≢true (ap is_some h))
@@ -109,6 +131,9 @@ pub value_first : (p : List ℕ × Capability) (ps : Labels) → value_at (p ∷
 value_first p ps = ap (λ b. cond b (Some p.1) (value_at ps p.0)) (name_same p.0 p.0 refl)
 
 -- Sums.
+
+pub plus_zero : (n : ℕ) → n + 0 ≡ n
+plus_zero n = omega arith
 
 pub total_last : {X : Type 0} (f : X → ℕ) (xs : List X) (y : X) → total f (xs ++ y ∷ []) ≡ total f xs + f y
 total_last f [] y = omega arith

@@ -1,7 +1,6 @@
 -- A buffer whose bytes were written.
-use Rattle.std.proofs.Common.{◌≡◌, ℕ, ◌+◌, ◌<◌, ◌≤◌, Bool, false, List, length, take, drop, refl, sym, ◌∙◌, ap, subst, arith, bytes_eq, nat_eq}
-use Rattle.std.specs.Prelude.{Option, Some, option_map, slice_index_or}
-use Rattle.std.specs.Map.{lookup}
+use Rattle.std.proofs.Common.{◌≡◌, ℕ, ◌+◌, ◌<◌, ◌≤◌, Bool, false, List, length, take, drop, refl, sym, ◌∙◌, ap, subst, arith, bytes_eq}
+use Rattle.std.specs.Prelude.{Option, Some, slice_index_or}
 use Rattle.std.proofs.lemmas.List.{append_assoc}
 use Rattle.ark_caps.specs.Labels.{value_at}
 use Rattle.ark_caps.specs.declared.capability.Capability.{Capability}
@@ -11,10 +10,8 @@ use Rattle.ark_machine.specs.Bytes.{written}
 use Rattle.ark_machine.specs.Objects
 use Rattle.ark_machine.specs.Objects.{Object, Buffer}
 use Rattle.ark_machine.specs.Machine.{Held, at, with_object}
-use Rattle.ark_machine.specs.Control.{is_open_on, is_socket_on}
 use Rattle.ark_held.specs.Words.{Labels, AreaList}
 use Rattle.ark_held.specs.Totals.{bit, uses, covers, object_covers}
-use Rattle.ark_held.specs.Kept.{BufferKept}
 use Rattle.ark_held.specs.Stored.{buffer_kept}
 use Rattle.ark_held.specs.Around.{Around, piece_of}
 use Rattle.ark_held.specs.Cards.{IsBuffer}
@@ -23,7 +20,7 @@ use Rattle.ark_held.specs.Keeps.{Keeps, any_label}
 use Rattle.ark_held.specs.Beyond.{Beyond, around}
 use Rattle.ark_held.specs.declared.app.App.{App}
 use Rattle.ark_held.specs.declared.buffer.Buffer as kept
-use Rattle.ark_held.proofs.Besides.{same_history}
+use Rattle.ark_held.proofs.Buffers.{CountsSame, buffers_keep}
 use Rattle.ark_held.proofs.Creating.{but}
 use Rattle.ark_held.proofs.Changing.{changed, same_put}
 use Rattle.ark_held.proofs.Covering.{within_clear, other_clear}
@@ -52,30 +49,12 @@ module _ (r : Beyond) (app app1 : App) (l : List ℕ) (b : Buffer) (held : Held)
     entries : (key : ℕ) → buffer_kept app1.store.buffers key ≡ buffer_kept app.store.buffers key
     entries key = ap (λ (bs : List (Option kept.Buffer)). buffer_kept bs key) buffers
 
+    counts : CountsSame r.machine (with_object r.machine l (Objects.buffer now))
+    counts f none = same_put x h l (Objects.buffer now) held f there (ap f object ∙ none b ∙ sym (none now))
+
     keeps : Keeps (but l) any_label (Apart (piece_of b)) x y
-    keeps = record {
-      now = omega arith;
-      numbers = λ i n is. is;
-      frames = ap (λ (t : List Bool). length t) wrote.taken;
-      bytes = λ p rests. wrote.others p rests;
-      labels = λ k c named is. ap (λ (ls : Labels). value_at ls k) labels ∙ is;
-      places = λ k c named is kind. ap (λ (o : Option BufferKept). option_map (λ z. z.piece) o) (entries c.key);
-      logs = λ k c named is kind. refl;
-      buffers = λ k c same is kind. entries c.key;
-      cards = λ k c same is kind. refl;
-      nets = λ k c same is kind. refl;
-      doors = λ k c same is kind. refl;
-      rates = λ k c same is kind. refl;
-      sockets = λ k c same is kind. refl;
-      rules = λ k c same is kind. refl;
-      areas = λ k c same is kind. ap (λ (es : AreaList). lookup (nat_eq c.grant) es) areas;
-      chains = λ k c same is kind. refl;
-      slots = λ k same. refl;
-      history = λ k u same is. same_history r.history u.blocks;
-      lent = λ k same. same_put x h l (Objects.buffer now) held (uses k) there (ap (uses k) object);
-      opened = λ k same. same_put x h l (Objects.buffer now) held (λ o. bit (is_open_on k o)) there (ap (λ o. bit (is_open_on k o)) object);
-      socketed = λ k same. same_put x h l (Objects.buffer now) held (λ o. bit (is_socket_on k o)) there (ap (λ o. bit (is_socket_on k o)) object);
-    }
+    keeps = buffers_keep r app app1 r.numbers (with_object r.machine l (Objects.buffer now)) (but l) any_label (Apart (piece_of b)) (λ k stays. refl) (λ k c among is kind. entries c.key) areas counts
+        (λ i n is. is) (ap (λ (t : List Bool). length t) wrote.taken) (λ p rests. wrote.others p rests) (λ k c among is. ap (λ (ls : Labels). value_at ls k) labels ∙ is)
 
     its : (c : Capability) → IsBuffer x l c b → IsBuffer y l c now
     its c f = record {
@@ -87,7 +66,7 @@ module _ (r : Beyond) (app app1 : App) (l : List ℕ) (b : Buffer) (held : Held)
       bytes = same_bytes ∙ ap (λ (z : List ℕ). put z off bytes) f.bytes ∙ sym wrote.here ∙ ap (λ (p : Piece). bytes_of app1.store.region p) place;
       some = subst (λ (n : ℕ). 0 < n) (sym long) f.some;
       owned = f.owned;
-      lent = f.lent ∙ sym (same_put x h l (Objects.buffer now) held (uses l) there (ap (uses l) object));
+      lent = f.lent ∙ sym (counts (uses l) (λ z. refl));
     }
 
     -- the machine has them too

@@ -10,7 +10,8 @@ use Rattle.ark_extents.proofs.Holding.{contains_range}
 use Rattle.ark_table.specs.Slots.{Slot}
 use Rattle.ark_machine.specs.Plane.{Plane, is_granted, free_blocks}
 use Rattle.ark_host.proofs.Machines.{by_test}
-use Rattle.ark_host.proofs.Lists.{contains_in, in_contains, any_in, in_select}
+use Rattle.ark_held.proofs.Members.{contains_in, in_contains}
+use Rattle.ark_host.proofs.Lists.{any_in, in_select}
 
 -- in rising order, from a number on
 abbrev Rises : ℕ → List ℕ → Type 0

@@ -1,30 +1,15 @@
 -- Members of lists, one by one.
-use Rattle.std.proofs.Common.{◌≡◌, ◌⊎◌, inl, inr, ℕ, zero, suc, ◌<◌, ◌≤◌, Bool, true, false, cond, ◌||◌, List, [], ◌∷◌, length, take, drop, map, get_or, set, nat_lt, refl, sym, ◌∙◌, ap, arith, Contains}
+use Rattle.std.proofs.Common.{◌≡◌, ◌⊎◌, inl, inr, ℕ, zero, suc, ◌<◌, Bool, true, false, cond, ◌||◌, List, [], ◌∷◌, length, map, get_or, set, nat_lt, refl, sym, ◌∙◌, ap, arith}
 use Rattle.std.specs.Prelude.{Some, None, find, position, filter as select, is_some, slice_get, unwrap_or}
 use Rattle.std.specs.List.{list_any, position_or_len}
+use Rattle.std.proofs.Math.Bool.{or-true}
 use Rattle.std.proofs.lemmas.Bool.{false≢true}
 use Rattle.std.proofs.lemmas.Bool.Decides.{nat_tests}
+use Rattle.std.proofs.lemmas.Option.{slice_get_past}
 use Rattle.std.proofs.lemmas.List.Quantifiers.{position-Some}
 use Rattle.std.proofs.lemmas.List.Folds.{find_at}
+use Rattle.ark_held.proofs.Members.{In}
 use Rattle.ark_host.proofs.Machines.{by_test}
-
--- x is the first, or in the rest
-abbrev pub In : {X : Type 0} → List X → X → Type 0
-In [] x = ⊥
-In (y ∷ ys) x = (y ≡ x) ⊎ In ys x
-
-in_at : {X : Type 0} (xs : List X) (k : ℕ) (x : X) → k < length xs → get_or xs k x ≡ x → In xs x
-in_at [] k x lt e = absurd (omega arith)
-in_at (y ∷ ys) zero x lt e = inl e
-in_at (y ∷ ys) (suc k) x lt e = inr (in_at ys k x (omega arith) e)
-
-pub contains_in : {X : Type 0} (xs : List X) (x : X) → Contains xs x → In xs x
-contains_in xs x h = in_at xs h.0 x h.1 h.2
-
-pub in_contains : {X : Type 0} (xs : List X) (x : X) → In xs x → Contains xs x
-in_contains [] x h = absurd h
-in_contains (y ∷ ys) x (inl e) = (0, omega arith, e)
-in_contains (y ∷ ys) x (inr h) = let c = in_contains ys x h in (suc c.0, omega (arith, c.1), c.2)
 
 module _ {X : Type 0} (p : X → Bool) where
   pub find_in : (xs : List X) (t : X) → find p xs ≡ Some t → In xs t × (p t ≡ true)
@@ -36,11 +21,7 @@ module _ {X : Type 0} (p : X → Bool) where
   pub any_in : (xs : List X) (x : X) → In xs x → p x ≡ true → list_any p xs ≡ true
   any_in [] x h is = absurd h
   any_in (y ∷ ys) x (inl e) is = ap (λ b. b || list_any p ys) (ap p e ∙ is)
-  any_in (y ∷ ys) x (inr h) is = ap (λ b. p y || b) (any_in ys x h is) ∙ or_true (p y)
-    where
-      or_true : (b : Bool) → (b || true) ≡ true
-      or_true true = refl
-      or_true false = refl
+  any_in (y ∷ ys) x (inr h) is = ap (λ b. p y || b) (any_in ys x h is) ∙ or-true (p y)
 
   pub in_select : (xs : List X) (x : X) → In (select p xs) x → In xs x × (p x ≡ true)
   in_select [] x h = absurd h
@@ -51,17 +32,6 @@ module _ {X : Type 0} (p : X → Bool) where
       first q (inl e) rest = (inl e, ap p (sym e) ∙ q)
       first q (inr g) rest = let r = rest g in (inr r.0, r.1)
 
-pub in_take : {X : Type 0} (n : ℕ) (xs : List X) (x : X) → In (take n xs) x → In xs x
-in_take zero xs x h = absurd h
-in_take (suc n) [] x h = absurd h
-in_take (suc n) (y ∷ ys) x (inl e) = inl e
-in_take (suc n) (y ∷ ys) x (inr h) = inr (in_take n ys x h)
-
-pub in_drop : {X : Type 0} (n : ℕ) (xs : List X) (x : X) → In (drop n xs) x → In xs x
-in_drop zero xs x h = h
-in_drop (suc n) [] x h = absurd h
-in_drop (suc n) (y ∷ ys) x h = inr (in_drop n ys x h)
-
 -- Places.
 
 pub get_there : {X : Type 0} (xs : List X) (k : ℕ) (d : X) → k < length xs → slice_get xs k ≡ Some (get_or xs k d)
@@ -69,17 +39,11 @@ get_there [] k d lt = absurd (omega arith)
 get_there (x ∷ xs) zero d lt = refl
 get_there (x ∷ xs) (suc k) d lt = get_there xs k d (omega arith)
 
-get_none : {X : Type 0} (xs : List X) (k : ℕ) → length xs ≤ k → slice_get xs k ≡ None
-get_none [] zero le = refl
-get_none [] (suc k) le = refl
-get_none (x ∷ xs) zero le = absurd (omega arith)
-get_none (x ∷ xs) (suc k) le = get_none xs k (omega arith)
-
 module _ {X : Type 0} (p : X → Bool) where
   pub none_found : (xs : List X) → position p xs ≡ None → find p xs ≡ None
   none_found xs none = find_at p xs ∙ by_test (nat_lt (position_or_len p xs) (length xs)) (λ b. nat_lt (position_or_len p xs) (length xs) ≡ b → cond b (Some (position_or_len p xs)) None ≡ None → slice_get xs (position_or_len p xs) ≡ None)
       (λ yes q e. absurd (false≢true (sym (ap is_some e))))
-      (λ no q e. get_none xs (position_or_len p xs) (grind (arith, nat_tests))) refl none
+      (λ no q e. slice_get_past xs (position_or_len p xs) (grind (arith, nat_tests))) refl none
 
   find_first : (xs : List X) (i : ℕ) (d : X) → i < length xs → p (get_or xs i d) ≡ true → ((k : ℕ) → k < i → p (get_or xs k d) ≡ false) → find p xs ≡ Some (get_or xs i d)
   find_first [] i d lt at before = absurd (omega arith)

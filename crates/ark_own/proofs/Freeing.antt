@@ -1,9 +1,7 @@
 -- The row of `free`: the buffer's label, its object and its frames go.
-use Rattle.std.proofs.Common.{◌≡◌, inl, ℕ, ◌+◌, ◌*◌, ◌<◌, ◌≤◌, Bool, true, false, not, nat_le, nat_lt, List, [], ◌∷◌, length, replicate, refl, sym, ◌∙◌, ap, arith, bytes_eq, nat_eq}
-use Rattle.std.specs.Prelude.{Option, Some, Ok, is_none, option_map, slice_range, slice_index_or, filter as select}
-use Rattle.std.specs.Map.{lookup}
+use Rattle.std.proofs.Common.{◌≡◌, ℕ, ◌+◌, ◌*◌, Bool, true, false, not, nat_lt, List, [], ◌∷◌, length, replicate, refl, sym, ◌∙◌, ap, arith}
+use Rattle.std.specs.Prelude.{Option, Some, Ok, is_none, option_map, slice_range, slice_index_or}
 use Rattle.std.proofs.lemmas.Bool.Decides.{nat_tests}
-use Rattle.std.proofs.lemmas.List.{length-replicate}
 use Rattle.ark_base.specs.Conditions.{none}
 use Rattle.ark_media.specs.Calls.{Told}
 use Rattle.ark_script.specs.declared.said.Said.TheVariants as said
@@ -11,17 +9,12 @@ use Rattle.ark_caps.specs.Labels.{value_at, others}
 use Rattle.ark_caps.specs.declared.capability.Capability.{Capability}
 use Rattle.ark_caps.specs.declared.capability.CapKind.TheVariants as cap_kind
 use Rattle.ark_region.specs.Frames.{Piece, frames_of, put}
-use Rattle.ark_region.proofs.Putting.{put_below, put_above, put_copies}
-use Rattle.ark_machine.specs.Objects
-use Rattle.ark_machine.specs.Objects.{Object, Buffer}
 use Rattle.ark_machine.specs.Machine.{Machine, buffer_at, bytes_at, missing, without}
 use Rattle.ark_machine.specs.Buffers as rows
 use Rattle.ark_machine.specs.Buffers.{is_lent}
 use Rattle.ark_machine.specs.Row.{Row, Given, says, answer}
-use Rattle.ark_machine.specs.Follow.{ended}
-use Rattle.ark_machine.specs.Control.{is_open_on, is_socket_on}
 use Rattle.ark_held.specs.Words.{Labels, AreaList}
-use Rattle.ark_held.specs.Totals.{bit, total, uses, covers, object_covers, cover_count, lent_count}
+use Rattle.ark_held.specs.Totals.{bit, uses, covers, object_covers, cover_count, lent_count}
 use Rattle.ark_held.specs.Kept.{BufferKept}
 use Rattle.ark_held.specs.Stored.{kept_of, buffer_kept, Gave}
 use Rattle.ark_held.specs.Around.{Around, piece_of}
@@ -32,40 +25,17 @@ use Rattle.ark_held.specs.Does.{Acts}
 use Rattle.ark_held.specs.declared.app.App.{App}
 use Rattle.ark_held.specs.declared.buffer.Buffer as kept
 use Rattle.ark_held.proofs.Lists.{other_name}
-use Rattle.ark_held.proofs.Besides.{same_history}
-use Rattle.ark_held.proofs.Covering.{in_total, found_in, bit_most}
+use Rattle.ark_held.proofs.Buffers.{CountsSame, buffers_keep}
+use Rattle.ark_held.proofs.Covering.{in_total, found_in}
 use Rattle.ark_held.proofs.Creating.{but}
 use Rattle.ark_held.proofs.Granted.{not_but}
 use Rattle.ark_held.proofs.Lending.{narrowed}
 use Rattle.ark_held.proofs.Removing.{others_value, others_areas, total_others, removed}
 use Rattle.ark_held.proofs.Staying.{within}
+use Rattle.ark_held.proofs.Taking.{given_bit}
+use Rattle.ark_held.proofs.Doing.{comes}
 use Rattle.ark_own.specs.Keys.{buffer_key}
 use Rattle.ark_own.proofs.OfBuffers.{HasBuffer, conditions, its, entry_same, place_same, done}
-
-split : {P : Type 0} (b : Bool) → (b ≡ true → P) → (b ≡ false → P) → P
-split true h k = h refl
-split false h k = k refl
-
--- of taken frames these are free again
-clear_bit : (old : List Bool) (s k j : ℕ) → s + k ≤ length old → bit (covers j (s, k)) ≤ bit (slice_index_or old j false) → bit (slice_index_or (put old s (replicate k false)) j false) + bit (covers j (s, k)) ≡ bit (slice_index_or old j false)
-clear_bit old s k j inside own =
-    let long = length-replicate k false in
-    split (nat_lt j s)
-    (λ p. let lt : j < s = grind (arith, nat_tests, p) in
-    let no : nat_le s j ≡ false = grind (arith, nat_tests, lt) in
-    let same = put_below old (replicate k false) s j false (omega (arith, inside)) lt in
-    rw (no, same) (omega arith))
-    (λ p. let le : s ≤ j = grind (arith, nat_tests, p) in
-    let yes : nat_le s j ≡ true = grind (arith, nat_tests, le) in
-    split (nat_lt j (s + k))
-    (λ q. let lt : j < s + k = grind (arith, nat_tests, q) in
-    let now = put_copies old false s k j false (omega (arith, inside)) le lt in
-    let one : bit (covers j (s, k)) ≡ 1 = rw (yes, q) refl in
-    let most = bit_most (slice_index_or old j false) in
-    rw (now) (omega (arith, one, own, most)))
-    (λ q. let far : s + k ≤ j = grind (arith, nat_tests, q) in
-    let same = put_above old (replicate k false) s j false (omega (arith, inside)) (omega (arith, long, far)) in
-    rw (yes, q, same) (omega arith)))
 
 module _ (r : Beyond) (app app1 : App) (l : List ℕ) (key : ℕ) (h : Holds (around r app)) (b : HasBuffer (around r app) l key) (gave : Gave app.store.region app1.store.region app.store.buffers app1.store.buffers key)
     (place : gave.right ≡ piece_of b.buffer) (unlent : lent_count r.machine l ≡ 0) (labels : app1.labels ≡ others l app.labels) (areas : app1.areas ≡ app.areas) where
@@ -79,37 +49,16 @@ module _ (r : Beyond) (app app1 : App) (l : List ℕ) (key : ℕ) (h : Holds (ar
   same_key k c named is kind = ap (λ (o : Option kept.Buffer). option_map kept_of o)
       (gave.changes.others c.key (λ e. other_name l k (not_but l k named) (h.own.keys l k b.cap c b.label is (b.fits.its_kind ∙ sym kind) (ap has_key b.fits.its_kind) (b.key_is ∙ sym e))))
 
-  -- a sum to which a buffer adds nothing
-  count : (f : Object → ℕ) → ((z : Buffer) → f (Objects.buffer z) ≡ 0) → total (λ z. f z.object) (select (λ z. not (bytes_eq l z.label)) r.machine.held) ≡ total (λ z. f z.object) r.machine.held
-  count f none =
+  counts : CountsSame r.machine (without r.machine l)
+  counts f none =
       let all = total_others x l b.held (λ z. f z.object) app.labels r.machine.held h.apart h.held b.there in
       let zero : f b.held.object ≡ 0 = ap f b.object ∙ none b.buffer in
       omega (arith, all, zero)
 
   keeps : Keeps (but l) (but l) any_piece x y
-  keeps = record {
-    now = omega arith;
-    numbers = λ i n is. is;
-    frames = gave.frames;
-    bytes = λ p rests. ap (λ (bs : List ℕ). slice_range bs (512 * p.start) (512 * p.start + p.len)) gave.bytes;
-    labels = λ k c named is. ap (λ (ls : Labels). value_at ls k) labels ∙ others_value l k app.labels (not_but l k named) ∙ is;
-    places = λ k c named is kind. ap (λ (o : Option BufferKept). option_map (λ z. z.piece) o) (same_key k c named is kind);
-    logs = λ k c named is kind. refl;
-    buffers = λ k c same is kind. same_key k c same is kind;
-    cards = λ k c same is kind. refl;
-    nets = λ k c same is kind. refl;
-    doors = λ k c same is kind. refl;
-    rates = λ k c same is kind. refl;
-    sockets = λ k c same is kind. refl;
-    rules = λ k c same is kind. refl;
-    areas = λ k c same is kind. ap (λ (es : AreaList). lookup (nat_eq c.grant) es) areas;
-    chains = λ k c same is kind. refl;
-    slots = λ k same. refl;
-    history = λ k u same is. same_history r.history u.blocks;
-    lent = λ k same. count (uses k) (λ z. refl);
-    opened = λ k same. count (λ o. bit (is_open_on k o)) (λ z. refl);
-    socketed = λ k same. count (λ o. bit (is_socket_on k o)) (λ z. refl);
-  }
+  keeps = buffers_keep r app app1 r.numbers (without r.machine l) (but l) (but l) any_piece (λ k stays. stays) same_key areas counts
+      (λ i n is. is) gave.frames (λ p rests. ap (λ (bs : List ℕ). slice_range bs (512 * p.start) (512 * p.start + p.len)) gave.bytes)
+      (λ k c named is. ap (λ (ls : Labels). value_at ls k) labels ∙ others_value l k app.labels (not_but l k named) ∙ is)
 
   kind_is : is_area_cap (value_at app.labels l) ≡ false
   kind_is = ap is_area_cap b.label ∙ ap is_area b.fits.its_kind
@@ -120,7 +69,7 @@ module _ (r : Beyond) (app app1 : App) (l : List ℕ) (key : ℕ) (h : Holds (ar
       let its : object_covers j b.held.object ≡ bit (covers j (b.buffer.start, frames_of (length b.buffer.bytes))) + 0 = ap (object_covers j) b.object in
       let was = h.taken j in
       let own = in_total (λ z. object_covers j z.object) r.machine.held b.held (found_in l r.machine.held b.held b.there).0 in
-      let now = clear_bit app.store.region.taken b.buffer.start (frames_of (length b.buffer.bytes)) j b.fits.lies (omega (arith, its, was, own)) in
+      let now = given_bit app.store.region.taken b.buffer.start (frames_of (length b.buffer.bytes)) j b.fits.lies (omega (arith, its, was, own)) in
       let bits : bit (slice_index_or app1.store.region.taken j false) ≡ bit (slice_index_or (put app.store.region.taken b.buffer.start (replicate (frames_of (length b.buffer.bytes)) false)) j false) =
       ap (λ (t : List Bool). bit (slice_index_or t j false)) (gave.taken ∙ ap (λ (p : Piece). put app.store.region.taken p.start (replicate (frames_of p.len) false)) place) in
       omega (arith, all, its, was, now, bits)
@@ -147,20 +96,10 @@ free_row l m g =
 
 pub free_done : (t : Told) (app app1 : App) (l : List ℕ) (key : ℕ) (is : Ok key ≡ buffer_key app.labels l) (gave : Gave app.store.region app1.store.region app.store.buffers app1.store.buffers key) → app1.labels ≡ others l app.labels → app1.areas ≡ app.areas → app1.name ≡ app.name
     → Acts t app app1 (λ m g. rows.free m l g) [] said.Ok []
-free_done t app app1 l key is gave labels areas name grant = record {
-  devices = refl;
-  does = λ r g came told fresh sited h.
-      let b = its app l key is r h in
-      let row = done t app l 0 (λ m g. rows.free m l g) (freed l) (free_row l) key is gave.one gave.was (omega arith) r g h gave.right gave.its in
-      let here : is_none b.fits.entry.buf ≡ false = ap (λ (z : BufferKept). is_none z.buf) (entry_same app l key is gave.one gave.was r b) ∙ ap (λ o. is_none o) gave.its in
-      rw row (record {
-        said = refl;
-        bytes = refl;
-        calls = ended;
-        numbers = r.numbers;
-        grown = λ i k at. inl at;
-        holds = holds_freed r app app1 l key h b gave (place_same app l key is gave.one gave.was r b gave.right gave.its) (sym b.fits.lent ∙ ap bit here) labels areas;
-        areas = areas;
-        name = name;
-      });
-}
+free_done t app app1 l key is gave labels areas name = comes t app app1 (λ m g. rows.free m l g) said.Ok [] areas name (λ r g sited h.
+    let b = its app l key is r h in
+    let here : is_none b.fits.entry.buf ≡ false = ap (λ (z : BufferKept). is_none z.buf) (entry_same app l key is gave.one gave.was r b) ∙ ap (λ o. is_none o) gave.its in (
+      without r.machine l,
+      done t app l 0 (λ m g. rows.free m l g) (freed l) (free_row l) key is gave.one gave.was (omega arith) r g h gave.right gave.its,
+      holds_freed r app app1 l key h b gave (place_same app l key is gave.one gave.was r b gave.right gave.its) (sym b.fits.lent ∙ ap bit here) labels areas,
+    ))

@@ -2,8 +2,8 @@ use Rattle.std.proofs.Common.{◌≡◌, Some, subst, rules, arith}
 use Rattle.ark_region.specs.Frames.{Piece, Wrote}
 use Rattle.ark_objects.specs.Held.{at}
 use Rattle.ark_script.specs.Line.{spelled}
-use Rattle.ark_held.proofs.Rights.{right_lies, right_len}
-use Rattle.ark_held.proofs.Storing.{same_in, same_right, len_here}
+use Rattle.ark_held.proofs.Rights.{right_lies, right_within}
+use Rattle.ark_held.proofs.Storing.{same_in, same_right}
 use Rattle.ark_own.proofs.bytes.spell_into.Goals as goal
 
 pub spell_part-requires-clause-lies : goal.spell_part-requires-clause-lies
@@ -11,10 +11,8 @@ spell_part-requires-clause-lies c = right_lies c.args.store.now.region.taken c.a
 
 pub spell_part-requires-clause-within : goal.spell_part-requires-clause-within
 spell_part-requires-clause-within c =
-    let there : at c.args.store.now.buffers c.args.key ≡ Some c.in-Some.buffer.now = search rules in
-    let long = right_len c.args.store.now.region.taken c.args.store.now.buffers c.args.key c.in-Some.buffer.now c.in-Some-buf.right c.args.store.now.lie there c.in-Some-buf.is in
-    let within = len_here _ _ _ c.in-Some.buffer.now c.requires.here there in
-    omega (arith, long, within)
+    let within = right_within c.args.store.now.region.taken c.args.store.now.buffers c.args.key c.in-Some.buffer.now c.in-Some-buf.right c.args.store.now.lie (search rules) c.in-Some-buf.is _ c.requires.here in
+    omega (arith, within)
 
 pub invariant_of-store : goal.invariant_of-store
 invariant_of-store c = record { lie = same_in c.args.store.now.region.taken c.spell_part.new.region.taken c.args.store.now.buffers c.spell_part.ensures.wrote.taken c.args.store.now.lie }

@@ -2,8 +2,8 @@ use Rattle.std.proofs.Common.{◌≡◌, take, Some, sym, ap, subst, ◌∙◌, 
 use Rattle.std.specs.Prelude.{option_copied}
 use Rattle.ark_region.specs.Frames.{Piece, Wrote, bytes_of}
 use Rattle.ark_objects.specs.Held.{at}
-use Rattle.ark_held.proofs.Rights.{right_lies, right_len}
-use Rattle.ark_held.proofs.Storing.{same_in, same_right, gone_here, right_here, len_here}
+use Rattle.ark_held.proofs.Rights.{right_lies, right_within}
+use Rattle.ark_held.proofs.Storing.{same_in, same_right, gone_here, right_here}
 use Rattle.ark_held.proofs.store.Store.copy.Goals as goal
 
 pub unreachable-requires : goal.unreachable-requires
@@ -26,17 +26,13 @@ copy-requires-clause-to c = right_lies c.args.self.now.region.taken c.args.self.
 
 pub copy-requires-clause-from_len : goal.copy-requires-clause-from_len
 copy-requires-clause-from_len c =
-    let there : at c.args.self.now.buffers c.args.from ≡ Some c.in-Some.from.now = search rules in
-    let long = right_len c.args.self.now.region.taken c.args.self.now.buffers c.args.from c.in-Some.from.now c.in-Some-buf.source c.args.self.now.lie there c.in-Some-buf.is in
-    let within = len_here _ _ _ c.in-Some.from.now c.requires.from there in
-    omega (arith, long, within)
+    let within = right_within c.args.self.now.region.taken c.args.self.now.buffers c.args.from c.in-Some.from.now c.in-Some-buf.source c.args.self.now.lie (search rules) c.in-Some-buf.is _ c.requires.from in
+    omega (arith, within)
 
 pub copy-requires-clause-to_len : goal.copy-requires-clause-to_len
 copy-requires-clause-to_len c =
-    let there : at c.args.self.now.buffers c.args.to ≡ Some c.in-Some-at.to.now = search rules in
-    let long = right_len c.args.self.now.region.taken c.args.self.now.buffers c.args.to c.in-Some-at.to.now c.in-Some-buf-2.target c.args.self.now.lie there c.in-Some-buf-2.is in
-    let within = len_here _ _ _ c.in-Some-at.to.now c.requires.to there in
-    omega (arith, long, within)
+    let within = right_within c.args.self.now.region.taken c.args.self.now.buffers c.args.to c.in-Some-at.to.now c.in-Some-buf-2.target c.args.self.now.lie (search rules) c.in-Some-buf-2.is _ c.requires.to in
+    omega (arith, within)
 
 pub invariant_of-self : goal.invariant_of-self
 invariant_of-self c = record { lie = same_in c.args.self.now.region.taken c.copy.new.self.taken c.args.self.now.buffers c.copy.ensures.wrote.taken c.args.self.now.lie }

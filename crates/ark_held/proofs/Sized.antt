@@ -1,0 +1,56 @@
+-- Each buffer that an application holds has a frame at least.
+use Rattle.std.proofs.Common.{◌≡◌, ℕ, ◌<◌, List, [], ◌∷◌, ◌++◌, length, refl, arith}
+use Rattle.std.specs.Prelude.{Option, Some, None}
+use Rattle.std.specs.List.{flat_map}
+use Rattle.std.proofs.lemmas.Bool.Decides.{nat_tests}
+use Rattle.ark_caps.specs.declared.capability.Capability.{Capability}
+use Rattle.ark_region.specs.Frames.{frames_of}
+use Rattle.ark_caladan.specs.Chain.{Opened}
+use Rattle.ark_machine.specs.Objects
+use Rattle.ark_machine.specs.Objects.{Object, object_frames}
+use Rattle.ark_machine.specs.Machine.{Held, live_frames}
+use Rattle.ark_machine.specs.Places.{AreSized}
+use Rattle.ark_held.specs.Words.{Labels}
+use Rattle.ark_held.specs.Kept.{ChainKept}
+use Rattle.ark_held.specs.Around.{Around, Both}
+use Rattle.ark_held.specs.Areas.{IsOpened}
+use Rattle.ark_held.specs.Held.{Fits, AllMatch, Holds}
+use Rattle.ark_held.specs.Beyond.{Beyond, around}
+use Rattle.ark_held.specs.declared.app.App.{App}
+use Rattle.ark_held.proofs.Lists.{not_some}
+
+pub frames_some : (n : ℕ) → 0 < n → 0 < frames_of n
+frames_some n lt = grind (arith, nat_tests, lt)
+
+sized_join : (xs ys : List (ℕ × ℕ)) → AreSized xs → AreSized ys → AreSized (xs ++ ys)
+sized_join [] ys a b = b
+sized_join (z ∷ zs) ys a b = (a.0, sized_join zs ys a.1 b)
+
+module _ (r : Beyond) (app : App) where
+  abbrev x : Around
+  x = around r app
+
+  -- no log is open, and no card is there, so far
+  closed : (grant : ℕ) (o : Option Opened) → Both {X = ChainKept} (IsOpened x grant) None o → o ≡ None
+  closed grant None b = refl
+  closed grant (Some o) b = absurd b
+
+  sized_object : (l : List ℕ) (c : Capability) (o : Object) → Fits x l c o → AreSized (object_frames o)
+  sized_object l c (Objects.raw z) f = tt
+  sized_object l c (Objects.log z) f = let e = closed c.grant z.opened f.opened in rw e tt
+  sized_object l c (Objects.vsic z) f = tt
+  sized_object l c (Objects.vnic z) f = absurd (not_some None f.net refl f.kept)
+  sized_object l c (Objects.filter z y) f = tt
+  sized_object l c (Objects.door z) f = tt
+  sized_object l c (Objects.rate z y) f = tt
+  sized_object l c (Objects.buffer b) f = let some = frames_some (length b.bytes) f.some in (omega (arith, some), tt)
+  sized_object l c (Objects.socket z) f = tt
+
+  sized_all : (ps : Labels) (hs : List Held) → AllMatch x ps hs → AreSized (flat_map (λ h. object_frames h.object) hs)
+  sized_all [] [] all = tt
+  sized_all (p ∷ ps) (h ∷ hs) all = sized_join (object_frames h.object) (flat_map (λ g. object_frames g.object) hs) (sized_object p.0 p.1 h.object all.0.object) (sized_all ps hs all.1)
+  sized_all [] (h ∷ hs) all = absurd all
+  sized_all (p ∷ ps) [] all = absurd all
+
+  pub sized : Holds x → AreSized (live_frames x.machine)
+  sized h = sized_all x.labels x.machine.held h.held
