@@ -15,7 +15,11 @@ fn main(rt: HostRuntime) -> anyhow::Result<()> {
         let text = fs::read_to_string(&rt, name)?;
         let example = Example::read(rt.alloc(), &text)?;
         let is_as_written = play::is_as_written(rt.alloc(), &example)?;
-        let how = if is_as_written { "as written" } else { "other replies" };
+        let how = if is_as_written {
+            "as written"
+        } else {
+            "other replies"
+        };
         println!(rt; "{name}: {} lines, {how}", example.lines())?;
     }
     Ok(())
