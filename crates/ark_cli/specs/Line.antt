@@ -1,4 +1,4 @@
--- What is kept of a script as it comes. Ours.
+-- What is kept of a script as it comes.
 use Rattle.std.specs.Prelude.{ℕ, List, take}
 
 -- of a line, as many bytes as tell that it is too long

@@ -1,4 +1,4 @@
--- The words of the command line that the program runs. Ours.
+-- The words of the command line that the program runs.
 use Rattle.std.specs.Prelude.{ℕ, List, Some}
 use Rattle.ark_words.specs.Words.{IsCommand, run}
 

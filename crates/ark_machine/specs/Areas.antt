@@ -1,4 +1,4 @@
--- The rows of the words on areas of blocks: `vsa`, `grow`, `peek`, `poke`. Ours.
+-- The rows of the words on areas of blocks: `vsa`, `grow`, `peek`, `poke`.
 use Rattle.std.specs.Prelude.{ℕ, Bool, not, ◌||◌, List, [], ◌∷◌, ◌++◌, length, map, replicate, slice_index_or, slice_set, nat_le, if◌then◌else◌, None, is_some, is_none, option_map, unwrap_or}
 use Rattle.std.specs.List.{range_with_len}
 use Rattle.ark_base.specs.Conditions.{none}

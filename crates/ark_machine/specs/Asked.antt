@@ -1,4 +1,4 @@
--- What each word takes of what is given beside its machine. Ours.
+-- What each word takes of what is given beside its machine.
 use Rattle.std.specs.Prelude.{false, [], None}
 use Rattle.ark_script.specs.Line as w
 use Rattle.ark_script.specs.Line.{Line}

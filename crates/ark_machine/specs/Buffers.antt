@@ -1,4 +1,4 @@
--- The rows of the words on buffers: `buf`, `fill`, `show`, `copy`, `free`. Ours.
+-- The rows of the words on buffers: `buf`, `fill`, `show`, `copy`, `free`.
 use Rattle.std.specs.Prelude.{ℕ, ◌+◌, Bool, false, not, ◌||◌, List, [], ◌∷◌, length, take, slice_range, replicate, nat_lt, Option, Some, None, is_some, is_none, bytes_eq}
 use Rattle.std.specs.List.{list_any}
 use Rattle.ark_base.specs.Conditions.{none}

@@ -1,4 +1,4 @@
--- Blocks, bytes of buffers, and places in a region. Ours.
+-- Blocks, bytes of buffers, and places in a region.
 use Rattle.std.specs.Prelude.{ℕ, Bool, zero, suc, ◌+◌, ◌-◌, ◌*◌, ◌&&◌, ◌||◌, List, [], ◌∷◌, ◌++◌, length, take, drop, replicate, nat_le, if◌then◌else◌, Option, Some, None}
 use Rattle.std.specs.List.{list_all}
 

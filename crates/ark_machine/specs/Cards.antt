@@ -1,4 +1,4 @@
--- Storage cards: `vsic`, `bind`, `unbind`, `get`, `put`, `flush`, `reap`. Ours.
+-- Storage cards: `vsic`, `bind`, `unbind`, `get`, `put`, `flush`, `reap`.
 use Rattle.std.specs.Prelude.{ℕ, ◌+◌, ◌*◌, Bool, false, not, ◌||◌, List, [], ◌∷◌, ◌++◌, length, nat_le, nat_lt, ◌==◌, if◌then◌else◌, None, is_some, is_none, option_map, filter as select, unwrap_or}
 use Rattle.std.specs.List.{list_any}
 use Rattle.ark_base.specs.Conditions.{none}

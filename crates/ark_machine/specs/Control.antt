@@ -1,4 +1,4 @@
--- The rows of `app` and `drop`. Ours.
+-- The rows of `app` and `drop`.
 use Rattle.std.specs.Prelude.{ℕ, ◌+◌, Bool, true, false, not, ◌&&◌, ◌||◌, List, [], ◌∷◌, nat_lt, ◌==◌, if◌then◌else◌, Option, Some, None, is_some, option_map, filter as select, unwrap_or, bytes_eq}
 use Rattle.ark_base.specs.Conditions.{none}
 use Rattle.ark_script.specs.declared.said.Said.TheVariants as said

@@ -1,4 +1,4 @@
--- `dev`: one move of a card. Ours.
+-- `dev`: one move of a card.
 use Rattle.std.specs.Prelude.{ℕ, not, ◌&&◌, List, [], ◌∷◌, Option, Some, None, is_none}
 use Rattle.ark_base.specs.Conditions.{none}
 use Rattle.ark_machine.specs.Objects.{Vnic}

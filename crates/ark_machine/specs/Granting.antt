@@ -1,4 +1,4 @@
--- What the plane takes over from a line, by its reply. Ours.
+-- What the plane takes over from a line, by its reply.
 use Rattle.std.specs.Prelude.{ℕ, Bool, true, false, not, ◌&&◌, List, [], ◌∷◌, ◌++◌, map, ◌==◌, if◌then◌else◌, Option, Some, None, option_map, filter as select, unwrap_or, bytes_eq}
 use Rattle.ark_base.specs.declared.kind.Kind.{Kind}
 use Rattle.ark_base.specs.declared.refusal.Refusal.{Refusal}

@@ -1,4 +1,4 @@
--- Logs and queues: `log`, `queue`, `append`, `push`, `trim`, `pop`, `walk`, `close`. Ours.
+-- Logs and queues: `log`, `queue`, `append`, `push`, `trim`, `pop`, `walk`, `close`.
 use Rattle.std.specs.Prelude.{ℕ, ◌+◌, ◌-◌, ◌^◌, Bool, true, false, not, ◌&&◌, ◌||◌, List, [], ◌∷◌, ◌++◌, length, take, nat_le, nat_lt, ◌==◌, if◌then◌else◌, Option, Some, None, is_some, is_none, option_map, option_and_then, unwrap_or, slice_get, sum_by}
 use Rattle.ark_base.specs.Conditions.{none}
 use Rattle.ark_base.specs.declared.kind.Kind.{Kind}

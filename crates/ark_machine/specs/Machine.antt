@@ -1,4 +1,4 @@
--- What one application knows of itself: its private machine. Ours.
+-- What one application knows of itself: its private machine.
 use Rattle.std.specs.Prelude.{ℕ, ◌+◌, Bool, false, not, List, [], ◌∷◌, ◌++◌, length, map, nat_le, ◌==◌, if◌then◌else◌, Option, Some, None, is_none, option_map, option_and_then, find, filter as select, unwrap_or, bytes_eq}
 use Rattle.std.specs.List.{list_any, flat_map}
 use Rattle.ark_filters.specs.declared.filter.Filter.{Filter}

@@ -1,4 +1,4 @@
--- The move of a storage card: its oldest posted descriptor makes its next device call. Ours.
+-- The move of a storage card: its oldest posted descriptor makes its next device call.
 use Rattle.std.specs.Prelude.{ℕ, ◌+◌, ◌*◌, Bool, true, false, not, ◌&&◌, List, [], ◌∷◌, ◌++◌, nat_lt, ◌==◌, if◌then◌else◌, Option, Some, None, is_some, option_map, option_and_then, find, unwrap_or, slice_index_or, bytes_eq}
 use Rattle.std.specs.List.{list_any}
 use Rattle.ark_base.specs.declared.kind.Outcome.{Outcome}

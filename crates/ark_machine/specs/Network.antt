@@ -1,4 +1,4 @@
--- Network cards: `vnic`, `filter`, `use`, `post`, `send`, `take`, a frame that goes out, and one that arrives. Ours.
+-- Network cards: `vnic`, `filter`, `use`, `post`, `send`, `take`, a frame that goes out, and one that arrives.
 use Rattle.std.specs.Prelude.{ℕ, Bool, true, false, not, ◌&&◌, ◌||◌, List, [], ◌∷◌, ◌++◌, length, take, nat_le, nat_lt, if◌then◌else◌, Option, Some, None, is_some, is_none, option_map, unwrap_or, bytes_eq}
 use Rattle.ark_base.specs.Conditions.{none}
 use Rattle.ark_base.specs.declared.kind.Outcome.{Outcome}

@@ -1,4 +1,4 @@
--- What an application may hold. Ours.
+-- What an application may hold.
 use Rattle.std.specs.Prelude.{ℕ, ◌+◌, Bool, true, false, List, [], ◌∷◌, ◌++◌, length, Option, Some, None}
 use Rattle.std.specs.List.{flat_map}
 use Rattle.ark_base.specs.declared.kind.Outcome.{Outcome}

@@ -1,4 +1,4 @@
--- The control plane: what is granted, as sets and lists of names, blocks and filters. Ours.
+-- The control plane: what is granted, as sets and lists of names, blocks and filters.
 use Rattle.std.specs.Prelude.{ℕ, zero, suc, ◌+◌, ◌-◌, Bool, true, false, not, ◌&&◌, List, [], ◌++◌, length, take, nat_le, nat_lt, ◌==◌, if◌then◌else◌, Option, Some, None, is_some, is_none, option_map, find, filter as select, unwrap_or, bytes_eq}
 use Rattle.std.specs.List.{list_any, range_with_len}
 use Rattle.ark_extents.specs.Blocks.{runs_of}

@@ -1,4 +1,4 @@
--- What becomes of a log's commands: `poll` and `settle`. Ours.
+-- What becomes of a log's commands: `poll` and `settle`.
 use Rattle.std.specs.Prelude.{ℕ, ◌+◌, Bool, true, false, not, List, [], ◌∷◌, ◌++◌, drop, if◌then◌else◌, Option, Some, None, is_none, option_map, unwrap_or, slice_index_or}
 use Rattle.ark_base.specs.Conditions.{none}
 use Rattle.ark_base.specs.declared.kind.Kind.{Kind}

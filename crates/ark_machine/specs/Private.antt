@@ -1,4 +1,4 @@
--- What one application sees of a run: what comes to it, and the replies that it is given. Ours.
+-- What one application sees of a run: what comes to it, and the replies that it is given.
 use Rattle.std.specs.Prelude.{ℕ, Bool, List, [], ◌∷◌, ◌++◌, Option, Some, None, option_map, find, unwrap_or, if◌then◌else◌, bytes_eq}
 use Rattle.ark_packet.specs.declared.own.Own.{Own}
 use Rattle.ark_script.specs.Line as w

@@ -1,4 +1,4 @@
--- The one order of refusals, and the condition of each. Ours.
+-- The one order of refusals, and the condition of each.
 use Rattle.std.specs.Prelude.{◌≡◌, ℕ, true, Some}
 use Rattle.ark_base.specs.Conditions.{Conditions}
 use Rattle.ark_base.specs.declared.refusal.Refusal.{Refusal}

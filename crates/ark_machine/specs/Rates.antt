@@ -1,4 +1,4 @@
--- Rates, doorbells, and the queues that they pace and watch: `rate`, `pace`, `door`, `watch`, `look`. Ours.
+-- Rates, doorbells, and the queues that they pace and watch: `rate`, `pace`, `door`, `watch`, `look`.
 use Rattle.std.specs.Prelude.{ℕ, ◌+◌, Bool, true, false, not, ◌||◌, List, [], ◌∷◌, ◌++◌, nat_le, nat_lt, Option, Some, None, is_some, is_none, option_map, unwrap_or}
 use Rattle.ark_base.specs.Conditions.{none}
 use Rattle.ark_vic.specs.Bells as bells

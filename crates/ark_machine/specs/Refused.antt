@@ -1,4 +1,4 @@
--- What a refused line may leave behind it. Ours.
+-- What a refused line may leave behind it.
 use Rattle.std.specs.Prelude.{Bool, true, false, ◌&&◌, ◌||◌, List, map, ℕ}
 use Rattle.ark_base.specs.declared.refusal.Refusal.{Refusal}
 use Rattle.ark_base.specs.declared.refusal.Refusal.TheVariants as r

@@ -1,4 +1,4 @@
--- Each reply of a run is that of the machines, given what the plane recorded. Ours.
+-- Each reply of a run is that of the machines, given what the plane recorded.
 use Rattle.std.specs.Prelude.{◌≡◌, ◌⊎◌, ℕ, Bool, true, false, List, [], ◌∷◌, ◌++◌, length, drop, bytes_eq, Ok, Err, IsTrue}
 use Rattle.ark_base.specs.declared.refusal.Refusal.TheVariants as r
 use Rattle.ark_media.specs.Journal.{Event, output_of, device_events}

@@ -1,4 +1,4 @@
--- What one line does to its application's machine: the row of its word. Ours.
+-- What one line does to its application's machine: the row of its word.
 use Rattle.std.specs.Prelude.{ℕ, Bool, true, false, not, ◌&&◌, List, [], ◌∷◌, map, Option, Some, None}
 use Rattle.std.specs.List.{list_any}
 use Rattle.ark_base.specs.Conditions.{Conditions, early, late}

@@ -1,4 +1,4 @@
--- Sockets over a network card: `sock`, `sendto`, `recv`. Ours.
+-- Sockets over a network card: `sock`, `sendto`, `recv`.
 use Rattle.std.specs.Prelude.{ℕ, zero, suc, ◌+◌, Bool, true, false, not, ◌&&◌, ◌||◌, List, [], ◌∷◌, ◌++◌, length, take, map, replicate, nat_le, nat_lt, nat_eq, if◌then◌else◌, Option, Some, None, is_some, is_none, option_map, option_and_then, unwrap_or, bytes_eq, Result, Ok, Err}
 use Rattle.ark_base.specs.Conditions.{none}
 use Rattle.ark_packet.specs.Frame.{packet_in}

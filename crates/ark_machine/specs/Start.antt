@@ -1,4 +1,4 @@
--- How a run starts on a device: from the slots of its image. Ours.
+-- How a run starts on a device: from the slots of its image.
 use Rattle.std.specs.Prelude.{ℕ, false, List, [], ◌∷◌, length, map, None, if◌then◌else◌, bytes_eq}
 use Rattle.ark_base.specs.declared.kind.Kind.{Kind}
 use Rattle.ark_base.specs.declared.kind.Kind.TheVariants as kind

@@ -1,4 +1,4 @@
--- The private machine's step: one row for each word. Ours.
+-- The private machine's step: one row for each word.
 use Rattle.std.specs.Prelude.{ℕ, ◌+◌, true, false, unwrap_or}
 use Rattle.ark_base.specs.declared.kind.Kind.TheVariants as kind
 use Rattle.ark_script.specs.Line as w

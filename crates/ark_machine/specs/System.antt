@@ -1,4 +1,4 @@
--- The control plane with the machines of all applications, and what one line does to them. Ours.
+-- The control plane with the machines of all applications, and what one line does to them.
 use Rattle.std.specs.Prelude.{ℕ, ◌+◌, Bool, ◌&&◌, List, [], ◌∷◌, map, Option, Some, None, is_some, option_map, find, unwrap_or, if◌then◌else◌, bytes_eq}
 use Rattle.ark_base.specs.declared.refusal.Refusal.TheVariants as r
 use Rattle.ark_packet.specs.declared.own.Own.{Own}

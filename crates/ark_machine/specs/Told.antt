@@ -1,4 +1,4 @@
--- What a run puts out for one application, and the machine with which it begins. Ours.
+-- What a run puts out for one application, and the machine with which it begins.
 use Rattle.std.specs.Prelude.{ℕ, List, [], ◌∷◌, ◌++◌, Option, Some, None, Ok, Err, filter as select, if◌then◌else◌, bytes_eq}
 use Rattle.ark_base.specs.declared.kind.Kind.{Kind}
 use Rattle.ark_media.specs.Journal.{Event, output_of, device_events}

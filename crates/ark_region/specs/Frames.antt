@@ -1,4 +1,4 @@
--- A region as frames of 512 bytes, and the buffers that lie in it. Ours: no standard fixes them.
+-- A region as frames of 512 bytes, and the buffers that lie in it.
 use Rattle.std.specs.List.{AllByRecursion}
 use Rattle.std.specs.Prelude.{◌≡◌, ◌+◌, ◌*◌, ◌/◌, ◌<◌, ◌≤◌, ◌⊎◌, ◌↔◌, ℕ, Bool, true, false, List, [], ◌∷◌, ◌++◌, length, take, drop, slice_range, slice_index_or}
 

@@ -1,4 +1,4 @@
--- Parts of a region that are lent. Ours: no standard fixes it.
+-- Parts of a region that are lent.
 use Rattle.std.specs.Prelude.{ℕ, List, ◌*◌}
 use Rattle.std.specs.Borrow.{Lends, LendsBoth, MutBor, Fml, Array, u8}
 use Rattle.ark_region.specs.Frames.{Space, Piece, written, fitted, put}

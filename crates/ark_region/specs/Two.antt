@@ -1,4 +1,4 @@
--- Two parts of a slice that are lent at once. Ours: no standard fixes them.
+-- Two parts of a slice that are lent at once.
 use Rattle.std.specs.Prelude.{ℕ, List}
 use Rattle.std.specs.Borrow.{LendsBoth, MutBor, Fml, Array, u8}
 use Rattle.ark_region.specs.Frames.{put}

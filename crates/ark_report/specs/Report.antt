@@ -1,4 +1,4 @@
--- What the command `check` reports of a device. Ours.
+-- What the command `check` reports of a device.
 use Rattle.std.specs.Prelude.{ℕ, List, [], ◌∷◌, ◌++◌, length, map, codes, decimal, Result, Ok, Err}
 use Rattle.ark_base.specs.declared.kind.Kind.{Kind}
 use Rattle.ark_base.specs.declared.kind.Kind.TheVariants.{Raw, Log, Queue}

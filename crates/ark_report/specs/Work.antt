@@ -1,4 +1,4 @@
--- The script that the command `work` runs, and the line that it puts. Ours.
+-- The script that the command `work` runs, and the line that it puts.
 use Rattle.std.specs.Prelude.{◌≡◌, ℕ, zero, suc, ◌+◌, ◌-◌, ◌*◌, ◌/◌, ◌%◌, ◌^◌, Bool, true, false, not, ◌&&◌, List, [], ◌∷◌, ◌++◌, length, get_or, filter, flat_map, codes, decimal, ◌==◌, ◌||◌, nat_eq, nat_le, nat_lt, bytes_eq, if◌then◌else◌, Ok, Err}
 use Rattle.std.specs.Int.{w32, to_be_bytes}
 use Rattle.std.specs.List.{list_all, list_any}

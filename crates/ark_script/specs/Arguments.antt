@@ -1,4 +1,4 @@
--- How a word of a line spells an argument. Ours.
+-- How a word of a line spells an argument.
 use Rattle.std.specs.Prelude.{◌≡◌, ℕ, ◌+◌, ◌*◌, ◌≤◌, Bool, true, nat_eq, List, [], ◌∷◌, length, codes, decimal, Option, Some, None}
 use Rattle.std.specs.List.{list_all, list_any}
 use Rattle.hex.specs.Hex.{is_hex_digit}

@@ -1,4 +1,4 @@
--- The form of each word: its name, and the words behind it. Ours.
+-- The form of each word: its name, and the words behind it.
 use Rattle.std.specs.Prelude.{◌≡◌, ℕ, ◌-◌, ◌^◌, List, [], ◌∷◌, codes, Some, None}
 use Rattle.ark_script.specs.Arguments.{IsName, IsOptional, IsNumber, IsSize, IsHex, IsHex0, IsMac, IsKind, fewest_blocks, IsSide, IsDirection, IsProto, IsIp}
 use Rattle.ark_script.specs.Lists.{ArePeers, AreServices}

@@ -1,4 +1,4 @@
--- What a reply is after its buffer was lent. Ours.
+-- What a reply is after its buffer was lent.
 use Rattle.std.specs.Prelude.{ℕ, List, ◌++◌, length, take, drop}
 use Rattle.std.specs.Borrow.{Lends, MutBor, Fml, Array, u8}
 use Rattle.ark_script.specs.Reply.{Answer}

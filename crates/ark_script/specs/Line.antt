@@ -1,4 +1,4 @@
--- What a line of a script asks for. Ours.
+-- What a line of a script asks for.
 use Rattle.std.specs.Prelude.{ℕ, List, [], ◌∷◌, ◌+◌, ◌-◌, ◌*◌, Option, nat_lt, if◌then◌else◌}
 use Rattle.ark_base.specs.declared.kind.Kind.{Kind}
 use Rattle.ark_filters.specs.declared.filter.Direction.{Direction}

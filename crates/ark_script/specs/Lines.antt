@@ -1,4 +1,4 @@
--- The lines of a script, and what each of them means. Ours.
+-- The lines of a script, and what each of them means.
 use Rattle.std.specs.Prelude.{◌≡◌, ℕ, ◌+◌, ◌<◌, ◌≤◌, true, List, [], ◌∷◌, ◌++◌, length, if◌then◌else◌, nat_eq, Result, Ok, Err}
 use Rattle.ark_base.specs.declared.refusal.Refusal.{Refusal}
 use Rattle.ark_base.specs.declared.refusal.Refusal.TheVariants.{Syntax, UnknownWord, TooLong}

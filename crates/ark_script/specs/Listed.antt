@@ -1,4 +1,4 @@
--- What a word gives when it is read as one of the two lists of a filter. Ours.
+-- What a word gives when it is read as one of the two lists of a filter.
 use Rattle.std.specs.Prelude.{ℕ, zero, suc, bytes_eq, if◌then◌else◌, List, [], ◌∷◌, ◌++◌, codes, Option, Some, None}
 use Rattle.std.specs.Option.{option_map, option_or}
 use Rattle.ark_filters.specs.declared.filter.Peers.{Peers}

@@ -1,4 +1,4 @@
--- The two lists of a filter. Ours.
+-- The two lists of a filter.
 use Rattle.std.specs.Prelude.{◌≡◌, ◌⊎◌, ℕ, ◌-◌, ◌≤◌, List, [], ◌∷◌, ◌++◌, length, replicate, codes}
 use Rattle.ark_filters.specs.declared.filter.Peers.{Peers}
 use Rattle.ark_filters.specs.declared.filter.Services.{Services}

@@ -1,4 +1,4 @@
--- What the words of a line mean, read from left to right. Ours.
+-- What the words of a line mean, read from left to right.
 use Rattle.std.specs.Prelude.{◌≡◌, ℕ, List, [], ◌∷◌, Option, Some, None, Result, Ok, Err}
 use Rattle.ark_base.specs.declared.refusal.Refusal.{Refusal}
 use Rattle.ark_base.specs.declared.refusal.Refusal.TheVariants.{Syntax, UnknownWord}

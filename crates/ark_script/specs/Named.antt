@@ -1,4 +1,4 @@
--- What a reply or a refusal says behind its first words. Ours.
+-- What a reply or a refusal says behind its first words.
 use Rattle.std.specs.Prelude.{ℕ, List, [], ◌++◌, codes, decimal}
 use Rattle.ark_base.specs.declared.refusal.Refusal.{Refusal}
 use Rattle.ark_base.specs.declared.refusal.Refusal.TheVariants as r

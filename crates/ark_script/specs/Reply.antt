@@ -1,4 +1,4 @@
--- What contracts see of a reply. Ours.
+-- What contracts see of a reply.
 use Rattle.std.specs.Prelude.{ℕ, List, take}
 use Rattle.ark_script.specs.declared.said.Said.{Said}
 

@@ -1,4 +1,4 @@
--- Words behind the first, read one by one. Ours.
+-- Words behind the first, read one by one.
 use Rattle.std.specs.Prelude.{List, ℕ, Option, Some}
 use Rattle.ark_script.specs.Reading.{◌>>=◌, one_of, two_of, three_of, four_of, five_of, six_of}
 

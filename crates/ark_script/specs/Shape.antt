@@ -1,4 +1,4 @@
--- What a line asks for, by its word and the words behind it. Ours.
+-- What a line asks for, by its word and the words behind it.
 use Rattle.std.specs.Prelude.{ℕ, ◌-◌, ◌^◌, nat_le, if◌then◌else◌, List, Option, Some, None}
 use Rattle.std.specs.Option.{option_or}
 use Rattle.ark_script.specs.Arguments.{fewest_blocks}

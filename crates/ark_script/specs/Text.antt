@@ -1,4 +1,4 @@
--- The text of a reply. Ours.
+-- The text of a reply.
 use Rattle.std.specs.Prelude.{◌≡◌, ℕ, Bool, true, false, not, ◌&&◌, nat_eq, List, [], ◌∷◌, ◌++◌, codes, decimal}
 use Rattle.hex.specs.Hex.{encode_lower}
 use Rattle.ark_base.specs.Name.{is_name}

@@ -1,4 +1,4 @@
--- The words of the program. Ours.
+-- The words of the program.
 use Rattle.std.specs.Prelude.{ℕ, bytes_eq, List, [], ◌∷◌, codes, Option}
 use Rattle.std.specs.Map.{lookup}
 use Rattle.ark_script.specs.declared.reading.word.Word.{Word}

@@ -1,4 +1,4 @@
--- The words of a line, and which words begin one. Ours.
+-- The words of a line, and which words begin one.
 use Rattle.std.specs.Prelude.{◌≡◌, ℕ, true, nat_eq, bytes_eq, if◌then◌else◌, List, [], ◌∷◌, codes}
 use Rattle.std.specs.List.{list_any, slice_split}
 

@@ -13,6 +13,3 @@ pub use reading::{MAX_LINE, one_meaning, read_line};
 pub use reply::{MAX_SHOWN, Reply};
 pub use said::Said;
 pub use step::{Hex, Side, Step};
-
-#[cfg(test)]
-mod printed;

@@ -11,8 +11,6 @@ mod number;
 mod shape;
 mod single;
 mod split;
-#[cfg(test)]
-mod tests;
 mod word;
 
 use crate::step::Step;

@@ -1,4 +1,4 @@
--- How often each bell of a door rang. Ours: no standard fixes it.
+-- How often each bell of a door rang.
 use Rattle.std.specs.Prelude.{ℕ, ◌+◌, ◌-◌, ◌^◌, min, Bool, true, false, List, [], ◌∷◌, if◌then◌else◌}
 use Rattle.ark_vic.specs.declared.door.Bell.{Bell}
 use Rattle.ark_vic.specs.declared.door.Bell.TheVariants.{Rx, Tx, Io}

@@ -1,4 +1,4 @@
--- The law of rates, and the running number that stands for a list of passes. Ours: no standard fixes them.
+-- The law of rates, and the running number that stands for a list of passes.
 use Rattle.std.specs.List.{AllByRecursion}
 use Rattle.std.specs.Prelude.{◌≡◌, ◌+◌, ◌-◌, ◌*◌, ◌≤◌, ◌&&◌, ℕ, List, [], ◌∷◌, max, nat_le, if◌then◌else◌}
 

@@ -1,4 +1,4 @@
--- A ring as two lists. Ours: no standard fixes it.
+-- A ring as two lists.
 use Rattle.std.specs.Prelude.{◌+◌, ◌++◌, ◌∷◌, ℕ, List, [], length, drop}
 use Rattle.ark_base.specs.declared.kind.Outcome.{Outcome}
 use Rattle.ark_vic.specs.declared.descriptor.Descriptor.{Descriptor}

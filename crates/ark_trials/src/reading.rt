@@ -1,5 +1,6 @@
-use super::{MAX_LINE, read_line};
-use crate::step::Step;
+//! Lines of every word, read.
+
+use ark_script::{MAX_LINE, Step, read_line};
 use std::alloc::{AllocError, Global};
 
 // The number of the refusal, or 0 where the line is read.

