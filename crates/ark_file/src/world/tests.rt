@@ -1,3 +1,5 @@
+ghost use Rattle.std.specs.Prelude.{◌<◌, IfOk};
+
 use super::*;
 use std::test::Fail;
 use std::{env, fs, process};
