@@ -6,9 +6,12 @@ const BESIDE: &str = "=>";
 /// A script with the replies that stand beside its lines.
 #[derive(Drop)]
 pub struct Example {
-    script: String,
-    replies: String,
-    lines: u64,
+    /// The lines, each with its newline.
+    pub script: String,
+    /// The replies, each with its newline.
+    pub replies: String,
+    /// How many lines there are.
+    pub lines: u64,
 }
 
 impl Example {
@@ -34,20 +37,5 @@ impl Example {
         self.replies.push('\n')?;
         self.lines = self.lines.saturating_add(1);
         Ok(())
-    }
-
-    /// The lines, each with its newline.
-    pub fn script(&self) -> &str {
-        &self.script
-    }
-
-    /// The replies, each with its newline.
-    pub fn replies(&self) -> &str {
-        &self.replies
-    }
-
-    /// How many lines there are.
-    pub fn lines(&self) -> u64 {
-        self.lines
     }
 }

@@ -20,7 +20,7 @@ fn main(rt: HostRuntime) -> anyhow::Result<()> {
         } else {
             "other replies"
         };
-        println!(rt; "{name}: {} lines, {how}", example.lines())?;
+        println!(rt; "{name}: {} lines, {how}", example.lines)?;
     }
     Ok(())
 }

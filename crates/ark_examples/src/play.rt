@@ -25,10 +25,10 @@ fn words(alloc: Global) -> anyhow::Result<Vec<String>> {
 /// Plays an example on a new device: whether each line has the reply that stands beside it.
 pub fn is_as_written(alloc: Global, example: &Example) -> anyhow::Result<bool> {
     let words = words(alloc)?;
-    let script = example.script().as_bytes();
+    let script = example.script.as_bytes();
     let made = MemoryWorld::new(alloc, b"", 200, script, &[], CALLS, TEXT);
     let mut world = made.map_err(|_| anyhow!("no memory for a device"))?;
     arrakis(alloc, &words, &mut world);
     let replies = world.out().strip_prefix(READY);
-    Ok(replies == Some(example.replies().as_bytes()))
+    Ok(replies == Some(example.replies.as_bytes()))
 }
