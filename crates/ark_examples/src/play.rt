@@ -1,7 +1,7 @@
 use crate::example::Example;
 use anyhow::anyhow;
 use ark_cli::arrakis;
-use ark_media::MemoryWorld;
+use ark_memory::MemoryWorld;
 use std::alloc::Global;
 
 /// The most device calls that an example may make.

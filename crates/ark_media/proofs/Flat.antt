@@ -2,7 +2,7 @@
 use Rattle.std.proofs.Common.{◌≡◌, ℕ, zero, suc, ◌+◌, ◌-◌, ◌*◌, ◌/◌, ◌%◌, ◌<◌, ◌≤◌, List, [], ◌∷◌, ◌++◌, length, take, drop, set, replicate, refl, sym, ◌∙◌, ap, arith, append_assoc, length-append, length-drop}
 use Rattle.std.proofs.lemmas.List.{take-append-drop, take-append-le, take_all, length-take, take-replicate, drop-replicate, length-replicate}
 use Rattle.std.proofs.Math.Seq.{drop-append_seam, drop-append-add, take-append-add}
-use Rattle.ark_media.specs.Blocks.{blocks_in, blocks_of, flat, AllWhole}
+use Rattle.ark_media.specs.Blocks.{blocks_in, whole_blocks, flat, AllWhole}
 use Rattle.ark_media.specs.Journal.{AllBlocks, block, zero_block}
 
 pub length-blocks_in : (n : ℕ) (bytes : List ℕ) → length (blocks_in n bytes) ≡ n
@@ -75,16 +75,16 @@ blocks-zeros (suc n) =
     ∙ ap (λ t. zero_block ∷ t) (blocks-zeros n)
 
 -- whole blocks, as many as there are
-pub blocks_of_whole : (n : ℕ) (bytes : List ℕ) → length bytes ≡ 512 * n → blocks_of bytes ≡ blocks_in n bytes
+pub blocks_of_whole : (n : ℕ) (bytes : List ℕ) → length bytes ≡ 512 * n → whole_blocks bytes ≡ blocks_in n bytes
 blocks_of_whole n bytes is = let count : length bytes / 512 ≡ n = omega (arith, is) in ap (λ k. blocks_in k bytes) count
 
-pub zeros : (n : ℕ) → blocks_of (replicate (512 * n) 0) ≡ replicate n zero_block
+pub zeros : (n : ℕ) → whole_blocks (replicate (512 * n) 0) ≡ replicate n zero_block
 zeros n = blocks_of_whole n (replicate (512 * n) 0) (length-replicate (512 * n) 0) ∙ blocks-zeros n
 
-pub flat_of_whole : (bytes : List ℕ) → length bytes % 512 ≡ 0 → flat (blocks_of bytes) ≡ bytes
+pub flat_of_whole : (bytes : List ℕ) → length bytes % 512 ≡ 0 → flat (whole_blocks bytes) ≡ bytes
 flat_of_whole bytes whole = flat-blocks_in (length bytes / 512) bytes (omega (arith, whole))
 
-pub whole_of_whole : (bytes : List ℕ) → length bytes % 512 ≡ 0 → AllWhole (blocks_of bytes)
+pub whole_of_whole : (bytes : List ℕ) → length bytes % 512 ≡ 0 → AllWhole (whole_blocks bytes)
 whole_of_whole bytes whole = whole-blocks_in (length bytes / 512) bytes (omega (arith, whole))
 
 -- block by block
@@ -94,14 +94,14 @@ each_whole [] whole n inside = absurd (omega (arith, inside))
 each_whole (b ∷ bs) whole zero inside = whole.0
 each_whole (b ∷ bs) whole (suc n) inside = each_whole bs whole.1 n (omega (arith, inside))
 
-pub found_blocks : (bytes : List ℕ) → length bytes % 512 ≡ 0 → AllBlocks (blocks_of bytes)
-found_blocks bytes whole = each_whole (blocks_of bytes) (whole_of_whole bytes whole)
+pub found_blocks : (bytes : List ℕ) → length bytes % 512 ≡ 0 → AllBlocks (whole_blocks bytes)
+found_blocks bytes whole = each_whole (whole_blocks bytes) (whole_of_whole bytes whole)
 
 pub zero_blocks : (n : ℕ) → AllBlocks (replicate n zero_block)
 zero_blocks zero k inside = absurd (omega (arith, inside))
 zero_blocks (suc n) zero inside = length-replicate {A = ℕ} 512 0
 zero_blocks (suc n) (suc k) inside = zero_blocks n k (omega (arith, inside))
 
-pub no_blocks : blocks_of [] ≡ []
+pub no_blocks : whole_blocks [] ≡ []
 unfolding blocks_in
 no_blocks = refl

@@ -4,6 +4,7 @@ use Rattle.std.proofs.lemmas.Bool.{cases_eq}
 use Rattle.std.proofs.lemmas.List.{length-set, ext_get_or}
 use Rattle.ark_media.specs.Journal.{Event, Read, Write, Sync, Out, block, current}
 use Rattle.ark_media.specs.Stops.{MayHold, MayLeave, AnyBytes, NoSync, WrittenIn, IsLeft, LeftInWords}
+use Rattle.ark_media.specs.StopLaws.{StopLaws}
 
 abbrev Image : Type 0
 Image = List (List ℕ)
@@ -114,3 +115,14 @@ left_in_words Torn base j x m = record { size = m.size; each = λ n lt. left_fro
 
 pub left_by_recursion : (Torn : List ℕ → List ℕ → Type 0) (base : Image) (j : List Event) (x : Image) → LeftInWords Torn base j x → MayLeave Torn base j x
 left_by_recursion Torn base j x m = record { size = m.size; each = λ n lt. from_left Torn base j n (block x n) (m.each n lt) }
+
+-- all laws of a model in which a stop may leave what was written
+pub stop_laws : (Torn : List ℕ → List ℕ → Type 0) → ((c : List ℕ) → Torn c c) → StopLaws Torn
+stop_laws Torn same = record {
+  in_words = left_in_words Torn;
+  by_recursion = left_by_recursion Torn;
+  write_adds = λ base j m n c took ok b other. other_write Torn base j m n c took ok other b;
+  sync_narrows = λ base j ok n b inside. sync_narrows Torn same base j ok n inside b;
+  now_may = now_left Torn same;
+  synced = synced_alone Torn;
+}

@@ -1,4 +1,4 @@
--- Bytes as blocks, and blocks as bytes. Ours: no standard fixes them.
+-- Bytes as blocks, and blocks as bytes.
 use Rattle.std.specs.Prelude.{◌≡◌, ℕ, zero, suc, ◌/◌, List, [], ◌∷◌, ◌++◌, length, take, drop}
 
 -- the first n blocks of the bytes
@@ -7,8 +7,8 @@ blocks_in zero bytes = []
 blocks_in (suc n) bytes = take 512 bytes ∷ blocks_in n (drop 512 bytes)
 
 -- all whole blocks of the bytes
-abbrev pub blocks_of : List ℕ → List (List ℕ)
-blocks_of bytes = blocks_in (length bytes / 512) bytes
+abbrev pub whole_blocks : List ℕ → List (List ℕ)
+whole_blocks bytes = blocks_in (length bytes / 512) bytes
 
 -- the blocks, one after another
 unfoldable pub flat : List (List ℕ) → List ℕ

@@ -1,4 +1,4 @@
--- Calls of the outside, and what each of them leaves. No standard fixes them.
+-- Calls of the outside, and what each of them leaves.
 use Rattle.std.specs.Prelude.{◌≡◌, ◌⊎◌, ℕ, ◌+◌, ◌-◌, ◌^◌, ◌≤◌, min, Bool, true, false, List, [], ◌∷◌, ◌++◌, length, take, Option, Some, None, Result, OnOk, OnErr}
 use Rattle.ark_media.specs.Journal.{Event, Read, Write, Sync, Out, History, onto, HasFailed, block, current}
 

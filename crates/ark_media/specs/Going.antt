@@ -1,4 +1,4 @@
--- How what is told goes on: the laws that every implementation of the outside cites, written out. No standard fixes it.
+-- How what is told goes on: the laws that every implementation of the outside cites, written out.
 use Rattle.std.proofs.Common.{◌≡◌, ◌⊎◌, inl, inr, ⊎_elim, ℕ, ◌+◌, ◌-◌, ◌^◌, ◌≤◌, List, [], ◌∷◌, ◌++◌, refl, sym, ◌∙◌, ap}
 use Rattle.std.proofs.Math.Nat.{le_refl, le_trans, le-min, min-le_left, min-le_right, add-le-add}
 use Rattle.std.specs.Prelude.{Option}

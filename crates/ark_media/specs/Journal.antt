@@ -1,4 +1,4 @@
--- What a disk and an output went through, and what stands on the disk after it. No standard fixes it.
+-- What a disk and an output went through, and what stands on the disk after it.
 use Rattle.std.specs.Prelude.{◌≡◌, ◌⊎◌, ◌<◌, ℕ, Bool, true, false, List, [], ◌∷◌, ◌++◌, length, replicate, set, get_or}
 
 -- One call and what came of it: a read of a block, a write (its block, its content, whether it took effect, whether it

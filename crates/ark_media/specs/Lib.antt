@@ -1,13 +1,7 @@
 pub mod Journal
 pub mod Calls
-pub mod Openings
 pub mod Going
 pub mod Parts
 pub mod Stops
+pub mod StopLaws
 pub mod Blocks
-pub mod Memory
-pub mod Plan
-pub mod Shown
-pub mod Tape
-pub mod Size
-pub mod World

@@ -1,4 +1,4 @@
--- A journal in parts: one for the opening, one for each reply, and what is not finished. Ours: no standard fixes it.
+-- A journal in parts: one for the opening, one for each reply, and what is not finished.
 use Rattle.std.specs.Prelude.{◌≡◌, ℕ, Bool, true, false, not, ◌&&◌, ◌||◌, nat_eq, ◌==◌, List, [], ◌∷◌, ◌++◌, codes, if◌then◌else◌}
 use Rattle.std.specs.List.{starts_with}
 use Rattle.ark_media.specs.Journal.{Event, Read, Write, Sync, Out}

@@ -1,6 +1,6 @@
 use crate::runs::{Finished, run};
 use ark_base::Status;
-use ark_media::Fail;
+use ark_memory::Fail;
 use std::alloc::Global;
 use std::test::Fail as Failure;
 

@@ -1,6 +1,6 @@
 use crate::runs::run;
 use ark_base::Status;
-use ark_media::Fail;
+use ark_memory::Fail;
 use std::test::Fail as Failure;
 
 // Each call of a run fails in turn. The calls are make, write, sync, the put of the device's line, fetch, the puts of two

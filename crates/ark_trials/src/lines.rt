@@ -2,7 +2,7 @@ use crate::runs::{run, words_of};
 use crate::watched::Watched;
 use ark_base::Status;
 use ark_cli::arrakis;
-use ark_media::MemoryWorld;
+use ark_memory::MemoryWorld;
 use std::test::Fail;
 
 // Scripts, and the replies behind the line of the device.

@@ -1,7 +1,8 @@
 use crate::runs::words_of;
 use ark_cli::{Task, WordsFault, read_words};
 use ark_host::Host;
-use ark_media::{MemoryWorld, Outside};
+use ark_media::Outside;
+use ark_memory::MemoryWorld;
 use ark_script::{Reply, Said, read_line};
 use std::test::Fail;
 

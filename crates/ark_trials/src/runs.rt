@@ -2,7 +2,7 @@
 
 use ark_base::Status;
 use ark_cli::arrakis;
-use ark_media::{Fail, MemoryWorld};
+use ark_memory::{Fail, MemoryWorld};
 use std::alloc::Global;
 use std::test::Fail as Failure;
 

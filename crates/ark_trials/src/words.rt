@@ -1,7 +1,7 @@
 use crate::runs::{run, words_of};
 use ark_base::Status;
 use ark_cli::arrakis;
-use ark_media::{Event, MemoryWorld};
+use ark_memory::{Event, MemoryWorld};
 use std::test::Fail;
 
 // A fresh device and an empty script.

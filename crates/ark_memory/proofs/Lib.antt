@@ -1,0 +1,5 @@
+pub mod Taping
+pub mod Fetching
+pub mod Recording
+pub mod Failing
+pub mod Moving

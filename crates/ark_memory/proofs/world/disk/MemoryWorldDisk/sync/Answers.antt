@@ -1,0 +1,24 @@
+use Rattle.std.proofs.Common.{is_ok, length, refl, ◌∙◌}
+use Rattle.ark_media.specs.Journal.{Sync}
+use Rattle.ark_media.specs.Calls.{Syncs}
+use Rattle.ark_memory.specs.Turns.{works}
+use Rattle.ark_memory.specs.World.{beside_by}
+use Rattle.ark_memory.proofs.Moving.{went, ready_noted}
+use Rattle.ark_memory.proofs.world.disk.MemoryWorldDisk.sync.Goals as goal
+
+pub invariant_of-self : goal.invariant_of-self
+invariant_of-self c =
+    let w = c.args.self.now in
+    let turn = c.next-turn.result in
+    record {
+      ready = ready_noted (length w.found.items) w.room w.device w.schedule.calls w.schedule.made c.next-turn.new.self.made w.text w.ready c.next-turn.ensures.made turn c.next-turn.ensures.due (Sync (works turn))
+          c.sync.new.self c.next-turn.new.self.calls refl c.sync.ensures c.next-turn.ensures.calls;
+    }
+
+pub returns-clause-went : goal.returns-clause-went
+returns-clause-went c =
+    let w = c.args.self.now in
+    let turn = c.next-turn.result in
+    let m = went turn Syncs (Sync (works turn)) w.device c.sync.new.self (beside_by w) w.disk_faults c.answer.new.faults c.sync.ensures c.answer.ensures.later
+    (is_ok c.answer.result) (c.answer.ensures.planned ∙ c.works.ensures) refl c.answer.ensures.counts in
+    record { events = m.0; makes = m.1; goes_on = m.2 }
