@@ -1,6 +1,6 @@
 -- Where one frame matches two receive filters, their lists meet.
-use Rattle.std.proofs.Common.{◌≡◌, ℕ, List, drop, true, ◌&&◌, sym, subst, arith}
-use Rattle.std.proofs.lemmas.Bool.{and_from}
+use Rattle.std.proofs.Common.{◌≡◌, ℕ, List, drop, true, ◌&&◌, nat_eq, sym, ◌∙◌, subst}
+use Rattle.std.proofs.lemmas.Bool.{and_from, eq-eqb}
 use Rattle.ark_packet.specs.Frame.{source_of, proto_of, packet_in}
 use Rattle.ark_packet.specs.declared.own.Own.{Own}
 use Rattle.ark_filters.specs.declared.filter.Filter.{Filter}
@@ -8,25 +8,27 @@ use Rattle.ark_filters.specs.declared.filter.Peers.{Peers}
 use Rattle.ark_filters.specs.declared.filter.Services.{Services}
 use Rattle.ark_filters.specs.declared.filter.Direction.TheVariants.{Rx}
 use Rattle.ark_filters.specs.declared.filter.Proto.{Proto}
-use Rattle.ark_filters.specs.declared.filter.Proto.TheVariants.{Eth, Ip, Udp, Tcp}
+use Rattle.ark_filters.specs.declared.layer.Layer.{Layer}
+use Rattle.ark_filters.specs.declared.layer.Layer.TheVariants.{Types, Protocols, Ports}
+use Rattle.ark_filters.specs.Layer.{layer_of}
 use Rattle.ark_filters.specs.Filter.{is_peer, is_service}
 use Rattle.ark_filters.specs.In.{some_packet_matches, is_in}
-use Rattle.ark_filters.specs.Overlap.{Overlaps, peers_meet, services_meet, meets}
+use Rattle.ark_filters.specs.Overlap.{Overlaps, peers_meet, services_meet, meets_under, meets}
 use Rattle.ark_filters.specs.Rule.{IsReceiveRule}
 use Rattle.ark_filters.proofs.Overlapping.{some_own, some_is_own, turned, meets_overlap}
 use Rattle.ark_filters.proofs.Meeting.{peers_share, services_share}
-use Rattle.ark_filters.proofs.Receive.{receive, is_receive}
-use Rattle.ark_filters.proofs.Matched.{sender, port, eth_has, ip_seen, udp_seen, tcp_seen, one_packet, type_of_packet, ip_has, udp_has, tcp_has}
+use Rattle.ark_filters.proofs.Receive.{receive, is_receive, in_under}
+use Rattle.ark_filters.proofs.Matched.{sender, port, by_type, protocols_seen, ports_seen, one_packet, type_of_packet, by_protocol, by_port}
 
 both_share : (a c : Peers) (b d : Services) (peer : List ℕ) (service : ℕ) → is_peer a peer ≡ true → is_peer c peer ≡ true → is_service b service ≡ true
     → is_service d service ≡ true → (peers_meet a c && services_meet b d) ≡ true
 both_share a c b d peer service pa pc sb sd = and_from (peers_meet a c) (services_meet b d) (peers_share a c peer pa pc) (services_share b d service sb sd)
 
 -- the type of Ethernet is that of IPv4
-of_type : (a : Peers) (b : Services) (g : Filter) (own : Own) (bytes : List ℕ) → is_in (receive Eth a b) bytes own ≡ true
-    → some_packet_matches g (packet_in bytes) own ≡ true → is_service b 2048 ≡ true
-of_type a b g own bytes h seen =
-    subst (λ (n : ℕ). is_service b n ≡ true) (type_of_packet g own (proto_of bytes) (drop 14 bytes) seen) (eth_has a b own bytes h).1
+of_type : (proto : Proto) (a : Peers) (b : Services) (g : Filter) (l : Layer) (own : Own) (bytes : List ℕ) → in_under Types (receive proto a b) bytes own ≡ true
+    → some_packet_matches g l (packet_in bytes) own ≡ true → is_service b 2048 ≡ true
+of_type proto a b g l own bytes h seen =
+    subst (λ (n : ℕ). is_service b n ≡ true) (type_of_packet g l own (proto_of bytes) (drop 14 bytes) seen) (by_type proto a b own bytes h).1
 
 -- peers of one address and a protocol of one number
 protocol_shares : (a c : Peers) (b : Services) (peer : List ℕ) (protocol n : ℕ) → is_peer a peer ≡ true → is_peer c peer ≡ true → is_service b protocol ≡ true
@@ -34,65 +36,36 @@ protocol_shares : (a c : Peers) (b : Services) (peer : List ℕ) (protocol n : �
 protocol_shares a c b peer protocol n pa pc sb e =
     and_from (peers_meet a c) (is_service b n) (peers_share a c peer pa pc) (subst (λ (x : ℕ). is_service b x ≡ true) e sb)
 
-share : (p q : Proto) (a c : Peers) (b d : Services) (own : Own) (bytes : List ℕ) → is_in (receive p a b) bytes own ≡ true → is_in (receive q c d) bytes own ≡ true
-    → meets (receive p a b) (receive q c d) ≡ true
-share Eth Eth a c b d own bytes hf hg =
-    let f = eth_has a b own bytes hf in
-    let g = eth_has c d own bytes hg in
+share : (l m : Layer) (p q : Proto) (a c : Peers) (b d : Services) (own : Own) (bytes : List ℕ) → in_under l (receive p a b) bytes own ≡ true → in_under m (receive q c d) bytes own ≡ true
+    → meets_under l m (receive p a b) (receive q c d) ≡ true
+share Types Types p q a c b d own bytes hf hg =
+    let f = by_type p a b own bytes hf in
+    let g = by_type q c d own bytes hg in
     both_share a c b d (source_of bytes) (proto_of bytes) f.0 g.0 f.1 g.1
-share Eth Ip a c b d own bytes hf hg = of_type a b (receive Ip c d) own bytes hf (ip_seen c d own bytes hg)
-share Eth Udp a c b d own bytes hf hg = of_type a b (receive Udp c d) own bytes hf (udp_seen c d own bytes hg)
-share Eth Tcp a c b d own bytes hf hg = of_type a b (receive Tcp c d) own bytes hf (tcp_seen c d own bytes hg)
-share Ip Eth a c b d own bytes hf hg = of_type c d (receive Ip a b) own bytes hg (ip_seen a b own bytes hf)
-share Udp Eth a c b d own bytes hf hg = of_type c d (receive Udp a b) own bytes hg (udp_seen a b own bytes hf)
-share Tcp Eth a c b d own bytes hf hg = of_type c d (receive Tcp a b) own bytes hg (tcp_seen a b own bytes hf)
-share Ip Ip a c b d own bytes hf hg =
-    let one = one_packet (receive Ip a b) (receive Ip c d) own (packet_in bytes) (ip_seen a b own bytes hf) (ip_seen c d own bytes hg) in
-    let f = ip_has a b own one.0 one.1 in
-    let g = ip_has c d own one.0 one.2 in
+share Types Protocols p q a c b d own bytes hf hg = of_type p a b (receive q c d) Protocols own bytes hf (protocols_seen q c d own bytes hg)
+share Types (Ports n l) p q a c b d own bytes hf hg = of_type p a b (receive q c d) (Ports n l) own bytes hf (ports_seen q c d own n l bytes hg)
+share Protocols Types p q a c b d own bytes hf hg = of_type q c d (receive p a b) Protocols own bytes hg (protocols_seen p a b own bytes hf)
+share (Ports n l) Types p q a c b d own bytes hf hg = of_type q c d (receive p a b) (Ports n l) own bytes hg (ports_seen p a b own n l bytes hf)
+share Protocols Protocols p q a c b d own bytes hf hg =
+    let one = one_packet (receive p a b) (receive q c d) Protocols Protocols own (packet_in bytes) (protocols_seen p a b own bytes hf) (protocols_seen q c d own bytes hg) in
+    let f = by_protocol p a b own one.0 one.1 in
+    let g = by_protocol q c d own one.0 one.2 in
     both_share a c b d (sender one.0) one.0.protocol f.0 g.0 f.1 g.1
-share Ip Udp a c b d own bytes hf hg =
-    let one = one_packet (receive Ip a b) (receive Udp c d) own (packet_in bytes) (ip_seen a b own bytes hf) (udp_seen c d own bytes hg) in
-    let f = ip_has a b own one.0 one.1 in
-    let g = udp_has c d own one.0 one.2 in
-    protocol_shares a c b (sender one.0) one.0.protocol 17 f.0 g.0 f.1 g.1
-share Ip Tcp a c b d own bytes hf hg =
-    let one = one_packet (receive Ip a b) (receive Tcp c d) own (packet_in bytes) (ip_seen a b own bytes hf) (tcp_seen c d own bytes hg) in
-    let f = ip_has a b own one.0 one.1 in
-    let g = tcp_has c d own one.0 one.2 in
-    protocol_shares a c b (sender one.0) one.0.protocol 6 f.0 g.0 f.1 g.1
-share Udp Ip a c b d own bytes hf hg =
-    let one = one_packet (receive Udp a b) (receive Ip c d) own (packet_in bytes) (udp_seen a b own bytes hf) (ip_seen c d own bytes hg) in
-    let f = udp_has a b own one.0 one.1 in
-    let g = ip_has c d own one.0 one.2 in
-    protocol_shares c a d (sender one.0) one.0.protocol 17 g.0 f.0 g.1 f.1
-share Tcp Ip a c b d own bytes hf hg =
-    let one = one_packet (receive Tcp a b) (receive Ip c d) own (packet_in bytes) (tcp_seen a b own bytes hf) (ip_seen c d own bytes hg) in
-    let f = tcp_has a b own one.0 one.1 in
-    let g = ip_has c d own one.0 one.2 in
-    protocol_shares c a d (sender one.0) one.0.protocol 6 g.0 f.0 g.1 f.1
-share Udp Udp a c b d own bytes hf hg =
-    let one = one_packet (receive Udp a b) (receive Udp c d) own (packet_in bytes) (udp_seen a b own bytes hf) (udp_seen c d own bytes hg) in
-    let f = udp_has a b own one.0 one.1 in
-    let g = udp_has c d own one.0 one.2 in
-    both_share a c b d (sender one.0) (port one.0) f.0 g.0 f.2 g.2
-share Tcp Tcp a c b d own bytes hf hg =
-    let one = one_packet (receive Tcp a b) (receive Tcp c d) own (packet_in bytes) (tcp_seen a b own bytes hf) (tcp_seen c d own bytes hg) in
-    let f = tcp_has a b own one.0 one.1 in
-    let g = tcp_has c d own one.0 one.2 in
-    both_share a c b d (sender one.0) (port one.0) f.0 g.0 f.2 g.2
-share Udp Tcp a c b d own bytes hf hg =
-    let one = one_packet (receive Udp a b) (receive Tcp c d) own (packet_in bytes) (udp_seen a b own bytes hf) (tcp_seen c d own bytes hg) in
-    absurd (apart one.0.protocol (udp_has a b own one.0 one.1).1 (tcp_has c d own one.0 one.2).1)
-  where
-    apart : (n : ℕ) → n ≡ 17 → n ≡ 6 → ⊥
-    apart n h k = omega arith
-share Tcp Udp a c b d own bytes hf hg =
-    let one = one_packet (receive Tcp a b) (receive Udp c d) own (packet_in bytes) (tcp_seen a b own bytes hf) (udp_seen c d own bytes hg) in
-    absurd (apart one.0.protocol (tcp_has a b own one.0 one.1).1 (udp_has c d own one.0 one.2).1)
-  where
-    apart : (n : ℕ) → n ≡ 6 → n ≡ 17 → ⊥
-    apart n h k = omega arith
+share Protocols (Ports n l) p q a c b d own bytes hf hg =
+    let one = one_packet (receive p a b) (receive q c d) Protocols (Ports n l) own (packet_in bytes) (protocols_seen p a b own bytes hf) (ports_seen q c d own n l bytes hg) in
+    let f = by_protocol p a b own one.0 one.1 in
+    let g = by_port q c d own n l one.0 one.2 in
+    protocol_shares a c b (sender one.0) one.0.protocol n f.0 g.0 f.1 g.1
+share (Ports n l) Protocols p q a c b d own bytes hf hg =
+    let one = one_packet (receive p a b) (receive q c d) (Ports n l) Protocols own (packet_in bytes) (ports_seen p a b own n l bytes hf) (protocols_seen q c d own bytes hg) in
+    let f = by_port p a b own n l one.0 one.1 in
+    let g = by_protocol q c d own one.0 one.2 in
+    protocol_shares c a d (sender one.0) one.0.protocol n g.0 f.0 g.1 f.1
+share (Ports n l) (Ports m h) p q a c b d own bytes hf hg =
+    let one = one_packet (receive p a b) (receive q c d) (Ports n l) (Ports m h) own (packet_in bytes) (ports_seen p a b own n l bytes hf) (ports_seen q c d own m h bytes hg) in
+    let f = by_port p a b own n l one.0 one.1 in
+    let g = by_port q c d own m h one.0 one.2 in
+    and_from (nat_eq n m) (peers_meet a c && services_meet b d) (eq-eqb n m (sym f.1 ∙ g.1)) (both_share a c b d (sender one.0) (port one.0) f.0 g.0 f.2 g.2)
 
 pub both_match : (f g : Filter) (own : Own) (bytes : List ℕ) → f.direction ≡ Rx → g.direction ≡ Rx → is_in f bytes own ≡ true → is_in g bytes own ≡ true → meets f g ≡ true
 both_match f g own bytes hf hg first second =
@@ -100,7 +73,7 @@ both_match f g own bytes hf hg first second =
     let k : Filter = receive g.proto g.peers g.services in
     let one : is_in h bytes own ≡ true = subst (λ (x : Filter). is_in x bytes own ≡ true) (sym (is_receive f hf)) first in
     let two : is_in k bytes own ≡ true = subst (λ (x : Filter). is_in x bytes own ≡ true) (sym (is_receive g hg)) second in
-    let met : meets h k ≡ true = share f.proto g.proto f.peers g.peers f.services g.services own bytes one two in
+    let met : meets h k ≡ true = share (layer_of f.proto) (layer_of g.proto) f.proto g.proto f.peers g.peers f.services g.services own bytes one two in
     subst (λ (x : Filter). meets f x ≡ true) (is_receive g hg) (subst (λ (x : Filter). meets x k ≡ true) (is_receive f hf) met)
 
 pub overlap_meets : (f g : Filter) (own : Own) → f.direction ≡ Rx → g.direction ≡ Rx → Overlaps f g own → meets f g ≡ true

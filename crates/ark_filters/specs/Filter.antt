@@ -1,4 +1,4 @@
--- Peers and services of a filter. Ours: no standard fixes them.
+-- Peers and services of a filter.
 use Rattle.std.specs.Prelude.{ℕ, ◌≤◌, List, take, Bool, ◌&&◌, ◌||◌, nat_eq, nat_le, bytes_eq}
 use Rattle.std.specs.List.{list_any}
 use Rattle.ark_filters.specs.declared.filter.Filter.{Filter}

@@ -1,4 +1,4 @@
--- Which frames match a filter. Ours, over fields of Ethernet (IEEE 802.3), IPv4 (RFC 791), UDP (RFC 768) and TCP (RFC 9293).
+-- Which frames match a filter, over fields of Ethernet (IEEE 802.3), IPv4 (RFC 791), UDP (RFC 768) and TCP (RFC 9293).
 use Rattle.std.specs.Prelude.{ℕ, List, [], ◌∷◌, ◌++◌, length, Bool, not, false, ◌&&◌, nat_eq, nat_le, bytes_eq, Option, Some, None}
 use Rattle.ark_packet.specs.Wire.{word_at}
 use Rattle.ark_packet.specs.Ip.{Packet, seen}
@@ -8,8 +8,9 @@ use Rattle.ark_packet.specs.declared.own.Own.{Own}
 use Rattle.ark_filters.specs.declared.filter.Filter.{Filter}
 use Rattle.ark_filters.specs.declared.filter.Direction.{Direction}
 use Rattle.ark_filters.specs.declared.filter.Direction.TheVariants.{Rx, Tx}
-use Rattle.ark_filters.specs.declared.filter.Proto.{Proto}
-use Rattle.ark_filters.specs.declared.filter.Proto.TheVariants.{Eth, Ip, Udp, Tcp}
+use Rattle.ark_filters.specs.declared.layer.Layer.{Layer}
+use Rattle.ark_filters.specs.declared.layer.Layer.TheVariants.{Types, Protocols, Ports}
+use Rattle.ark_filters.specs.Layer.{layer_of}
 use Rattle.ark_filters.specs.Filter.{is_peer, is_service}
 
 -- The own side of a frame that comes in is its destination, of one that goes out its source. The peer is the other side.
@@ -34,26 +35,27 @@ ports_match f p protocol header =
     && (nat_le header (length p.payload)
     && is_service f.services (own_side f.direction (word_at p.payload 0) (word_at p.payload 2))))
 
-abbrev pub packet_matches : Filter → Proto → Packet → Own → Bool
-packet_matches f Eth p own = false
-packet_matches f Ip p own = addresses_match f p own && is_service f.services p.protocol
-packet_matches f Udp p own = addresses_match f p own && ports_match f p 17 8
-packet_matches f Tcp p own = addresses_match f p own && ports_match f p 6 20
+abbrev pub packet_matches : Filter → Layer → Packet → Own → Bool
+packet_matches f Types p own = false
+packet_matches f Protocols p own = addresses_match f p own && is_service f.services p.protocol
+packet_matches f (Ports number least) p own = addresses_match f p own && ports_match f p number least
 
-abbrev pub some_packet_matches : Filter → Option Packet → Own → Bool
-some_packet_matches f None own = false
-some_packet_matches f (Some p) own = packet_matches f f.proto p own
+abbrev pub some_packet_matches : Filter → Layer → Option Packet → Own → Bool
+some_packet_matches f layer None own = false
+some_packet_matches f layer (Some p) own = packet_matches f layer p own
 
 -- what a filter looks for beside the own MAC address
-abbrev pub rest_matches : Filter → Proto → List ℕ → ℕ → Option Packet → Own → Bool
-rest_matches f Eth peer type packet own = is_peer f.peers peer && is_service f.services type
-rest_matches f Ip peer type packet own = some_packet_matches f packet own
-rest_matches f Udp peer type packet own = some_packet_matches f packet own
-rest_matches f Tcp peer type packet own = some_packet_matches f packet own
+abbrev pub rest_matches : Filter → Layer → List ℕ → ℕ → Option Packet → Own → Bool
+rest_matches f Types peer type packet own = is_peer f.peers peer && is_service f.services type
+rest_matches f Protocols peer type packet own = some_packet_matches f Protocols packet own
+rest_matches f (Ports number least) peer type packet own = some_packet_matches f (Ports number least) packet own
+
+abbrev pub match_under : Filter → Layer → List ℕ → List ℕ → ℕ → Option Packet → Own → Bool
+match_under f layer from to type packet own =
+    bytes_eq (own_side f.direction from to) own.mac && rest_matches f layer (peer_side f.direction from to) type packet own
 
 abbrev pub parts_match : Filter → List ℕ → List ℕ → ℕ → Option Packet → Own → Bool
-parts_match f from to type packet own =
-    bytes_eq (own_side f.direction from to) own.mac && rest_matches f f.proto (peer_side f.direction from to) type packet own
+parts_match f = match_under f (layer_of f.proto)
 
 -- the frame, as it was read, matches the filter
 abbrev pub frame_matches : Filter → Frame → Own → Bool

@@ -1,4 +1,5 @@
 pub mod Filter
+pub mod Layer
 pub mod In
 pub mod Overlap
 pub mod Rule

@@ -1,12 +1,13 @@
--- When two receive filters overlap: some frame matches both. Ours: no standard fixes it.
-use Rattle.std.specs.Prelude.{◌≡◌, ℕ, ◌<◌, ◌≤◌, List, take, length, slice_index, Bool, true, false, ◌&&◌, ◌||◌, nat_eq, nat_le}
+-- When two receive filters overlap: some frame matches both.
+use Rattle.std.specs.Prelude.{◌≡◌, ℕ, ◌<◌, ◌≤◌, List, take, length, slice_index, Bool, true, ◌&&◌, ◌||◌, nat_eq, nat_le}
 use Rattle.std.specs.List.{list_any}
 use Rattle.ark_packet.specs.declared.own.Own.{Own}
 use Rattle.ark_filters.specs.declared.filter.Filter.{Filter}
 use Rattle.ark_filters.specs.declared.filter.Peers.{Peers}
 use Rattle.ark_filters.specs.declared.filter.Services.{Services}
-use Rattle.ark_filters.specs.declared.filter.Proto.{Proto}
-use Rattle.ark_filters.specs.declared.filter.Proto.TheVariants.{Eth, Ip, Udp, Tcp}
+use Rattle.ark_filters.specs.declared.layer.Layer.{Layer}
+use Rattle.ark_filters.specs.declared.layer.Layer.TheVariants.{Types, Protocols, Ports}
+use Rattle.ark_filters.specs.Layer.{layer_of}
 use Rattle.ark_filters.specs.Filter.{is_peer, is_service}
 use Rattle.ark_filters.specs.In.{is_in}
 
@@ -42,24 +43,17 @@ abbrev pub protocol_meets : Filter → Filter → ℕ → Bool
 protocol_meets f g protocol = peers_meet f.peers g.peers && is_service f.services protocol
 
 -- Between a filter of Ethernet and one of IPv4 the type alone tells: the one's peers are MAC addresses, the other's IPv4 ones.
-abbrev pub meets_under : Proto → Proto → Filter → Filter → Bool
-meets_under Eth Eth f g = both_meet f g
-meets_under Eth Ip f g = is_service f.services 2048
-meets_under Eth Udp f g = is_service f.services 2048
-meets_under Eth Tcp f g = is_service f.services 2048
-meets_under Ip Eth f g = is_service g.services 2048
-meets_under Ip Ip f g = both_meet f g
-meets_under Ip Udp f g = protocol_meets f g 17
-meets_under Ip Tcp f g = protocol_meets f g 6
-meets_under Udp Eth f g = is_service g.services 2048
-meets_under Udp Ip f g = protocol_meets g f 17
-meets_under Udp Udp f g = both_meet f g
-meets_under Udp Tcp f g = false
-meets_under Tcp Eth f g = is_service g.services 2048
-meets_under Tcp Ip f g = protocol_meets g f 6
-meets_under Tcp Udp f g = false
-meets_under Tcp Tcp f g = both_meet f g
+abbrev pub meets_under : Layer → Layer → Filter → Filter → Bool
+meets_under Types Types f g = both_meet f g
+meets_under Types Protocols f g = is_service f.services 2048
+meets_under Types (Ports number least) f g = is_service f.services 2048
+meets_under Protocols Types f g = is_service g.services 2048
+meets_under Protocols Protocols f g = both_meet f g
+meets_under Protocols (Ports number least) f g = protocol_meets f g number
+meets_under (Ports number least) Types f g = is_service g.services 2048
+meets_under (Ports number least) Protocols f g = protocol_meets g f number
+meets_under (Ports number least) (Ports other header) f g = nat_eq number other && both_meet f g
 
 -- The lists of two receive filters meet.
 abbrev pub meets : Filter → Filter → Bool
-meets f g = meets_under f.proto g.proto f g
+meets f g = meets_under (layer_of f.proto) (layer_of g.proto) f g

@@ -1,5 +1,4 @@
--- The filters that a line can give. Ours; addresses and services have the sizes of IEEE 802.3, RFC 791, RFC 768
--- and RFC 9293.
+-- The filters that a line can give. Addresses and services have the sizes of IEEE 802.3, RFC 791, RFC 768 and RFC 9293.
 use Rattle.std.specs.Prelude.{◌≡◌, ℕ, ◌-◌, ◌<◌, ◌≤◌, List, take, drop, length, replicate, slice_index}
 use Rattle.std.specs.List.{All}
 use Rattle.ark_packet.specs.Wire.{IsAddress}
@@ -7,7 +6,9 @@ use Rattle.ark_packet.specs.declared.own.Own.{Own}
 use Rattle.ark_filters.specs.declared.filter.Filter.{Filter}
 use Rattle.ark_filters.specs.declared.filter.Direction.TheVariants.{Rx}
 use Rattle.ark_filters.specs.declared.filter.Proto.{Proto}
-use Rattle.ark_filters.specs.declared.filter.Proto.TheVariants.{Eth, Ip, Udp, Tcp}
+use Rattle.ark_filters.specs.declared.layer.Layer.{Layer}
+use Rattle.ark_filters.specs.declared.layer.Layer.TheVariants.{Types, Protocols, Ports}
+use Rattle.ark_filters.specs.Layer.{layer_of}
 
 -- an address of Ethernet: six octets
 pub record IsMac (mac : List ℕ) : Type 0 where
@@ -20,31 +21,31 @@ pub record IsPadded (peer : List ℕ) : Type 0 where
   pub fifth : slice_index peer 4 ≡ 0
   pub sixth : slice_index peer 5 ≡ 0
 
--- a peer that a filter for this can have
+-- a peer that a filter of this layer can have
+abbrev pub IsPeerUnder : Layer → List ℕ → Type 0
+IsPeerUnder Types = IsMac
+IsPeerUnder Protocols = IsPadded
+IsPeerUnder (Ports number least) = IsPadded
+
 abbrev pub IsPeerOf : Proto → List ℕ → Type 0
-IsPeerOf Eth = IsMac
-IsPeerOf Ip = IsPadded
-IsPeerOf Udp = IsPadded
-IsPeerOf Tcp = IsPadded
+IsPeerOf proto = IsPeerUnder (layer_of proto)
 
 -- the largest service
-abbrev pub last_service : Proto → ℕ
-last_service Eth = 65535
-last_service Ip = 255
-last_service Udp = 65535
-last_service Tcp = 65535
+abbrev pub last_service : Layer → ℕ
+last_service Types = 65535
+last_service Protocols = 255
+last_service (Ports number least) = 65535
 
 -- ports come in ranges, types and protocols one by one
-abbrev pub IsRangeOf : Proto → ℕ × ℕ → Type 0
-IsRangeOf Eth range = range.0 ≡ range.1
-IsRangeOf Ip range = range.0 ≡ range.1
-IsRangeOf Udp range = range.0 ≤ range.1
-IsRangeOf Tcp range = range.0 ≤ range.1
+abbrev pub IsRangeUnder : Layer → ℕ × ℕ → Type 0
+IsRangeUnder Types range = range.0 ≡ range.1
+IsRangeUnder Protocols range = range.0 ≡ range.1
+IsRangeUnder (Ports number least) range = range.0 ≤ range.1
 
 -- a service that a filter for this can have
 pub record IsServiceOf (proto : Proto) (range : ℕ × ℕ) : Type 0 where
-  pub rising : IsRangeOf proto range
-  pub most : range.1 ≤ last_service proto
+  pub rising : IsRangeUnder (layer_of proto) range
+  pub most : range.1 ≤ last_service (layer_of proto)
 
 -- Up to 8 peers and services of its protocol, and zeros after them.
 pub record IsRule (f : Filter) : Type 0 where

@@ -1,4 +1,4 @@
--- The live filters in order of grant, and which of them a frame is for. Ours: no standard fixes them.
+-- The live filters in order of grant, and which of them a frame is for.
 use Rattle.std.specs.Prelude.{◌≡◌, ℕ, ◌<◌, List, [], ◌∷◌, ◌++◌, Bool, true, false, not, ◌&&◌, nat_eq, if◌then◌else◌, Option, Some, None, is_some, option_map, option_and_then}
 use Rattle.std.specs.List.{All, AllByRecursion, Contains, filter as select, find}
 use Rattle.ark_packet.specs.declared.own.Own.{Own}

@@ -4,6 +4,7 @@
 mod among;
 mod filter;
 mod laws;
+mod layer;
 mod live;
 mod matching;
 mod overlap;

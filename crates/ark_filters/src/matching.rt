@@ -2,19 +2,13 @@ ghost use Rattle.std.specs.Prelude.{◌≡◌, ◌≤◌, List, ℕ};
 ghost use Rattle.ark_packet.specs.Ip.{plain, seen};
 ghost use Rattle.ark_packet.specs.Frame.{Says};
 ghost use Rattle.ark_filters.specs.Filter.{Counted};
+ghost use Rattle.ark_filters.specs.Layer.{layer_of};
 ghost use Rattle.ark_filters.specs.In as spec;
 
-use crate::filter::{Direction, Filter, Proto};
+use crate::filter::{Direction, Filter};
+use crate::layer::Layer;
 use ark_packet::{Frame, Ip, Own};
 use byteorder::{ByteOrder, NetworkEndian};
-
-const PROTOCOL_OF_TCP: u8 = 6;
-
-const PROTOCOL_OF_UDP: u8 = 17;
-
-const HEADER_OF_TCP: usize = 20;
-
-const HEADER_OF_UDP: usize = 8;
 
 // Whether the own side's address is the own one, and the peer's is one of the peers.
 fn addresses_match(filter: &Filter, ip: &Ip<'_>, own: &Own) -> bool
@@ -48,23 +42,21 @@ fn ports_match(filter: &Filter, ip: &Ip<'_>, protocol: u8, header: usize) -> boo
 // Whether an IPv4 part is what a filter looks for.
 fn ip_matches(filter: &Filter, ip: &Ip<'_>, own: &Own) -> bool
     requires counted { Counted filter.now }
-    ensures matched { result ≡ spec.packet_matches filter.now filter.now.proto (plain ip.now) own.now }
+    ensures matched { result ≡ spec.packet_matches filter.now (layer_of filter.now.proto) (plain ip.now) own.now }
 {
-    match filter.proto {
-        Proto::Eth => false,
-        Proto::Ip => addresses_match(filter, ip, own)
+    match filter.proto.layer() {
+        Layer::Types => false,
+        Layer::Protocols => addresses_match(filter, ip, own)
             && filter.services.hold(u16::from(ip.protocol)),
-        Proto::Udp => addresses_match(filter, ip, own)
-            && ports_match(filter, ip, PROTOCOL_OF_UDP, HEADER_OF_UDP),
-        Proto::Tcp => addresses_match(filter, ip, own)
-            && ports_match(filter, ip, PROTOCOL_OF_TCP, HEADER_OF_TCP),
+        Layer::Ports { number, least } => addresses_match(filter, ip, own)
+            && ports_match(filter, ip, number, least),
     }
 }
 
 // Whether there is an IPv4 part, and it is what a filter looks for.
 fn has_match(filter: &Filter, ip: &Option<Ip<'_>>, own: &Own) -> bool
     requires counted { Counted filter.now }
-    ensures matched { result ≡ spec.some_packet_matches filter.now (seen ip.now) own.now }
+    ensures matched { result ≡ spec.some_packet_matches filter.now (layer_of filter.now.proto) (seen ip.now) own.now }
 {
     match ip {
         Some(ip) => ip_matches(filter, ip, own),
@@ -84,9 +76,9 @@ fn parts_match(filter: &Filter, frame: &Frame<'_>, own: &Own) -> bool
     if own_side != own.mac {
         return false;
     }
-    match filter.proto {
-        Proto::Eth => filter.peers.hold(&peer) && filter.services.hold(frame.proto),
-        _ => has_match(filter, &frame.ip, own),
+    match filter.proto.layer() {
+        Layer::Types => filter.peers.hold(&peer) && filter.services.hold(frame.proto),
+        Layer::Protocols | Layer::Ports { .. } => has_match(filter, &frame.ip, own),
     }
 }
 

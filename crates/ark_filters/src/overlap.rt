@@ -4,11 +4,8 @@ ghost use Rattle.ark_filters.specs.Filter.{Counted};
 ghost use Rattle.ark_filters.specs.Overlap.{Overlaps, meets, both_meet, protocol_meets};
 ghost use Rattle.ark_filters.specs.Rule.{IsReceiveRule, IsOwn};
 
-use crate::filter::{Filter, Proto};
-
-const PROTOCOL_OF_TCP: u16 = 6;
-
-const PROTOCOL_OF_UDP: u16 = 17;
+use crate::filter::Filter;
+use crate::layer::Layer;
 
 const TYPE_OF_IPV4: u16 = 0x0800;
 
@@ -22,12 +19,12 @@ fn lists_meet(a: &Filter, b: &Filter) -> bool
 }
 
 // Whether peers have one in common, and the protocol is one of the first filter's services.
-fn takes_protocol(a: &Filter, b: &Filter, protocol: u16) -> bool
+fn takes_protocol(a: &Filter, b: &Filter, protocol: u8) -> bool
     requires first { Counted a.now }
     requires second { Counted b.now }
     ensures met { result ≡ protocol_meets a.now b.now protocol }
 {
-    a.peers.meet(&b.peers) && a.services.hold(protocol)
+    a.peers.meet(&b.peers) && a.services.hold(u16::from(protocol))
 }
 
 // Whether the lists of two receive filters meet.
@@ -36,17 +33,16 @@ fn filters_meet(a: &Filter, b: &Filter) -> bool
     requires second { Counted b.now }
     ensures met { result ≡ meets a.now b.now }
 {
-    match (a.proto, b.proto) {
-        (Proto::Eth, Proto::Eth) => lists_meet(a, b),
-        (Proto::Eth, _) => a.services.hold(TYPE_OF_IPV4),
-        (_, Proto::Eth) => b.services.hold(TYPE_OF_IPV4),
-        (Proto::Ip, Proto::Ip) => lists_meet(a, b),
-        (Proto::Ip, Proto::Udp) => takes_protocol(a, b, PROTOCOL_OF_UDP),
-        (Proto::Ip, Proto::Tcp) => takes_protocol(a, b, PROTOCOL_OF_TCP),
-        (Proto::Udp, Proto::Ip) => takes_protocol(b, a, PROTOCOL_OF_UDP),
-        (Proto::Tcp, Proto::Ip) => takes_protocol(b, a, PROTOCOL_OF_TCP),
-        (Proto::Udp, Proto::Udp) | (Proto::Tcp, Proto::Tcp) => lists_meet(a, b),
-        (Proto::Udp, Proto::Tcp) | (Proto::Tcp, Proto::Udp) => false,
+    match (a.proto.layer(), b.proto.layer()) {
+        (Layer::Types, Layer::Types) => lists_meet(a, b),
+        (Layer::Types, _) => a.services.hold(TYPE_OF_IPV4),
+        (_, Layer::Types) => b.services.hold(TYPE_OF_IPV4),
+        (Layer::Protocols, Layer::Protocols) => lists_meet(a, b),
+        (Layer::Protocols, Layer::Ports { number, .. }) => takes_protocol(a, b, number),
+        (Layer::Ports { number, .. }, Layer::Protocols) => takes_protocol(b, a, number),
+        (Layer::Ports { number: one, .. }, Layer::Ports { number: other, .. }) => {
+            one == other && lists_meet(a, b)
+        }
     }
 }
 
