@@ -1,3 +1,4 @@
 pub mod NameLemmas
 pub mod Numbers
 pub mod Order
+pub mod Basics

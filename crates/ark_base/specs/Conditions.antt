@@ -1,4 +1,4 @@
--- What holds of a line, and the one order in which a refusal is chosen. Ours.
+-- What holds of a line, and the one order in which a refusal is chosen.
 use Rattle.std.specs.Prelude.{ℕ, Bool, true, false, List, Option, Some, None}
 use Rattle.std.specs.Option.{option_or}
 use Rattle.ark_base.specs.declared.refusal.Refusal.{Refusal}

@@ -1,4 +1,4 @@
--- What a name is. Ours.
+-- What a name is.
 use Rattle.std.specs.Prelude.{ℕ, List, [], ◌∷◌, ◌++◌, Bool, false, ◌&&◌, ◌||◌, ◌==◌, ◌-◌, nat_le, length, replicate}
 use Rattle.std.specs.List.{list_all}
 

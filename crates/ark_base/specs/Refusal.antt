@@ -1,4 +1,4 @@
--- The number of each refusal, and its words as a reply prints them, the number first. Ours.
+-- The number of each refusal, and its words as a reply prints them, the number first.
 use Rattle.std.specs.Prelude.{ℕ, List, ◌++◌, codes, decimal}
 use Rattle.ark_base.specs.declared.refusal.Refusal.{Refusal}
 use Rattle.ark_base.specs.declared.refusal.Refusal.TheVariants as r

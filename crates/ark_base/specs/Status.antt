@@ -1,4 +1,4 @@
--- The exit status of each way in which a command ends. Ours.
+-- The exit status of each way in which a command ends.
 use Rattle.std.specs.Prelude.{ℕ}
 use Rattle.ark_base.specs.declared.status.Status.{Status}
 use Rattle.ark_base.specs.declared.status.Status.TheVariants.{Done, Usage, Source, Sink, Device, Memory, Damaged, Long}

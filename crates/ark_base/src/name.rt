@@ -27,7 +27,8 @@ impl Model for Name {
 
     ghost view = { λ n. take n.len n.bytes };
 
-    ghost invariant = { λ n. (n.len ≡ length (take n.len n.bytes)) × (n.bytes ≡ padded (take n.len n.bytes)) × (is_name (take n.len n.bytes) ≡ true) };
+    ghost invariant = { λ n. (n.len ≡ length (take n.len n.bytes))
+        × (n.bytes ≡ padded (take n.len n.bytes)) × (is_name (take n.len n.bytes) ≡ true) };
 
     ghost inverse = { λ xs. record { len = length xs; bytes = padded xs } };
 

@@ -1,4 +1,4 @@
--- Logs and queues: lists of entries, commands, and what a command still has to do. Ours: no standard fixes them.
+-- Logs and queues: lists of entries, commands, and what a command still has to do.
 use Rattle.std.specs.Prelude.{ℕ, ◌+◌, ◌-◌, Bool, true, false, List, [], ◌∷◌, ◌++◌, length, take, drop, map, sum_by, if◌then◌else◌, Option, Some, None}
 use Rattle.ark_base.specs.declared.kind.Kind.{Kind}
 use Rattle.ark_entry.specs.Entry.{entry_blocks}

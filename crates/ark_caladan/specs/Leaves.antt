@@ -1,4 +1,4 @@
--- A list on its blocks, and the blocks while a command is carried out. Ours: no standard fixes it.
+-- A list on its blocks, and the blocks while a command is carried out.
 use Rattle.std.specs.Prelude.{◌≡◌, ◌<◌, ◌≤◌, ℕ, ◌+◌, ◌-◌, ◌%◌, ◌^◌, List, length, take, Some}
 use Rattle.ark_base.specs.declared.kind.Kind.{Kind}
 use Rattle.ark_entry.specs.Header.{Header, header_of}

@@ -1,4 +1,4 @@
--- What a stop may leave of an area: at each place the block of one view or of another. Ours: no standard fixes it.
+-- What a stop may leave of an area: at each place the block of one view or of another.
 use Rattle.std.specs.Prelude.{◌≡◌, ◌||◌, ◌==◌, Bool, true, ◌⊎◌, ◌<◌, ℕ, zero, suc, ◌+◌, ◌-◌, ◌%◌, List, length, get_or, map, ◌≤◌, nat_lt, if◌then◌else◌, Some, ◌∷◌}
 use Rattle.ark_base.specs.declared.kind.Kind.{Kind}
 use Rattle.ark_media.specs.Journal.{Event, block, current, zero_block}

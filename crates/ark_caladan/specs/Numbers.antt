@@ -1,4 +1,4 @@
--- Which numbers a list has, and which commands can be given to it. Ours: no standard fixes them.
+-- Which numbers a list has, and which commands can be given to it.
 use Rattle.std.specs.Prelude.{◌≡◌, ℕ, ◌<◌, ◌≤◌, ◌-◌, List, [], ◌∷◌, length, get_or}
 use Rattle.ark_entry.specs.Found.{Entries}
 use Rattle.ark_caladan.specs.Chain.{Command, append, trim, pop, after, next_number}

@@ -4,7 +4,6 @@ use Rattle.std.specs.Str.{bytes_eq}
 use Rattle.std.specs.List.{IsDistinct, AllByRecursion}
 use Rattle.std.specs.Map.{lookup, keys_of}
 use Rattle.std.specs.Cmp.Lexicographic.{nat_list_eq_equiv}
-use Rattle.std.proofs.lemmas.Slice.Eq.{bytes_eq-Decides}
 use Rattle.std.proofs.lemmas.List.{take_more, take-append-drop, append-nil}
 use Rattle.std.proofs.lemmas.List.Elements.{filter-append}
 use Rattle.std.proofs.lemmas.Map.Views.{Contains-keys_from_lookup, IsSome-lookup_from_Contains}
@@ -13,14 +12,12 @@ use Rattle.std.proofs.Math.Seq.{drop-cons}
 use Rattle.indexmap.proofs.MapLemmas.{absent_before}
 use Rattle.indexmap.proofs.CallerLemmas.{insert_entry-new}
 use Rattle.indexmap.specs.IndexMap.{IndexMap, insert_entry}
+use Rattle.ark_base.proofs.Basics.{same_bytes}
 use Rattle.ark_caps.specs.Labels.{HasLabel, value_at, others}
-
-same_label : (x y : List ℕ) → bytes_eq x y ≡ true → x ≡ y
-same_label x y h = (bytes_eq-Decides x y).0 h
 
 -- what a look-up says of a label
 pub has_label : {V : Type 0} (es : List (List ℕ × V)) (l : List ℕ) (r : Bool) → r ≡ is_some (lookup (bytes_eq l) es) → r ≡ true → HasLabel es l
-has_label es l r e h = Contains-keys_from_lookup same_label l es (sym e ∙ h)
+has_label es l r e h = Contains-keys_from_lookup same_bytes l es (sym e ∙ h)
 
 pub lacks_label : {V : Type 0} (es : List (List ℕ × V)) (l : List ℕ) (r : Bool) → r ≡ is_some (lookup (bytes_eq l) es) → r ≡ false → ¬ HasLabel es l
 lacks_label es l r e h has = true≢false (sym (IsSome-lookup_from_Contains nat_list_eq_equiv l es has) ∙ (sym e ∙ h))
@@ -68,7 +65,7 @@ module _ {V : Type 0} (l : List ℕ) where
     where
       by : (b : Bool) → bytes_eq l e.0 ≡ b → (value_at es l ≡ Some v → length (others l es) + 1 ≡ length es) → length (others l (e ∷ es)) + 1 ≡ length (e ∷ es)
       by true q below =
-          let none : value_at es l ≡ None = absent_all es (subst (λ k. AllByRecursion (λ y. bytes_eq k y ≡ false) (keys_of es)) (sym (same_label l e.0 q)) d.0) in
+          let none : value_at es l ≡ None = absent_all es (subst (λ k. AllByRecursion (λ y. bytes_eq k y ≡ false) (keys_of es)) (sym (same_bytes l e.0 q)) d.0) in
           let all : length (others l es) ≡ length es = ap (λ (t : List (List ℕ × V)). length t) (others-absent es none) in
           ap (λ b. length (cond (not b) (e ∷ others l es) (others l es)) + 1) q ∙ omega (arith, all)
       by false q below =

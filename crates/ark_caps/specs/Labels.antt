@@ -1,4 +1,4 @@
--- A label table as the list of its pairs, in the order of adding. Ours.
+-- A label table as the list of its pairs, in the order of adding.
 use Rattle.std.specs.Prelude.{ℕ, List, Option, Contains, filter, not}
 use Rattle.std.specs.Str.{bytes_eq}
 use Rattle.std.specs.Map.{lookup, keys_of}

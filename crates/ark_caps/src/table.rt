@@ -44,7 +44,9 @@ impl Model for CapTable {
 
     ghost view = { λ t. t.pairs.entries };
 
-    ghost invariant = { λ t. (length t.pairs.entries ≤ 64) × (64 ≤ length t.pairs.entries + map.spare t.pairs) × (t.spare.entries ≡ []) × (64 ≤ map.spare t.spare) };
+    ghost invariant = { λ t. (length t.pairs.entries ≤ 64)
+        × (64 ≤ length t.pairs.entries + map.spare t.pairs) × (t.spare.entries ≡ [])
+        × (64 ≤ map.spare t.spare) };
 }
 
 /// Puts each pair of `from` but the one under `label` into `to`, in order.
@@ -55,7 +57,8 @@ fn copy_without(from: &Pairs, label: &Label, to: &mut Pairs)
     ensures entries { to.new.entries ≡ filter (λ e. not (bytes_eq label.now e.0)) from.now.entries }
     ensures within { length to.new.entries ≤ 64 }
     ensures room { 64 ≤ length to.new.entries + spare to.new }
-    ensures one { (cap : Capability) → value_at from.now.entries label.now ≡ Some cap → length to.new.entries + 1 ≡ length from.now.entries }
+    ensures one { (cap : Capability) → value_at from.now.entries label.now ≡ Some cap
+        → length to.new.entries + 1 ≡ length from.now.entries }
 {
     for i in 0..from.len() {
         if let Some((name, cap)) = from.get_index(i) {
@@ -90,7 +93,8 @@ impl CapTable {
         ensures err { OnErr result (self.new ≡ self.old) }
         ensures fits { value_at self.old label ≡ None → length self.old < 64 → IsOk result }
         ensures taken { (result ≡ Err AddFault.Taken) ↔ HasLabel self.old label }
-        ensures limit { (result ≡ Err AddFault.Limit) ↔ ((¬ HasLabel self.old label) × (length self.old ≡ 64)) }
+        ensures limit { (result ≡ Err AddFault.Limit)
+            ↔ ((¬ HasLabel self.old label) × (length self.old ≡ 64)) }
     {
         if self.pairs.contains_key(&label) {
             return Err(AddFault::Taken);
@@ -143,7 +147,8 @@ impl CapTable {
 
     /// The number of labels of this kind.
     pub fn count(&self, kind: CapKind) -> usize
-        ensures count { result ≡ count_by (λ cap. ⟦<CapKind as PartialEq>⟧.eq cap.kind kind) (values_of self.now) }
+        ensures count { result ≡ count_by (λ cap. ⟦<CapKind as PartialEq>⟧.eq cap.kind kind)
+            (values_of self.now) }
     {
         self.pairs.values().filter(|cap| cap.kind == kind).count()
     }

@@ -9,7 +9,7 @@ use Rattle.std.proofs.lemmas.Bool.{le-leb, eq-eqb}
 use Rattle.std.proofs.lemmas.Nat.{from_be_bytes-to_be_bytes_4, from_be_bytes-to_be_bytes_8, div-add-mod', mod_below}
 use Rattle.ark_media.specs.Journal.{block}
 use Rattle.ark_entry.specs.Entry.{entry_blocks, marker, head_bytes, entry_bytes, marked, ring_bytes, AreWhole, length_in, is_head, is_marked, payload_at, payload_if, entry_at}
-use Rattle.ark_entry.proofs.Headers.{eq_bytes}
+use Rattle.ark_base.proofs.Basics.{bytes_eq-same}
 
 -- the blocks hold the payload and 28 bytes more, and are no more than that takes
 pub blocks_hold : (len : ℕ) → (28 + len ≤ 512 * entry_blocks len) × (512 * entry_blocks len ≤ len + 539)
@@ -149,7 +149,7 @@ written_is_found ring p number payload whole inside few short fits low written =
         let end : drop 504 (block ring ((p + m) % length ring)) ≡ marker =
         sym (last_block ring p m whole inside) ∙ ap (λ n. drop (512 * n - 8) (ring_bytes ring p n)) (sym is) ∙ ap (λ t. drop (512 * entry_blocks (length payload) - 8) t) spelled ∙ last_bytes number next payload in
         let mark : is_marked (block ring ((p + entry_blocks (length_in (block ring p)) - 1) % length ring)) ≡ true =
-        ap (λ n. is_marked (block ring ((p + entry_blocks n - 1) % length ring))) long ∙ ap (λ q. is_marked (block ring (q % length ring))) behind ∙ ap (λ t. bytes_eq t marker) end ∙ eq_bytes marker in
+        ap (λ n. is_marked (block ring ((p + entry_blocks n - 1) % length ring))) long ∙ ap (λ q. is_marked (block ring (q % length ring))) behind ∙ ap (λ t. bytes_eq t marker) end ∙ bytes_eq-same marker in
         ap (λ b. payload_if b ring p) (λ i. head i && mark i)
         ∙ ap (λ n. Some (payload_at ring p n)) long
         ∙ ap (λ t. Some (take (20 + length payload - 20) (drop 20 t))) spelled

@@ -3,17 +3,10 @@ use Rattle.std.proofs.Common.{◌≡◌, ℕ, ◌+◌, ◌^◌, ◌<◌, inl, in
 use Rattle.std.specs.Prelude.{unwrap_or, bytes_eq, nat_le, nat_lt}
 use Rattle.std.proofs.lemmas.Bool.{and_parts, le-leb, leb-true, lt-ltb, ltb-true, false≢true}
 use Rattle.std.proofs.lemmas.Nat.{from_be_bytes-to_be_bytes_4, from_be_bytes-to_be_bytes_8}
-use Rattle.std.proofs.lemmas.Slice.Eq.{bytes_eq-Decides}
+use Rattle.ark_base.proofs.Basics.{bytes_eq-same, same_bytes}
 use Rattle.std.specs.Prelude.{is_some}
 use Rattle.ark_base.specs.declared.kind.Kind.{Kind}
 use Rattle.ark_entry.specs.Header.{Header, IsHeader, is_header, bytes_of, header_in, header_of, is_zero, is_written, empty}
-
--- the bytes are the same
-pub eq_bytes : (xs : List ℕ) → bytes_eq xs xs ≡ true
-eq_bytes xs = (bytes_eq-Decides xs xs).1 refl
-
-pub same_bytes : (xs ys : List ℕ) → bytes_eq xs ys ≡ true → xs ≡ ys
-same_bytes xs ys h = (bytes_eq-Decides xs ys).0 h
 
 tested : (ring : ℕ) (h : Header) → IsHeader ring h → is_header ring h ≡ true
 tested ring h w = λ i.
@@ -45,7 +38,7 @@ pub written_is_read : (kind : Kind) (ring : ℕ) (h : Header) → ring < 2 ^ 32 
 written_is_read kind ring h few w =
     let same : header_in (bytes_of kind h) ≡ h = fields kind h (omega (arith, w.last)) (omega (arith, w.start, few)) (omega (arith, w.count, few)) (omega (arith, w.end, few)) in
     ap (λ (x : Header). if is_header ring x && bytes_eq (bytes_of kind h) (bytes_of kind x) then Some x else None) same
-    ∙ (λ i. if tested ring h w i && eq_bytes (bytes_of kind h) i then Some h else None)
+    ∙ (λ i. if tested ring h w i && bytes_eq-same (bytes_of kind h) i then Some h else None)
 
 -- what is read is zeros, or the spelling of a right header
 pub read_was_written : (kind : Kind) (ring : ℕ) (block : List ℕ) (h : Header) → header_of kind ring block ≡ Some h

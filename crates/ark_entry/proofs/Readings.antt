@@ -11,7 +11,8 @@ use Rattle.ark_entry.specs.Header.{Header, header_of}
 use Rattle.ark_entry.specs.Entry.{entry_blocks, marker, ring_bytes, AreWhole, length_in, is_head, is_marked, is_entry, payload_at, payload_if, entry_at}
 use Rattle.ark_entry.specs.Found.{Entries, Found, found, damaged, taken, that_fits, counted, found_from, found_of}
 use Rattle.ark_entry.specs.Reading.{reading, bytes_from, Entry, Finds, HasList, IsDamaged}
-use Rattle.ark_entry.proofs.Headers.{eq_bytes, same_bytes, read_was_written}
+use Rattle.ark_base.proofs.Basics.{bytes_eq-same, same_bytes}
+use Rattle.ark_entry.proofs.Headers.{read_was_written}
 use Rattle.ark_entry.proofs.Entries.{blocks_hold, length-ring_bytes}
 
 pub some_block : (len : ℕ) → 1 ≤ entry_blocks len
@@ -92,14 +93,14 @@ module _ (ring : List (List ℕ)) (start : ℕ) (whole : AreWhole ring) (some : 
       let next : from_be_bytes w32 (slice_range head 16 20) ≡ (at u + entry_blocks (length_in head)) % length ring =
       e.next ∙ sym (behind u (entry_blocks (length payload))) ∙ ap (λ n. (at u + entry_blocks n) % length ring) (sym e.size) in
       let says : is_head (length ring) (at u) number head ≡ true = λ i.
-      (ap (λ t. bytes_eq t (codes "ENT1")) e.tag ∙ eq_bytes (codes "ENT1")) i
+      (ap (λ t. bytes_eq t (codes "ENT1")) e.tag ∙ bytes_eq-same (codes "ENT1")) i
       && (le-leb (length_in head) 32768 (subst (λ (n : ℕ). n ≤ 32768) (sym e.size) e.short) i
       && (le-leb (entry_blocks (length_in head)) (length ring) few i
       && (eq-eqb (from_be_bytes w64 (slice_range head 8 16)) number e.num i
       && (le-leb number (2 ^ 62) e.low i && eq-eqb (from_be_bytes w32 (slice_range head 16 20)) ((at u + entry_blocks (length_in head)) % length ring) next i)))) in
       let mark : is_marked (block ring ((at u + entry_blocks (length_in head) - 1) % length ring)) ≡ true =
       ap (λ n. is_marked (block ring ((at u + entry_blocks n - 1) % length ring))) e.size ∙ ap (λ q. is_marked (block ring q)) (last_place u (length payload))
-      ∙ ap (λ t. bytes_eq t marker) e.mark ∙ eq_bytes marker in
+      ∙ ap (λ t. bytes_eq t marker) e.mark ∙ bytes_eq-same marker in
       ap (λ b. payload_if b ring (at u)) (λ i. says i && mark i) ∙ ap (λ n. Some (payload_at ring (at u) n)) e.size
       ∙ ap (λ t. Some t) (content_is u (length payload) ∙ e.content)
 

@@ -1,4 +1,4 @@
--- One entry of a log or queue: how it is written, and what is an entry at a place of the ring. Ours: no standard fixes it.
+-- One entry of a log or queue: how it is written, and what is an entry at a place of the ring.
 use Rattle.std.specs.Prelude.{◌≡◌, ◌<◌, ℕ, zero, suc, ◌+◌, ◌-◌, ◌*◌, ◌/◌, ◌%◌, ◌^◌, List, [], ◌++◌, length, take, drop, replicate, slice_range, codes, Bool, true, false, ◌&&◌, ◌==◌, nat_le, bytes_eq, Option, Some, None}
 use Rattle.std.specs.Int.{w32, w64, to_be_bytes, from_be_bytes}
 use Rattle.ark_media.specs.Journal.{block}

@@ -1,4 +1,4 @@
--- The list that is found in the blocks of a log or queue. Ours: no standard fixes it.
+-- The list that is found in the blocks of a log or queue.
 use Rattle.std.specs.Prelude.{ℕ, zero, suc, ◌+◌, ◌%◌, List, [], ◌∷◌, length, nat_le, nat_lt, Option, Some, None, if◌then◌else◌}
 use Rattle.ark_base.specs.declared.kind.Kind.{Kind}
 use Rattle.ark_entry.specs.Header.{Header, header_of}

@@ -1,4 +1,4 @@
--- The header of a log or queue, both ways. The blocks behind it are the ring. Ours: no standard fixes it.
+-- The header of a log or queue, both ways. The blocks behind it are the ring.
 use Rattle.std.specs.Prelude.{ℕ, ◌<◌, ◌≤◌, ◌+◌, ◌^◌, List, ◌∷◌, ◌++◌, replicate, slice_range, codes, Bool, ◌&&◌, ◌==◌, nat_le, nat_lt, bytes_eq, Option, Some, None, if◌then◌else◌}
 use Rattle.std.specs.Int.{w16, w32, w64, to_be_bytes, from_be_bytes}
 use Rattle.std.specs.List.{list_all}

@@ -1,5 +1,5 @@
 -- What a ring of blocks holds, as a relation. A reading gives the block at each place of the ring, the place where the list
--- begins being 0: so no place wraps. Ours: no standard fixes it.
+-- begins being 0: so no place wraps.
 use Rattle.std.specs.Prelude.{◌≡◌, ◌⊎◌, ◌<◌, ◌≤◌, Some, None, ℕ, zero, suc, ◌+◌, ◌-◌, ◌%◌, ◌^◌, List, [], ◌∷◌, ◌++◌, length, take, drop, slice_range, codes}
 use Rattle.std.specs.Int.{w32, w64, from_be_bytes}
 use Rattle.ark_base.specs.declared.kind.Kind.{Kind}

@@ -1,4 +1,4 @@
--- What an opening makes of a ring: the blocks outside the list that was found become zero. Ours: no standard fixes it.
+-- What an opening makes of a ring: the blocks outside the list that was found become zero.
 use Rattle.std.specs.Prelude.{◌≡◌, ◌⊎◌, ◌<◌, ◌≤◌, ℕ, zero, suc, ◌+◌, List, [], ◌∷◌, length}
 use Rattle.ark_media.specs.Journal.{zero_block}
 use Rattle.ark_entry.specs.Entry.{entry_blocks}

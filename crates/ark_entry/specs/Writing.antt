@@ -1,4 +1,4 @@
--- The blocks of an entry as they are written, and a ring while that is done. Ours: no standard fixes it.
+-- The blocks of an entry as they are written, and a ring while that is done.
 use Rattle.std.specs.Prelude.{◌≡◌, ◌⊎◌, ◌<◌, ◌≤◌, ℕ, ◌+◌, ◌%◌, ◌^◌, List, ◌++◌, length, drop, get_or, replicate}
 use Rattle.ark_media.specs.Blocks.{blocks_in}
 use Rattle.ark_media.specs.Journal.{zero_block}

@@ -1,4 +1,4 @@
--- Blocks, by their numbers, and the runs in which they stand. Ours.
+-- Blocks, by their numbers, and the runs in which they stand.
 use Rattle.std.specs.Prelude.{◌≡◌, ◌<◌, ◌+◌, ◌==◌, ℕ, suc, List, [], ◌∷◌, ◌++◌, length, get_or, Contains, if◌then◌else◌}
 use Rattle.std.specs.List.{range_with_len}
 use Rattle.ark_base.specs.declared.block.Span.{Span}

@@ -1,4 +1,4 @@
--- A set of free blocks, as the ascending list of them, and the runs in which they are kept. Ours.
+-- A set of free blocks, as the ascending list of them, and the runs in which they are kept.
 use Rattle.std.specs.Prelude.{◌≡◌, ◌≤◌, ◌<◌, ◌+◌, ◌-◌, ◌^◌, ◌↔◌, ◌⊎◌, ◌==◌, ℕ, List, [], ◌∷◌, length, take, get_or, Contains, if◌then◌else◌}
 use Rattle.std.specs.List.{range_with_len}
 use Rattle.ark_base.specs.declared.block.Span.{Span}

@@ -1,4 +1,4 @@
--- Which runs are the spans of an area. Ours.
+-- Which runs are the spans of an area.
 use Rattle.std.specs.Prelude.{◌+◌, ◌-◌, ◌^◌, ◌&&◌, ◌||◌, ◌==◌, ◌++◌, ℕ, Bool, true, not, List, [], ◌∷◌, length, nat_le, nat_lt, replicate}
 use Rattle.std.specs.List.{list_all}
 use Rattle.ark_base.specs.declared.block.Span.{Span}

@@ -1,4 +1,4 @@
--- A disk seen at some of its blocks: block k of the view is the disk's block at place k of the list. Ours.
+-- A disk seen at some of its blocks: block k of the view is the disk's block at place k of the list.
 use Rattle.std.specs.Prelude.{◌≡◌, ◌↔◌, ◌<◌, ℕ, suc, Bool, List, [], ◌∷◌, Option, Some, None, option_map, length, get_or, map, if◌then◌else◌, ◌==◌}
 use Rattle.ark_media.specs.Journal.{Event, Read, Write, Sync, Out, History, block}
 use Rattle.ark_media.specs.Calls.{Told}

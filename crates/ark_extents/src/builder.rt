@@ -22,7 +22,8 @@ impl Model for RunBuilder {
 
     ghost view = { λ b. blocks_of (take b.count b.runs) };
 
-    ghost invariant = { λ b. (b.count ≡ length (take b.count b.runs)) × (b.count ≤ 32) × (runs_of (blocks_of (take b.count b.runs)) ≡ take b.count b.runs) };
+    ghost invariant = { λ b. (b.count ≡ length (take b.count b.runs)) × (b.count ≤ 32)
+        × (runs_of (blocks_of (take b.count b.runs)) ≡ take b.count b.runs) };
 }
 
 impl RunBuilder {

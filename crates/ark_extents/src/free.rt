@@ -42,7 +42,8 @@ impl Model for FreeMap {
 
     ghost view = { λ f. blocks_of f.runs.items };
 
-    ghost invariant = { λ f. AreRising 0 f.runs.items × (length f.runs.items ≤ 4096) × (4096 ≤ vec_capacity f.runs) };
+    ghost invariant = { λ f. AreRising 0 f.runs.items × (length f.runs.items ≤ 4096)
+        × (4096 ≤ vec_capacity f.runs) };
 }
 
 impl FreeMap {
@@ -92,7 +93,8 @@ impl FreeMap {
         ensures rest { OnOk result (self.new ≡ drop n self.old) }
         ensures kept { OnErr result (self.new ≡ self.old) }
         ensures no_space { (result ≡ Err TakeFault.NoSpace) ↔ (length self.old < n) }
-        ensures scattered { (result ≡ Err TakeFault.Scattered) ↔ ((n ≤ length self.old) × (16 < length (runs_of (take n self.old)))) }
+        ensures scattered { (result ≡ Err TakeFault.Scattered)
+            ↔ ((n ≤ length self.old) × (16 < length (runs_of (take n self.old)))) }
     {
         if self.free() < n {
             return Err(TakeFault::NoSpace);

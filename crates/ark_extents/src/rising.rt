@@ -41,7 +41,8 @@ fn cut(runs: &mut Vec<Span>, piece: Span)
     requires had { (n : ℕ) → Has piece n → AnyHas runs.old.items n }
     requires room { length runs.old.items < vec_capacity runs.old }
     ensures rising { AreRising 0 runs.new.items }
-    ensures lost { (n : ℕ) → AnyHas runs.new.items n ↔ (AnyHas runs.old.items n × (Has piece n → ⊥)) }
+    ensures lost { (n : ℕ) → AnyHas runs.new.items n
+        ↔ (AnyHas runs.old.items n × (Has piece n → ⊥)) }
     ensures len { length runs.new.items ≤ length runs.old.items + 1 }
     ensures capacity { vec_capacity runs.old ≤ vec_capacity runs.new }
 {
@@ -71,7 +72,9 @@ fn with_next(runs: &mut Vec<Span>, i: usize, run: Span) -> Span
     ensures some { 1 ≤ result.len }
     ensures fits { result.start + result.len ≤ 2 ^ 32 - 1 }
     ensures rising { AreRising (result.start + result.len + 1) (drop i runs.new.items) }
-    ensures blocks { (n : ℕ) → (Has result n ⊎ AnyHas (drop i runs.new.items) n) ↔ (Has run n ⊎ AnyHas (drop i runs.old.items) n) }
+    ensures blocks { (n : ℕ)
+        → (Has result n ⊎ AnyHas (drop i runs.new.items) n)
+        ↔ (Has run n ⊎ AnyHas (drop i runs.old.items) n) }
     ensures place { i ≤ vec_len runs.new }
     ensures len { vec_len runs.new ≤ vec_len runs.old }
     ensures size { length runs.new.items ≤ length runs.old.items }
@@ -102,7 +105,9 @@ fn put_behind(runs: &mut Vec<Span>, i: usize, run: Span)
     requires rising { AreRising (run.start + run.len + 1) (drop i runs.old.items) }
     requires room { vec_len runs.old < vec_capacity runs.old }
     ensures rising { AreRising 0 runs.new.items }
-    ensures blocks { (n : ℕ) → AnyHas runs.new.items n ↔ (AnyHas (take i runs.old.items) n ⊎ (Has run n ⊎ AnyHas (drop i runs.old.items) n)) }
+    ensures blocks { (n : ℕ)
+        → AnyHas runs.new.items n
+        ↔ (AnyHas (take i runs.old.items) n ⊎ (Has run n ⊎ AnyHas (drop i runs.old.items) n)) }
     ensures len { length runs.new.items ≤ length runs.old.items + 1 }
     ensures capacity { vec_capacity runs.old ≤ vec_capacity runs.new }
 {
@@ -174,7 +179,8 @@ pub fn cut_all(runs: &mut Vec<Span>, pieces: &[Span])
     requires had { (n : ℕ) → AnyHas pieces.now n → AnyHas runs.old.items n }
     requires room { length runs.old.items + length pieces.now ≤ vec_capacity runs.old }
     ensures rising { AreRising 0 runs.new.items }
-    ensures lost { (n : ℕ) → AnyHas runs.new.items n ↔ (AnyHas runs.old.items n × (AnyHas pieces.now n → ⊥)) }
+    ensures lost { (n : ℕ) → AnyHas runs.new.items n
+        ↔ (AnyHas runs.old.items n × (AnyHas pieces.now n → ⊥)) }
     ensures len { length runs.new.items ≤ length runs.old.items + length pieces.now }
     ensures capacity { vec_capacity runs.old ≤ vec_capacity runs.new }
 {
@@ -190,7 +196,8 @@ pub fn add_all(runs: &mut Vec<Span>, pieces: &[Span])
     requires apart { (n : ℕ) → AnyHas pieces.now n → AnyHas runs.old.items n → ⊥ }
     requires room { length runs.old.items + length pieces.now ≤ vec_capacity runs.old }
     ensures rising { AreRising 0 runs.new.items }
-    ensures gained { (n : ℕ) → AnyHas runs.new.items n ↔ (AnyHas runs.old.items n ⊎ AnyHas pieces.now n) }
+    ensures gained { (n : ℕ)
+        → AnyHas runs.new.items n ↔ (AnyHas runs.old.items n ⊎ AnyHas pieces.now n) }
     ensures len { length runs.new.items ≤ length runs.old.items + length pieces.now }
     ensures capacity { vec_capacity runs.old ≤ vec_capacity runs.new }
 {

@@ -24,11 +24,17 @@ impl Model for Spans {
 
     ghost view = { λ s. blocks_of (take s.count s.runs) };
 
-    ghost invariant = { λ s. (s.count ≡ length (take s.count s.runs)) × (s.runs ≡ padded (take s.count s.runs)) × (are_spans (take s.count s.runs) ≡ true) × (runs_of (blocks_of (take s.count s.runs)) ≡ take s.count s.runs) };
+    ghost invariant = { λ s. (s.count ≡ length (take s.count s.runs))
+        × (s.runs ≡ padded (take s.count s.runs)) × (are_spans (take s.count s.runs) ≡ true)
+        × (runs_of (blocks_of (take s.count s.runs)) ≡ take s.count s.runs) };
 
     ghost inverse = { λ bs. record { count = length (runs_of bs); runs = padded (runs_of bs) } };
 
-    ghost inverse_ok = { λ a h i. record { count = (ap length h.3 ∙ sym h.0) i; runs = (ap padded h.3 ∙ sym h.1) i } };
+    ghost inverse_ok = { λ a h i. record {
+      count = (ap length h.3 ∙ sym h.0) i;
+      runs =
+          (ap padded h.3 ∙ sym h.1) i;
+    } };
 }
 
 impl Spans {

@@ -41,7 +41,9 @@ impl<'a, D: Disk> VsaView<'a, D> {
 impl<'a, D: Disk> Disk for VsaView<'a, D> {
     ghost told = { λ v. view_told v.spans (D.told v.disk.now) };
 
-    ghost goes = { λ old events new. (new.spans ≡ old.spans) × (new.disk.ghost_name ≡ old.disk.ghost_name) × GoesOver D.goes old.spans events old.disk.now new.disk.now };
+    ghost goes = { λ old events new. (new.spans ≡ old.spans)
+        × (new.disk.ghost_name ≡ old.disk.ghost_name)
+        × GoesOver D.goes old.spans events old.disk.now new.disk.now };
 
     fn blocks(&self) -> u32 {
         self.count
@@ -65,19 +67,30 @@ impl<'a, D: Disk> Disk for VsaView<'a, D> {
         self.disk.sync()
     }
 
-    ghost goes_none = { λ v. (refl, refl, record { within = tt; goes_on = D.goes_none v.disk.now }) };
+    ghost goes_none = { λ v. (
+      refl,
+      refl,
+      record {
+        within = tt;
+        goes_on = D.goes_none
+            v.disk.now;
+      },
+    ) };
 
     ghost goes_more = { λ old mid new es fs first rest. (
       rest.0 ∙ first.0,
       rest.1 ∙ first.1,
-      over_more D.goes D.goes_more old.spans mid.spans old.disk.now mid.disk.now new.disk.now es fs first.0 first.2 rest.2,
+      over_more D.goes D.goes_more old.spans mid.spans old.disk.now mid.disk.now new.disk.now es fs
+          first.0 first.2 rest.2,
     ) };
 
-    ghost goes_told = { λ old new es went. over_told D.goes D.told D.goes_told old.spans new.spans old.placed old.disk.now new.disk.now es went.0 went.2 };
+    ghost goes_told = { λ old new es went. over_told D.goes D.told D.goes_told old.spans new.spans
+        old.placed old.disk.now new.disk.now es went.0 went.2 };
 
     ghost size_is = { λ v h is. view_size v.spans (D.told v.disk.now).history h is };
 
-    ghost blocks_are = { λ v h is. view_blocks v.spans (D.told v.disk.now) (D.size_is v.disk.now) (D.blocks_are v.disk.now) v.inside h is };
+    ghost blocks_are = { λ v h is. view_blocks v.spans (D.told v.disk.now) (D.size_is v.disk.now)
+        (D.blocks_are v.disk.now) v.inside h is };
 }
 
 #[cfg(test)]

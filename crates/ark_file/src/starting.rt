@@ -16,7 +16,8 @@ use std::io::ErrorKind;
 use std::process::ExitCode;
 
 fn run_words(alloc: Global, words: &[String], world: &mut FileWorld) -> ExitCode
-    ensures { Exits (map string_bytes words.now) world.old.log.past world.new.log.past (exit_status result) }
+    ensures { Exits (map string_bytes words.now) world.old.log.past world.new.log.past
+        (exit_status result) }
 {
     let status = run(alloc, words, world);
     ExitCode::from(status.code())
@@ -24,7 +25,8 @@ fn run_words(alloc: Global, words: &[String], world: &mut FileWorld) -> ExitCode
 
 // Memory was wanting to read the words.
 fn give_up(world: &mut FileWorld) -> ExitCode
-    ensures quiet { IsQuiet (told_by world.old.log.past) (told_by world.new.log.past) (beside_by world.old.log.past) (beside_by world.new.log.past) Status.Memory }
+    ensures quiet { IsQuiet (told_by world.old.log.past) (told_by world.new.log.past)
+        (beside_by world.old.log.past) (beside_by world.new.log.past) Status.Memory }
     ensures lacks { exit_status result ≡ code_of Status.Memory }
 {
     // Where this line cannot be put either, the status alone tells it.
@@ -34,8 +36,10 @@ fn give_up(world: &mut FileWorld) -> ExitCode
 
 /// Runs the words after the program's name, if memory sufficed to read them; the answer is the exit status.
 pub fn program(alloc: Global, words: Result<Vec<String>, Memory>, world: &mut FileWorld) -> ExitCode
-    ensures exits { IfOk words (λ list. Exits (map string_bytes list.items) world.old.log.past world.new.log.past (exit_status result)) }
-    ensures quiet { OnErr words (IsQuiet (told_by world.old.log.past) (told_by world.new.log.past) (beside_by world.old.log.past) (beside_by world.new.log.past) Status.Memory) }
+    ensures exits { IfOk words (λ list. Exits
+        (map string_bytes list.items) world.old.log.past world.new.log.past (exit_status result)) }
+    ensures quiet { OnErr words (IsQuiet (told_by world.old.log.past) (told_by world.new.log.past)
+        (beside_by world.old.log.past) (beside_by world.new.log.past) Status.Memory) }
     ensures lacks { OnErr words (exit_status result ≡ code_of Status.Memory) }
 {
     match words {

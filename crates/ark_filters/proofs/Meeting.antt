@@ -6,13 +6,11 @@ use Rattle.std.proofs.lemmas.Bool.Decides.{nat_tests}
 use Rattle.std.proofs.lemmas.List.Elements.{All-get_or}
 use Rattle.std.proofs.lemmas.List.Folds.{Any-from_list_any, list_any-from_Any, list_any_at}
 use Rattle.std.proofs.lemmas.Slice.Eq.{bytes_eq-Decides}
+use Rattle.ark_base.proofs.Basics.{bytes_eq-same}
 use Rattle.ark_filters.specs.declared.filter.Peers.{Peers}
 use Rattle.ark_filters.specs.declared.filter.Services.{Services}
 use Rattle.ark_filters.specs.Filter.{is_peer, is_between, is_service}
 use Rattle.ark_filters.specs.Overlap.{peers_meet, ranges_meet, range_meets, services_meet}
-
-pub same_bytes : (xs : List ℕ) → bytes_eq xs xs ≡ true
-same_bytes xs = (bytes_eq-Decides xs xs).1 refl
 
 -- what passes one test passes another
 passes : {A : Type 0} (p q : A → Bool) (xs : List A) → ((x : A) → p x ≡ true → q x ≡ true) → list_any p xs ≡ true → list_any q xs ≡ true
@@ -58,7 +56,7 @@ first_peer : (P : List ℕ → Type 0) (z : List ℕ) (a : Peers) → nat_eq a.c
 first_peer P z a h eight each =
     let lt : 0 < length (take a.count a.items) = there a.count a.items h eight in
     let peer : List ℕ = get_or (take a.count a.items) 0 z in
-    (peer, All-get_or P (take a.count a.items) 0 z lt each, or_right (nat_eq a.count 0) (list_any (λ item. bytes_eq item peer) (take a.count a.items)) (list_any_at (λ item. bytes_eq item peer) (take a.count a.items) 0 z lt (same_bytes peer)))
+    (peer, All-get_or P (take a.count a.items) 0 z lt each, or_right (nat_eq a.count 0) (list_any (λ item. bytes_eq item peer) (take a.count a.items)) (list_any_at (λ item. bytes_eq item peer) (take a.count a.items) 0 z lt (bytes_eq-same peer)))
 
 -- a list of peers lets one through
 pub some_peer : (P : List ℕ → Type 0) (z : List ℕ) (a : Peers) → P z → length a.items ≡ 8 → All P (take a.count a.items)
@@ -83,7 +81,7 @@ common_peer P z a b hz ea eb pa pb met = by (cases_Bool (nat_eq a.count 0))
         Any-from_list_any (λ item. is_peer b item) (take a.count a.items) (or_rest (nat_eq a.count 0) (list_any (λ item. is_peer b item) (take a.count a.items)) h met) in (
           found.1,
           subst P found.3 (All-get_or P (take a.count a.items) found.0 found.1 found.2 pa),
-          or_right (nat_eq a.count 0) (list_any (λ item. bytes_eq item found.1) (take a.count a.items)) (list_any-from_Any (λ item. bytes_eq item found.1) (take a.count a.items) (found.0, found.1, found.2, found.3, same_bytes found.1)),
+          or_right (nat_eq a.count 0) (list_any (λ item. bytes_eq item found.1) (take a.count a.items)) (list_any-from_Any (λ item. bytes_eq item found.1) (take a.count a.items) (found.0, found.1, found.2, found.3, bytes_eq-same found.1)),
           found.4,
         )
 

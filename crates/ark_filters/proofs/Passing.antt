@@ -14,7 +14,7 @@ use Rattle.ark_filters.specs.declared.layer.Layer.TheVariants.{Types, Protocols,
 use Rattle.ark_filters.specs.Filter.{is_peer, is_service}
 use Rattle.ark_filters.specs.In.{match_under}
 use Rattle.ark_filters.specs.Rule.{IsOwn}
-use Rattle.ark_filters.proofs.Meeting.{same_bytes}
+use Rattle.ark_base.proofs.Basics.{bytes_eq-same}
 use Rattle.ark_filters.proofs.Receive.{receive, in_under}
 use Rattle.ark_filters.proofs.Witness.{witness, part, target_is, source_is, type_is, packet_is, port_is}
 
@@ -43,14 +43,14 @@ module _ (proto : Proto) (peers : Peers) (services : Services) (own : Own) (sour
       let frame : List ℕ = witness own.mac source type protocol from own.ip port in
       in_by Types filter own frame source own.mac type (packet_in frame) (source_is own.mac source from own.ip type protocol port six)
       (target_is own.mac source from own.ip type protocol port is.mac.six) (type_is own.mac source from own.ip type protocol port small) refl
-      (and_from (bytes_eq own.mac own.mac) (is_peer peers source && is_service services type) (same_bytes own.mac) (and_from (is_peer peers source) (is_service services type) peer service))
+      (and_from (bytes_eq own.mac own.mac) (is_peer peers source && is_service services type) (bytes_eq-same own.mac) (and_from (is_peer peers source) (is_service services type) peer service))
 
   -- the addresses pass
   pass : (rest : Bool) → is_peer peers (from ++ (0 ∷ (0 ∷ []))) ≡ true → rest ≡ true → (bytes_eq own.mac own.mac && (bytes_eq own.ip own.ip && is_peer peers (from ++ (0 ∷ (0 ∷ []))) && rest)) ≡ true
   pass rest peer passed =
       let sender : Bool = is_peer peers (from ++ (0 ∷ (0 ∷ []))) in
-      and_from (bytes_eq own.mac own.mac) (bytes_eq own.ip own.ip && sender && rest) (same_bytes own.mac)
-      (and_from (bytes_eq own.ip own.ip && sender) rest (and_from (bytes_eq own.ip own.ip) sender (same_bytes own.ip) peer) passed)
+      and_from (bytes_eq own.mac own.mac) (bytes_eq own.ip own.ip && sender && rest) (bytes_eq-same own.mac)
+      (and_from (bytes_eq own.ip own.ip && sender) rest (and_from (bytes_eq own.ip own.ip) sender (bytes_eq-same own.ip) peer) passed)
 
   pub protocol_passes : (protocol port : ℕ) → length from ≡ 4 → is_peer peers (from ++ (0 ∷ (0 ∷ []))) ≡ true → is_service services protocol ≡ true
       → in_under Protocols filter (witness own.mac source 2048 protocol from own.ip port) own ≡ true

@@ -39,7 +39,8 @@ pub(crate) fn classify(rules: &[Live], frame: &Frame<'_>, own: &Own) -> Option<(
 // Whether one lets a VNIC send a frame.
 pub(crate) fn allows(rules: &[Live], vnic: u64, frame: &Frame<'_>, own: &Own) -> bool
     requires each { All (λ live. IsRule live.filter) rules.now }
-    ensures any { result ≡ list_any (spec.sends (λ f. frame_matches f frame.now own.now) vnic) rules.now }
+    ensures any { result ≡ list_any
+        (spec.sends (λ f. frame_matches f frame.now own.now) vnic) rules.now }
 {
     for live in rules {
         if live.sends(vnic, frame, own) {

@@ -7,7 +7,10 @@ ghost use Rattle.ark_filters.specs.Rule.{IsReceiveRule, IsOwn};
 
 /// Two receive filters overlap exactly where their lists meet, whatever the addresses of this end and whichever is first.
 pub fn filter_laws()
-    ensures meet_overlap { (f g : Filter) (own : Own) → IsReceiveRule f → IsReceiveRule g → IsOwn own → meets f g ≡ true → Overlaps f g own }
-    ensures overlap_meet { (f g : Filter) (own : Own) → IsReceiveRule f → IsReceiveRule g → Overlaps f g own → meets f g ≡ true }
-    ensures both_ways { (f g : Filter) → IsReceiveRule f → IsReceiveRule g → meets f g ≡ true → meets g f ≡ true }
+    ensures meet_overlap { (f g : Filter) (own : Own) → IsReceiveRule f → IsReceiveRule g
+        → IsOwn own → meets f g ≡ true → Overlaps f g own }
+    ensures overlap_meet { (f g : Filter) (own : Own) → IsReceiveRule f → IsReceiveRule g
+        → Overlaps f g own → meets f g ≡ true }
+    ensures both_ways { (f g : Filter) → IsReceiveRule f → IsReceiveRule g → meets f g ≡ true
+        → meets g f ≡ true }
 {}

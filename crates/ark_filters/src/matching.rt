@@ -42,7 +42,8 @@ fn ports_match(filter: &Filter, ip: &Ip<'_>, protocol: u8, header: usize) -> boo
 // Whether an IPv4 part is what a filter looks for.
 fn ip_matches(filter: &Filter, ip: &Ip<'_>, own: &Own) -> bool
     requires counted { Counted filter.now }
-    ensures matched { result ≡ spec.packet_matches filter.now (layer_of filter.now.proto) (plain ip.now) own.now }
+    ensures matched { result
+        ≡ spec.packet_matches filter.now (layer_of filter.now.proto) (plain ip.now) own.now }
 {
     match filter.proto.layer() {
         Layer::Types => false,
@@ -56,7 +57,8 @@ fn ip_matches(filter: &Filter, ip: &Ip<'_>, own: &Own) -> bool
 // Whether there is an IPv4 part, and it is what a filter looks for.
 fn has_match(filter: &Filter, ip: &Option<Ip<'_>>, own: &Own) -> bool
     requires counted { Counted filter.now }
-    ensures matched { result ≡ spec.some_packet_matches filter.now (layer_of filter.now.proto) (seen ip.now) own.now }
+    ensures matched { result
+        ≡ spec.some_packet_matches filter.now (layer_of filter.now.proto) (seen ip.now) own.now }
 {
     match ip {
         Some(ip) => ip_matches(filter, ip, own),
@@ -67,7 +69,9 @@ fn has_match(filter: &Filter, ip: &Option<Ip<'_>>, own: &Own) -> bool
 // Whether a frame's parts are what a filter looks for.
 fn parts_match(filter: &Filter, frame: &Frame<'_>, own: &Own) -> bool
     requires counted { Counted filter.now }
-    ensures matched { result ≡ spec.parts_match filter.now frame.now.from frame.now.to frame.now.proto (seen frame.now.ip) own.now }
+    ensures matched { result
+        ≡ spec.parts_match filter.now frame.now.from frame.now.to frame.now.proto
+        (seen frame.now.ip) own.now }
 {
     let (own_side, peer) = match filter.direction {
         Direction::Rx => (frame.to, frame.from),
@@ -89,7 +93,8 @@ fn parts_match(filter: &Filter, frame: &Frame<'_>, own: &Own) -> bool
 /// the payload has 8 or 20 bytes at least, and the own side's port is one of the services. Checksums are not looked at.
 pub fn matches(filter: &Filter, frame: &Frame<'_>, own: &Own) -> bool
     requires counted { Counted filter.now }
-    ensures matched { (bytes : List ℕ) → Says bytes frame.now → result ≡ spec.is_in filter.now bytes own.now }
+    ensures matched { (bytes : List ℕ) → Says bytes frame.now
+        → result ≡ spec.is_in filter.now bytes own.now }
     ensures read { result ≡ spec.frame_matches filter.now frame.now own.now }
 {
     parts_match(filter, frame, own)

@@ -53,7 +53,8 @@ pub fn overlaps(a: &Filter, b: &Filter) -> bool
     requires second { Counted b.now }
     ensures lists { result ≡ meets a.now b.now }
     // For filters that a line can give, the lists tell of frames.
-    ensures frames { (own : Own) → IsReceiveRule a.now → IsReceiveRule b.now → IsOwn own → IsTrue result ↔ Overlaps a.now b.now own }
+    ensures frames { (own : Own) → IsReceiveRule a.now → IsReceiveRule b.now → IsOwn own
+        → IsTrue result ↔ Overlaps a.now b.now own }
 {
     filters_meet(a, b)
 }

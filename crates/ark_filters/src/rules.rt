@@ -61,10 +61,16 @@ impl Rules {
     pub fn add(&mut self, owner: u8, grant: u64, filter: Filter) -> Result<(), AddRule>
         requires rule { IsRule filter }
         requires later { All (λ live. live.grant < grant) self.old }
-        ensures added { OnOk result (self.new ≡ self.old ++ record { owner = owner; grant = grant; filter = filter; vnic = None } ∷ []) }
-        ensures overlap { (other : ℕ) → (result ≡ Err (AddRule.Overlap other)) ↔ (spec.first_clash filter self.old ≡ Some other) }
-        ensures earliest { (own : Own) (other : ℕ) → IsOwn own → result ≡ Err (AddRule.Overlap other) → spec.IsEarliest filter own self.old other }
-        ensures apart { (own : Own) → IsOwn own → IsReceive filter → OnOk result (All (λ live. ¬ spec.OverlapsLive filter own live) self.old) }
+        ensures added { OnOk result (self.new
+            ≡ self.old ++ record { owner = owner; grant = grant; filter = filter; vnic = None } ∷
+            []) }
+        ensures overlap { (other : ℕ)
+            → (result ≡ Err (AddRule.Overlap other))
+            ↔ (spec.first_clash filter self.old ≡ Some other) }
+        ensures earliest { (own : Own) (other : ℕ) → IsOwn own
+            → result ≡ Err (AddRule.Overlap other) → spec.IsEarliest filter own self.old other }
+        ensures apart { (own : Own) → IsOwn own → IsReceive filter
+            → OnOk result (All (λ live. ¬ spec.OverlapsLive filter own live) self.old) }
         ensures err { OnErr result (self.new ≡ self.old) }
     {
         match among::first_clash(&self.live, &filter) {
@@ -118,16 +124,21 @@ impl Rules {
     /// Whom a frame that comes in is for: owner and VNIC of the one receive filter that is assigned and that it matches;
     /// `None` exactly where there is none.
     pub fn classify(&self, frame: &Frame<'_>, own: &Own) -> Option<(u8, u64)>
-        ensures found { (bytes : List ℕ) → Says bytes frame.now → result ≡ spec.classified (λ f. is_in f bytes own.now) self.now }
-        ensures receiver { (bytes : List ℕ) → Says bytes frame.now → (owner vnic : ℕ) → (result ≡ Some (owner, vnic)) ↔ spec.IsFor (λ f. is_in f bytes own.now) self.now owner vnic }
-        ensures one { (bytes : List ℕ) → count_by (spec.takes (λ f. is_in f bytes own.now)) self.now ≤ 1 }
+        ensures found { (bytes : List ℕ) → Says bytes frame.now
+            → result ≡ spec.classified (λ f. is_in f bytes own.now) self.now }
+        ensures receiver { (bytes : List ℕ) → Says bytes frame.now → (owner vnic : ℕ)
+            → (result ≡ Some (owner, vnic))
+            ↔ spec.IsFor (λ f. is_in f bytes own.now) self.now owner vnic }
+        ensures one { (bytes : List ℕ)
+            → count_by (spec.takes (λ f. is_in f bytes own.now)) self.now ≤ 1 }
     {
         among::classify(&self.live, frame, own)
     }
 
     /// Whether a VNIC may send a frame: a transmit filter that is assigned to it matches.
     pub fn allows(&self, vnic: u64, frame: &Frame<'_>, own: &Own) -> bool
-        ensures any { (bytes : List ℕ) → Says bytes frame.now → result ≡ list_any (spec.sends (λ f. is_in f bytes own.now) vnic) self.now }
+        ensures any { (bytes : List ℕ) → Says bytes frame.now
+            → result ≡ list_any (spec.sends (λ f. is_in f bytes own.now) vnic) self.now }
     {
         among::allows(&self.live, vnic, frame, own)
     }

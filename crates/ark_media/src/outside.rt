@@ -53,13 +53,15 @@ pub trait Disk {
 
     ghost goes_none: { (d : Self) → goes d [] d };
 
-    ghost goes_more: { (a b c : Self) (es fs : List Event) → goes a es b → goes b fs c → goes a (es ++ fs) c };
+    ghost goes_more: { (a b c : Self) (es fs : List Event) → goes a es b → goes b fs c
+        → goes a (es ++ fs) c };
 
     /// What is told goes on by the events; a call fails only where the count of failures rose.
     ghost goes_told: { (a b : Self) (es : List Event) → goes a es b → Tells es (told a) (told b) };
 
     /// The told base has the disk's number of blocks.
-    ghost size_is: { (d : Self) (h : History) → (told d).history ≡ Some h → length h.base ≡ (told d).blocks };
+    ghost size_is: { (d : Self) (h : History) → (told d).history ≡ Some h
+        → length h.base ≡ (told d).blocks };
 
     /// Each block of the told base has 512 bytes.
     ghost blocks_are: { (d : Self) (h : History) → (told d).history ≡ Some h → AllBlocks h.base };
@@ -72,12 +74,16 @@ pub trait Outside: Disk {
 
     /// Attaches the device of this name as it is found, in whole blocks, at most 2,097,152. Its journal is empty then.
     fn attach(&mut self, name: &str) -> Result<(), AttachFailed>
-        ensures asked { (beside self.new).openings ≡ (beside self.old).openings ++ attaching name.now (is_ok result) ∷ [] }
+        ensures asked { (beside self.new).openings
+            ≡ (beside self.old).openings ++ attaching name.now (is_ok result) ∷ [] }
         ensures begun { OnOk result (IfSome (Self.told self.new).history (λ h. h.journal ≡ [])) }
         ensures small { OnOk result ((Self.told self.new).blocks ≤ 2097152) }
-        ensures not_begun { OnErr result (Adds (Self.told self.old).history (Self.told self.new).history []) }
-        ensures same_size { OnErr result ((Self.told self.new).blocks ≡ (Self.told self.old).blocks) }
-        ensures cause { HasCause (beside self.old).attach_faults (beside self.new).attach_faults result }
+        ensures not_begun { OnErr result
+            (Adds (Self.told self.old).history (Self.told self.new).history []) }
+        ensures same_size { OnErr result ((Self.told self.new).blocks
+            ≡ (Self.told self.old).blocks) }
+        ensures cause { HasCause (beside self.old).attach_faults
+            (beside self.new).attach_faults result }
         ensures disk { (Self.told self.new).faults ≡ (Self.told self.old).faults }
         ensures keeps { KeepsAtAttach (beside self.old) (beside self.new) };
 
@@ -85,30 +91,38 @@ pub trait Outside: Disk {
     fn make(&mut self, name: &str, blocks: u32) -> Result<(), AttachFailed>
         requires low { 130 ≤ blocks }
         requires high { blocks ≤ 1048576 }
-        ensures asked { (beside self.new).openings ≡ (beside self.old).openings ++ making name.now blocks (is_ok result) ∷ [] }
+        ensures asked { (beside self.new).openings
+            ≡ (beside self.old).openings ++ making name.now blocks (is_ok result) ∷ [] }
         ensures begun { OnOk result (IfSome (Self.told self.new).history (λ h. h ≡ fresh blocks)) }
         ensures size { OnOk result ((Self.told self.new).blocks ≡ blocks) }
-        ensures not_begun { OnErr result (Adds (Self.told self.old).history (Self.told self.new).history []) }
-        ensures same_size { OnErr result ((Self.told self.new).blocks ≡ (Self.told self.old).blocks) }
-        ensures cause { HasCause (beside self.old).attach_faults (beside self.new).attach_faults result }
+        ensures not_begun { OnErr result
+            (Adds (Self.told self.old).history (Self.told self.new).history []) }
+        ensures same_size { OnErr result ((Self.told self.new).blocks
+            ≡ (Self.told self.old).blocks) }
+        ensures cause { HasCause (beside self.old).attach_faults
+            (beside self.new).attach_faults result }
         ensures disk { (Self.told self.new).faults ≡ (Self.told self.old).faults }
         ensures keeps { KeepsAtAttach (beside self.old) (beside self.new) };
 
     /// Takes the next bytes of the script, 1 or more, into the front of `out`; the answer is their number, 0 at the end.
     fn fetch(&mut self, out: &mut [u8]) -> Result<usize, SourceFailed>
         requires { 0 < length out.old }
-        ensures bytes { IfOk result (λ count. Fetches (beside self.old).script (beside self.new).script count out.new) }
+        ensures bytes { IfOk result (λ count. Fetches (beside self.old).script
+            (beside self.new).script count out.new) }
         ensures none { OnErr result (StillTold (beside self.old).script (beside self.new).script) }
-        ensures cause { HasCause (beside self.old).source_faults (beside self.new).source_faults result }
+        ensures cause { HasCause (beside self.old).source_faults
+            (beside self.new).source_faults result }
         ensures rests { Rests [] (Self.told self.old) (Self.told self.new) }
         ensures keeps { KeepsAtFetch (beside self.old) (beside self.new) };
 
     /// Puts the bytes out: all of them, or where it fails a prefix.
     fn put(&mut self, bytes: &[u8]) -> Result<(), SinkFailed>
         ensures puts { Puts (Self.told self.old) (Self.told self.new) bytes.now (is_ok result) }
-        ensures cause { HasCause (beside self.old).sink_faults (beside self.new).sink_faults result }
+        ensures cause { HasCause (beside self.old).sink_faults
+            (beside self.new).sink_faults result }
         ensures keeps { KeepsAtPut (beside self.old) (beside self.new) };
 
     /// A call that is given the disk alone leaves all else.
-    ghost goes_means: { (v w : Self) (es : List Event) → Self.goes v es w → Keeps (beside v) (beside w) };
+    ghost goes_means: { (v w : Self) (es : List Event) → Self.goes v es w
+        → Keeps (beside v) (beside w) };
 }

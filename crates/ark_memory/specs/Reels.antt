@@ -13,6 +13,9 @@ pub record Taped : Type 0 where
 abbrev pub tape_with : Taped → Event → Taped
 tape_with t e = record { events = t.events ++ e ∷ []; limit = t.limit; text_limit = t.text_limit }
 
+abbrev pub no_events : ℕ → ℕ → Taped
+no_events limit text_limit = record { events = []; limit = limit; text_limit = text_limit }
+
 -- what there is room for: bytes of the device, events, bytes of output
 pub record Limits : Type 0 where
   pub device : ℕ
@@ -38,6 +41,14 @@ lost_of r = record { lost = true; base = r.base; events = r.events; limits = r.l
 
 abbrev pub begun : Reel → List (List ℕ) → Reel
 begun r base = record { lost = r.lost; base = base; events = []; limits = r.limits }
+
+-- no device, with this room
+abbrev pub blank : ℕ → ℕ → ℕ → Reel
+blank device events text = record { lost = false; base = []; events = []; limits = record { device = device; events = events; text = text } }
+
+-- a device of no blocks
+abbrev pub nothing_told : Told
+nothing_told = record { history = Some (record { base = []; journal = [] }); blocks = 0; faults = 0 }
 
 abbrev pub told_history : Bool → History → Option History
 told_history true h = None

@@ -1,6 +1,6 @@
 ghost use Rattle.std.specs.Prelude.{◌≡◌, ◌<◌, ◌≤◌, ◌+◌, ◌*◌, ◌%◌, ◌++◌, ◌&&◌, leb, [], true, false, length, IfOk, replicate, take, drop};
 ghost use Rattle.ark_media.specs.Journal.{Sync, onto, current, block, output_of, zero_block};
-ghost use Rattle.ark_memory.specs.Reels.{Reel, Limits};
+ghost use Rattle.ark_memory.specs.Reels.{Reel, blank};
 ghost use Rattle.ark_memory.specs.Turns.{works, HasRoom, after_read, after_write, after_sync, after_put, after_fetch, after_begin};
 ghost use Rattle.ark_media.specs.Blocks.{flat, whole_blocks};
 
@@ -30,7 +30,8 @@ impl Model for Recorded {
 
     ghost view = { λ r. reel_of r.lost r.base.items r.tape r.limit };
 
-    ghost invariant = { λ r. ((r.image.items ≡ flat (current (whole_blocks r.base.items) (onto r.tape.events [])))
+    ghost invariant = { λ r. ((r.image.items
+        ≡ flat (current (whole_blocks r.base.items) (onto r.tape.events [])))
         × AllWhole (current (whole_blocks r.base.items) (onto r.tape.events [])))
         × (length r.base.items ≤ 512 * 2097152)
         × ((r.limit ≤ vec_capacity r.base) × (r.limit ≤ vec_capacity r.image)) };
@@ -40,7 +41,8 @@ impl Model for Recorded {
 fn put_block(image: &mut [u8], n: u32, block: &[u8])
     requires whole { length block.now ≡ 512 }
     requires inside { 512 * n + 512 ≤ length image.old }
-    ensures { image.new ≡ take (512 * n) image.old ++ (block.now ++ drop (512 * n + 512) image.old) }
+    ensures { image.new ≡ take (512 * n) image.old
+        ++ (block.now ++ drop (512 * n + 512) image.old) }
 {
     let from = 512 * n as usize;
     image[from..from + 512].copy_from_slice(block);
@@ -48,11 +50,11 @@ fn put_block(image: &mut [u8], n: u32, block: &[u8])
 
 impl Recorded {
     ghost use Rattle.std.specs.Prelude.{get_or, MatchOption};
-    ghost use Rattle.ark_memory.specs.Shown.{Shows};
+    ghost use Rattle.ark_memory.specs.Shown.{ShowsAt};
 
     /// An empty device, with room for so many bytes of a device, so many events and so many bytes of output.
     pub fn new(alloc: Global, limit: usize, events: u32, text: u32) -> Result<Recorded, AllocError>
-        ensures { IfOk result (λ r. r ≡ record { lost = false; base = []; events = []; limits = record { device = limit; events = events; text = text } }) }
+        ensures { IfOk result (λ r. r ≡ blank limit events text) }
     {
         Ok(Recorded {
             base: Vec::with_capacity(alloc, limit)?,
@@ -93,7 +95,7 @@ impl Recorded {
 
     /// The event with this number, from 0 on.
     pub fn event(&self, i: u32) -> Option<Event<'_>>
-        ensures { MatchOption result (length self.now.events ≤ i) (λ e. (i < length self.now.events) × Shows e (get_or self.now.events i (Sync false))) }
+        ensures { ShowsAt self.now.events i result }
     {
         self.tape.get(i)
     }
@@ -113,7 +115,8 @@ impl Recorded {
         requires room { HasRoom turn self.old }
         requires whole { length out.old ≡ 512 }
         ensures noted { self.new ≡ after_read turn n self.old }
-        ensures honest { works turn ≡ true → out.new ≡ block (current self.new.base (onto self.new.events [])) n }
+        ensures honest { works turn ≡ true
+            → out.new ≡ block (current self.new.base (onto self.new.events [])) n }
         ensures unread { works turn ≡ false → out.new ≡ out.old }
     {
         if turn.is_over() {
@@ -162,7 +165,8 @@ impl Recorded {
     /// Puts bytes out.
     pub fn put(&mut self, turn: Turn, bytes: &[u8])
         requires room { HasRoom turn self.old }
-        requires text { length (output_of self.old.events) + length bytes.now ≤ self.old.limits.text }
+        requires text { length (output_of self.old.events) + length bytes.now ≤
+            self.old.limits.text }
         ensures { self.new ≡ after_put turn bytes.now self.old }
     {
         if turn.is_over() {
@@ -177,7 +181,8 @@ impl Recorded {
         requires small { blocks ≤ 2097152 }
         requires room { 512 * most ≤ self.old.limits.device }
         ensures begins { result ≡ (works turn && leb blocks most) }
-        ensures device { self.new ≡ after_begin turn (leb blocks most) (replicate blocks zero_block) self.old }
+        ensures device { self.new
+            ≡ after_begin turn (leb blocks most) (replicate blocks zero_block) self.old }
     {
         if turn.is_over() {
             self.lost = true;
@@ -200,7 +205,9 @@ impl Recorded {
         requires whole { length device.now % 512 ≡ 0 }
         requires room { length device.now ≤ self.old.limits.device }
         ensures begins { result ≡ (works turn && leb (length device.now) (512 * 2097152)) }
-        ensures device { self.new ≡ after_begin turn (leb (length device.now) (512 * 2097152)) (whole_blocks device.now) self.old }
+        ensures device { self.new
+            ≡ after_begin turn (leb (length device.now) (512 * 2097152))
+            (whole_blocks device.now) self.old }
     {
         if turn.is_over() {
             self.lost = true;

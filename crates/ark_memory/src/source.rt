@@ -17,7 +17,11 @@ impl Model for Source {
 
     ghost Value = { Script };
 
-    ghost view = { λ s. record { taken = take s.taken s.bytes.items; left = drop s.taken s.bytes.items } };
+    ghost view = { λ s. record {
+      taken = take s.taken s.bytes.items;
+      left = drop s.taken
+          s.bytes.items;
+    } };
 
     ghost invariant = { λ s. s.taken ≤ length s.bytes.items };
 }

@@ -1,6 +1,6 @@
 ghost use Rattle.std.specs.Prelude.{◌≡◌, ◌≤◌, ◌<◌, ◌+◌, ◌-◌, take, drop, ◌++◌, ◌∷◌, [], length, IfOk};
 ghost use Rattle.ark_media.specs.Journal.{Out, Read, Write, Sync, output_of};
-ghost use Rattle.ark_memory.specs.Reels.{Taped, tape_with};
+ghost use Rattle.ark_memory.specs.Reels.{Taped, no_events, tape_with};
 
 use crate::event::Event;
 use ark_base::Block;
@@ -47,10 +47,17 @@ impl Model for Tape {
 
     ghost use Rattle.ark_memory.specs.Tape.{event_of, Sound};
 
-    ghost view = { λ t. record { events = map (event_of t.text.items t.blocks.items) t.entries.items; limit = t.limit; text_limit = t.text_limit } };
+    ghost view = { λ t. record {
+      events = map
+          (event_of t.text.items t.blocks.items) t.entries.items;
+      limit = t.limit;
+      text_limit =
+          t.text_limit;
+    } };
 
     ghost invariant = { λ t. Sound t.text.items t.blocks.items t.entries.items
-        × ((length t.entries.items ≤ t.limit) × (t.limit < 2 ^ 32) × (t.limit ≤ vec_capacity t.entries))
+        × ((length t.entries.items ≤ t.limit) × (t.limit < 2 ^ 32)
+        × (t.limit ≤ vec_capacity t.entries))
         × ((length t.blocks.items ≤ length t.entries.items) × (t.limit ≤ vec_capacity t.blocks))
         × ((length t.text.items ≤ t.text_limit) × (t.text_limit ≤ vec_capacity t.text)) };
 }
@@ -66,11 +73,11 @@ fn part_of(text: &[u8], from: usize, to: usize) -> &[u8]
 
 impl Tape {
     ghost use Rattle.std.specs.Prelude.{false, get_or, MatchOption};
-    ghost use Rattle.ark_memory.specs.Shown.{Shows};
+    ghost use Rattle.ark_memory.specs.Shown.{ShowsAt};
 
     /// No events, with room for so many of them, and for so many bytes of output.
     pub fn new(alloc: Global, limit: u32, text_limit: u32) -> Result<Tape, AllocError>
-        ensures { IfOk result (λ tape. tape ≡ record { events = []; limit = limit; text_limit = text_limit }) }
+        ensures { IfOk result (λ tape. tape ≡ no_events limit text_limit) }
     {
         Ok(Tape {
             entries: Vec::with_capacity(alloc, limit as usize)?,
@@ -90,7 +97,7 @@ impl Tape {
 
     /// The event with this number, from 0 on.
     pub fn get(&self, i: u32) -> Option<Event<'_>>
-        ensures { MatchOption result (length self.now.events ≤ i) (λ e. (i < length self.now.events) × Shows e (get_or self.now.events i (Sync false))) }
+        ensures { ShowsAt self.now.events i result }
     {
         if i as usize >= self.entries.len() {
             return None;
@@ -119,7 +126,7 @@ impl Tape {
 
     /// Forgets all events.
     pub fn clear(&mut self)
-        ensures { self.new ≡ record { events = []; limit = self.old.limit; text_limit = self.old.text_limit } }
+        ensures { self.new ≡ no_events self.old.limit self.old.text_limit }
     {
         self.entries.clear();
         self.blocks.clear();
@@ -155,7 +162,8 @@ impl Tape {
 
     pub fn put(&mut self, bytes: &[u8])
         requires room { length self.old.events < self.old.limit }
-        requires text { length (output_of self.old.events) + length bytes.now ≤ self.old.text_limit }
+        requires text { length (output_of self.old.events) + length bytes.now ≤
+            self.old.text_limit }
         ensures { self.new ≡ tape_with self.old (Out bytes.now) }
     {
         let from = self.text.len();

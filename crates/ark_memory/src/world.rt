@@ -46,10 +46,11 @@ fn answer<E: Copy>(works: bool, faults: &mut u64, failed: E) -> Result<(), E>
 
 impl MemoryWorld {
     ghost use Rattle.std.specs.Prelude.{IfOk, Some, get_or, MatchOption, take};
-    ghost use Rattle.ark_memory.specs.Reels.{told_of};
+    ghost use Rattle.ark_memory.specs.Reels.{nothing_told};
+    ghost use Rattle.ark_memory.specs.World.{told_by};
     ghost use Rattle.ark_media.specs.Journal.{Sync, onto, current};
     ghost use Rattle.ark_media.specs.Blocks.{flat};
-    ghost use Rattle.ark_memory.specs.Shown.{Shows};
+    ghost use Rattle.ark_memory.specs.Shown.{ShowsAt};
 
     /// A world in which `device` can be attached: its whole blocks of 512 bytes, without what comes after the last. A device
     /// of at most `room` blocks can be made. The calls of `plan` fail, and all from number `calls` on; there is room for
@@ -63,13 +64,14 @@ impl MemoryWorld {
         calls: u32,
         text: u32,
     ) -> Result<MemoryWorld, Memory>
-        ensures told { IfOk result (λ w. told_of w.device w.disk_faults ≡ record { history = Some (record { base = []; journal = [] }); blocks = 0; faults = 0 }) }
+        ensures told { IfOk result (λ w. told_by w ≡ nothing_told) }
         ensures script { IfOk result (λ w. w.source ≡ record { taken = []; left = script.now }) }
         ensures attach_faults { IfOk result (λ w. w.attach_faults ≡ 0) }
         ensures source_faults { IfOk result (λ w. w.source_faults ≡ 0) }
         ensures sink_faults { IfOk result (λ w. w.sink_faults ≡ 0) }
         ensures openings { IfOk result (λ w. w.openings.asked ≡ []) }
-        ensures found { IfOk result (λ w. w.found.items ≡ take (length device.now - length device.now % 512) device.now) }
+        ensures found { IfOk result (λ w. w.found.items
+            ≡ take (length device.now - length device.now % 512) device.now) }
         ensures room { IfOk result (λ w. w.room ≡ room) }
         ensures plan { IfOk result (λ w. w.schedule.fails.items ≡ plan.now) }
         ensures calls { IfOk result (λ w. w.schedule.calls ≡ calls) }
@@ -102,14 +104,15 @@ impl MemoryWorld {
 
     /// The event with this number, counted from 0 for the first since the device was attached or made.
     pub fn event(&self, i: u32) -> Option<Event<'_>>
-        ensures { MatchOption result (length self.now.device.events ≤ i) (λ e. (i < length self.now.device.events) × Shows e (get_or self.now.device.events i (Sync false))) }
+        ensures { ShowsAt self.now.device.events i result }
     {
         self.device.event(i)
     }
 
     /// All bytes of the device as they are now, block after block.
     pub fn image(&self) -> &[u8]
-        ensures { result.now ≡ flat (current self.now.device.base (onto self.now.device.events [])) }
+        ensures { result.now ≡ flat (current self.now.device.base
+            (onto self.now.device.events [])) }
     {
         self.device.image()
     }

@@ -1,4 +1,4 @@
--- Objects by key. Ours.
+-- Objects by key.
 use Rattle.std.specs.Prelude.{◌≡◌, ◌≢◌, ℕ, List, Option, None, is_some, slice_index_or}
 use Rattle.std.specs.List.{count_by}
 

@@ -26,7 +26,8 @@ impl<T> Model for Objects<T> {
 
     ghost view = { λ b. b.slots.slots };
 
-    ghost invariant = { λ b. (64 ≤ b.slots.capacity) × (b.slots.capacity ≤ 4096) × (slab_len b.slots ≤ 64) };
+    ghost invariant = { λ b. (64 ≤ b.slots.capacity) × (b.slots.capacity ≤ 4096)
+        × (slab_len b.slots ≤ 64) };
 }
 
 impl<T> Objects<T> {

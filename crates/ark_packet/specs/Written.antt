@@ -9,7 +9,7 @@ use Rattle.ark_packet.specs.declared.own.Own.{Own}
 abbrev pub checksum : List ℕ → ℕ
 checksum octets = 65535 - ones_sum octets
 
--- A header of 20 octets: its fields and their places (RFC 791, section 3.1), with protocol 17 (RFC 768, Protocol Number). Ours: no
+-- A header of 20 octets: its fields and their places (RFC 791, section 3.1), with protocol 17 (RFC 768, Protocol Number). No
 -- options, service and identification 0, no flags, and a time to live of 64.
 abbrev pub ip_header : ℕ → ℕ → List ℕ → List ℕ → List ℕ
 ip_header total sum from to =
@@ -42,7 +42,7 @@ right_udp_header d =
 abbrev pub ip_part : Datagram → List ℕ
 ip_part d = right_ip_header (28 + length d.payload) d.from d.to ++ (right_udp_header d ++ d.payload)
 
--- Destination, source, the type 0800 of IPv4, and the IPv4 part (IEEE 802.3, clause 3; RFC 894, Frame Format). Ours: the destination
+-- Destination, source, the type 0800 of IPv4, and the IPv4 part (IEEE 802.3, clause 3; RFC 894, Frame Format). The destination
 -- is the gateway, always, and a short frame is not padded.
 abbrev pub frame_of : Own → Datagram → List ℕ
 frame_of own d = own.gateway ++ (own.mac ++ ((8 ∷ (0 ∷ [])) ++ ip_part d))

@@ -43,7 +43,8 @@ const HEADER: usize = 8;
 
 // The header and the data of a datagram, as its length field says.
 fn octets_of(payload: &[u8]) -> Option<&[u8]>
-    ensures octets { IfSome result (λ octets. octets.now ≡ take (spec.length_field payload.now) payload.now) }
+    ensures octets { IfSome result (λ octets. octets.now
+        ≡ take (spec.length_field payload.now) payload.now) }
     ensures is_there { is_some result ≡ spec.has_length payload.now }
 {
     if payload.len() < HEADER {

@@ -108,11 +108,25 @@ pub fn write_udp(
     requires room { 42 + length payload.now ≤ length out.old }
     requires at_most { length payload.now ≤ 1472 }
     ensures end { result ≡ 42 + length payload.now }
-    ensures written { take result out.new ≡ spec.frame_of own.now (record { from = own.now.ip; to = to; from_port = from_port; to_port = to_port; payload = payload.now }) }
+    ensures written { take result out.new
+        ≡ spec.frame_of own.now (record {
+          from = own.now.ip;
+          to = to;
+          from_port = from_port;
+          to_port = to_port;
+          payload = payload.now;
+        }) }
     ensures rest { drop result out.new ≡ drop result out.old }
     ensures target { target_of (take result out.new) ≡ own.now.gateway }
     ensures source { source_of (take result out.new) ≡ own.now.mac }
-    ensures read_back { datagram_in (packet_in (take result out.new)) ≡ Ok (record { from = own.now.ip; to = to; from_port = from_port; to_port = to_port; payload = payload.now }) }
+    ensures read_back { datagram_in (packet_in (take result out.new))
+        ≡ Ok (record {
+          from = own.now.ip;
+          to = to;
+          from_port = from_port;
+          to_port = to_port;
+          payload = payload.now;
+        }) }
 {
     let length = payload.len() as u16;
     let link = link_header(&own.gateway, &own.mac);

@@ -37,7 +37,8 @@ impl<H: Host> Disk for Watched<H> {
 
     ghost goes_none = { λ w. goes_on_none w.log.past };
 
-    ghost goes_more = { λ a b c es fs p q. goes_on_then es fs a.log.past b.log.past c.log.past p q };
+    ghost goes_more = { λ a b c es fs p q. goes_on_then es fs a.log.past b.log.past c.log.past p
+        q };
 
     ghost goes_told = { λ a b es p. p.moves.tells };
 

@@ -19,7 +19,8 @@ fn is_free(taken: &[bool], start: usize, count: usize) -> bool
 // The least place of `count` neighbouring free frames.
 pub(crate) fn place(taken: &[bool], count: usize) -> Option<usize>
     requires { 0 < count }
-    ensures some { IfSome result (λ s. IsLeastPlace (IsTaken taken.now) (length taken.now) count s) }
+    ensures some { IfSome result (λ s. IsLeastPlace (IsTaken taken.now)
+        (length taken.now) count s) }
     ensures none { IfNone result ((s : ℕ) → ¬ Fits (IsTaken taken.now) (length taken.now) count s) }
 {
     for start in 0..taken.len() {

@@ -11,7 +11,8 @@ fn two_parts(s: &mut [u8], i: usize, n: usize, j: usize, m: usize) -> (&mut [u8]
     requires first { i + n ≤ length s.old }
     requires second { j + m ≤ length s.old }
     ensures* writes_back { sem 𝓛 (LendsTwo s.entry i j result) }
-    ensures value { (result.0.now ≡ slice_range s.old i (i + n)) × (result.1.now ≡ slice_range s.old j (j + m)) }
+    ensures value { (result.0.now ≡ slice_range s.old i (i + n))
+        × (result.1.now ≡ slice_range s.old j (j + m)) }
 {
     let start = s.as_mut_ptr();
     unsafe {

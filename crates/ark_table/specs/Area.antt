@@ -1,5 +1,5 @@
 -- The block of one slot, both ways. A slot in use has one spelling, so a block is right exactly where it is the spelling
--- of its fields. Ours: no standard fixes it.
+-- of its fields.
 use Rattle.std.specs.Prelude.{ℕ, zero, suc, ◌+◌, ◌-◌, List, [], ◌∷◌, ◌++◌, length, take, drop, replicate, slice_index, slice_range, codes, flat_map, Bool, ◌&&◌, ◌==◌, nat_le, bytes_eq, if◌then◌else◌}
 use Rattle.std.specs.Int.{w32, to_be_bytes, from_be_bytes}
 use Rattle.std.specs.List.{list_all}

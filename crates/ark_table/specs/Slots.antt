@@ -1,4 +1,4 @@
--- The slots of a device: blocks 1 to 128 of its image. Ours: no standard fixes them.
+-- The slots of a device: blocks 1 to 128 of its image.
 use Rattle.std.specs.Prelude.{◌≡◌, ◌<◌, ◌≤◌, Contains, ℕ, ◌+◌, List, [], ◌∷◌, ◌++◌, length, take, drop, map, count_by, Bool, true, false, not, ◌&&◌, nat_le, bytes_eq, Result, Ok, Err}
 use Rattle.std.specs.List.{list_all}
 use Rattle.ark_base.specs.declared.block.Span.{Span}

@@ -1,4 +1,4 @@
--- Block 0 of a device, and how a device is formatted. Ours: no standard fixes it.
+-- Block 0 of a device, and how a device is formatted.
 use Rattle.std.specs.Prelude.{ℕ, List, [], ◌∷◌, ◌++◌, codes, replicate}
 use Rattle.std.specs.Int.{w16, w64, to_be_bytes}
 use Rattle.ark_media.specs.Calls.{Call, Writes, Syncs}

@@ -1,5 +1,5 @@
 -- The table of an image's slots, as a relation: the area of each of the 128 slots. Place i of the table is slot
--- i + 1. Ours: no standard fixes it.
+-- i + 1.
 use Rattle.std.specs.Prelude.{◌≡◌, ◌<◌, ◌≤◌, ℕ, ◌+◌, List, [], ◌∷◌, length, get_or, count_by, Bool, true, false, bytes_eq, Option, Some, None}
 use Rattle.ark_media.specs.Journal.{block}
 use Rattle.ark_extents.specs.Blocks.{blocks_of, AreApart}

@@ -55,7 +55,8 @@ impl Door {
     /// Counts one ring.
     pub fn ring(&mut self, bell: Bell)
         ensures value { self.new ≡ one_more self.old bell }
-        ensures counts { (bells : List Bell) → self.old ≡ counts_of bells → self.new ≡ counts_of (bells ++ bell ∷ []) }
+        ensures counts { (bells : List Bell) → self.old ≡ counts_of bells
+            → self.new ≡ counts_of (bells ++ bell ∷ []) }
     {
         match bell {
             Bell::Rx => self.counts.rx = self.counts.rx.saturating_add(1),

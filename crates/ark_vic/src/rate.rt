@@ -21,7 +21,13 @@ impl Model for Rate {
 
     ghost Value = { Pace };
 
-    ghost view = { λ r. record { per_tick = r.per_tick; burst = r.burst; tick = r.tick; fill = r.fill } };
+    ghost view = { λ r. record {
+      per_tick = r.per_tick;
+      burst = r.burst;
+      tick = r.tick;
+      fill =
+          r.fill;
+    } };
 
     ghost invariant = { λ r. r.fill ≤ r.burst };
 }
@@ -56,7 +62,8 @@ impl Rate {
     pub fn may(&self, len: u32, now: u64) -> bool
         requires { self.now.tick ≤ now }
         ensures by_number { IsTrue result ↔ (fill_at self.now now + len ≤ self.now.burst) }
-        ensures by_law { (p : List Pass) → StandsFor self.now p → (IsTrue result ↔ Keeps self.now.per_tick self.now.burst (p ++ (now, len) ∷ [])) }
+        ensures by_law { (p : List Pass) → StandsFor self.now p
+            → (IsTrue result ↔ Keeps self.now.per_tick self.now.burst (p ++ (now, len) ∷ [])) }
     {
         u64::from(len) <= self.burst - self.fill_now(now)
     }
@@ -66,7 +73,8 @@ impl Rate {
         requires later { self.old.tick ≤ now }
         requires may { fill_at self.old now + len ≤ self.old.burst }
         ensures value { self.new ≡ filled self.old len now }
-        ensures stands { (p : List Pass) → StandsFor self.old p → StandsFor self.new (p ++ (now, len) ∷ []) }
+        ensures stands { (p : List Pass) → StandsFor self.old p
+            → StandsFor self.new (p ++ (now, len) ∷ []) }
     {
         self.fill = self.fill_now(now) + u64::from(len);
         self.tick = now;

@@ -23,9 +23,16 @@ impl Model for Ring {
 
     ghost Value = { Queue };
 
-    ghost view = { λ r. record { posted = r.posted.items; unreaped = r.unreaped.items; moved = r.moved; size = r.size } };
+    ghost view = { λ r. record {
+      posted = r.posted.items;
+      unreaped = r.unreaped.items;
+      moved =
+          r.moved;
+      size = r.size;
+    } };
 
-    ghost invariant = { λ r. (r.posted.capacity ≡ r.size) × (r.unreaped.capacity ≡ r.size) × (length r.posted.items + length r.unreaped.items ≤ r.size) × (r.size ≤ 256) };
+    ghost invariant = { λ r. (r.posted.capacity ≡ r.size) × (r.unreaped.capacity ≡ r.size)
+        × (length r.posted.items + length r.unreaped.items ≤ r.size) × (r.size ≤ 256) };
 }
 
 impl Ring {
@@ -34,7 +41,8 @@ impl Ring {
     /// An empty ring for `size` descriptors, at most 256. It fails for want of memory alone.
     pub fn new(alloc: Global, size: u32) -> Result<Ring, Memory>
         requires { size ≤ 256 }
-        ensures { IfOk result (λ r. r ≡ record { posted = []; unreaped = []; moved = 0; size = size }) }
+        ensures { IfOk result (λ r. r
+            ≡ record { posted = []; unreaped = []; moved = 0; size = size }) }
     {
         let Ok(posted) = HeapCircularBuffer::with_capacity(alloc, size as usize) else {
             return Err(Memory);
@@ -54,7 +62,8 @@ impl Ring {
     /// ring is full.
     pub fn post(&mut self, descriptor: Descriptor) -> Result<(), Descriptor>
         ensures fits { IsOk result ↔ (members self.old < self.old.size) }
-        ensures posted { OnOk result (self.new ≡ record self.old { posted = self.old.posted ++ descriptor ∷ [] }) }
+        ensures posted { OnOk result (self.new
+            ≡ record self.old { posted = self.old.posted ++ descriptor ∷ [] }) }
         ensures back { IfErr result (λ back. back ≡ descriptor) }
         ensures same { IfErr result (λ back. self.new ≡ self.old) }
     {
@@ -91,7 +100,8 @@ impl Ring {
     /// among the unreaped.
     pub fn finish(&mut self, outcome: Outcome, len: u32)
         requires { 0 < length self.old.posted }
-        ensures { MatchOption (slice_get self.old.posted 0) ⊥ (λ d. self.new ≡ finished self.old d outcome len) }
+        ensures { MatchOption (slice_get self.old.posted 0) ⊥ (λ d. self.new
+            ≡ finished self.old d outcome len) }
     {
         let Some(descriptor) = self.posted.pop_front() else {
             unreachable!();

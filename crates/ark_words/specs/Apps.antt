@@ -1,4 +1,4 @@
--- The commands as `clap` sees them: their options and arguments. Ours.
+-- The commands as `clap` sees them: their options and arguments.
 use Rattle.std.specs.Prelude.{true, Some, codes}
 use Rattle.clap.specs.Words.{App, Rule, new_app, new_rule, with_rule}
 use Rattle.clap.specs.declared.builder.ArgAction.TheVariants.{Set}

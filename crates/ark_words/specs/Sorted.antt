@@ -1,4 +1,4 @@
--- Words sorted into the values of `--new` and the plain words. Ours.
+-- Words sorted into the values of `--new` and the plain words.
 use Rattle.std.specs.Prelude.{◌≡◌, ◌≤◌, ℕ, Bool, true, false, List, [], ◌∷◌, Option, Some, None, if◌then◌else◌, ◌==◌, take, drop, length, option_map, bytes_eq, codes}
 
 abbrev pub Text : Type 0

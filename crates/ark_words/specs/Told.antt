@@ -1,4 +1,4 @@
--- A task as the command that it is. Ours.
+-- A task as the command that it is.
 use Rattle.ark_words.specs.Words.{Command, run, check, work}
 use Rattle.ark_words.specs.declared.task.Task.{Task}
 use Rattle.ark_words.specs.declared.task.Task.TheVariants.{Run, Check, Work}

@@ -1,4 +1,4 @@
--- The set of commands, as words of the command line. Ours.
+-- The set of commands, as words of the command line.
 use Rattle.std.specs.Prelude.{◌≡◌, ◌≢◌, ◌≤◌, ◌<◌, ◌^◌, ℕ, List, [], ◌∷◌, Option, Some, None, IfSome, codes, decimal}
 use Rattle.ark_words.specs.Sorted.{Text, Sorted, sorted}
 

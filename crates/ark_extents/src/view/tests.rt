@@ -40,7 +40,8 @@ impl Disk for LastWritten {
 
     ghost goes_none = { λ _ failed. failed };
 
-    ghost goes_more = { λ _ _ _ es fs first rest failed. ⊎_elim first rest (failed_append es fs failed) };
+    ghost goes_more = { λ _ _ _ es fs first rest failed.
+        ⊎_elim first rest (failed_append es fs failed) };
 
     ghost goes_told = { λ _ _ es went. record {
       adds = record { told = λ h is. absurd (false≢true (ap is_some is)) };

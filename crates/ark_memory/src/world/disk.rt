@@ -40,7 +40,8 @@ impl Disk for MemoryWorld {
         ensures went { Went goes_by (Writes n block.now ∷ []) (is_ok result) self.old self.new }
         ensures turns { TurnsOn self.old self.new }
         ensures planned { is_ok result ≡ works (turn_at self.old) }
-        ensures device { self.new.device ≡ after_write (turn_at self.old) n block.now self.old.device }
+        ensures device { self.new.device
+            ≡ after_write (turn_at self.old) n block.now self.old.device }
         ensures counts { self.new.disk_faults ≡ counted (is_ok result) self.old.disk_faults }
         ensures text { self.new.text ≡ self.old.text }
     {
@@ -64,7 +65,8 @@ impl Disk for MemoryWorld {
 
     ghost goes_none = { λ w. moves_none (told_by w) (beside_by w) };
 
-    ghost goes_more = { λ a b c es fs p q. moves_then es fs (told_by a) (told_by b) (told_by c) (beside_by a) (beside_by b) (beside_by c) p q };
+    ghost goes_more = { λ a b c es fs p q. moves_then es fs (told_by a) (told_by b) (told_by c)
+        (beside_by a) (beside_by b) (beside_by c) p q };
 
     ghost goes_told = { λ a b es p. p.tells };
 
