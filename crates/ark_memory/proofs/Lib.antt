@@ -3,3 +3,4 @@ pub mod Fetching
 pub mod Recording
 pub mod Failing
 pub mod Moving
+pub mod Leaving

@@ -9,7 +9,7 @@ use Rattle.ark_media.specs.Going.{onto-append}
 use Rattle.ark_media.proofs.Stopping.{length-current}
 use Rattle.ark_media.proofs.Flat.{length-flat, block-flat, set-flat, whole-set, flat_of_whole, whole_of_whole, no_blocks, zeros}
 
-onto_end : (es : List Event) (e : Event) → onto (es ++ e ∷ []) [] ≡ e ∷ onto es []
+pub onto_end : (es : List Event) (e : Event) → onto (es ++ e ∷ []) [] ≡ e ∷ onto es []
 onto_end es e = onto-append es (e ∷ []) []
 
 -- the bytes are those of these whole blocks

@@ -6,3 +6,5 @@ pub mod Shown
 pub mod Tape
 pub mod Size
 pub mod World
+pub mod Holding
+pub mod Leaving

@@ -2,6 +2,7 @@
 #![tactic(auto)]
 
 mod event;
+mod holding;
 mod openings;
 mod recorded;
 mod schedule;

@@ -224,3 +224,5 @@ impl Recorded {
         true
     }
 }
+
+mod leaving;

@@ -45,11 +45,12 @@ fn answer<E: Copy>(works: bool, faults: &mut u64, failed: E) -> Result<(), E>
 }
 
 impl MemoryWorld {
-    ghost use Rattle.std.specs.Prelude.{IfOk, Some, get_or, MatchOption, take};
+    ghost use Rattle.std.specs.Prelude.{◌↔◌, IsTrue, IfOk, take};
     ghost use Rattle.ark_memory.specs.Reels.{nothing_told};
     ghost use Rattle.ark_memory.specs.World.{told_by};
     ghost use Rattle.ark_media.specs.Journal.{Sync, onto, current};
     ghost use Rattle.ark_media.specs.Blocks.{flat};
+    ghost use Rattle.ark_memory.specs.Leaving.{MayLeaveBytes};
     ghost use Rattle.ark_memory.specs.Shown.{ShowsAt};
 
     /// A world in which `device` can be attached: its whole blocks of 512 bytes, without what comes after the last. A device
@@ -115,6 +116,14 @@ impl MemoryWorld {
             (onto self.now.device.events [])) }
     {
         self.device.image()
+    }
+
+    /// Whether a stop after the first `front` of these events may leave these bytes of the device, where it leaves blocks whole:
+    /// each block has its content at the last sync that succeeded, or what a write since then wrote.
+    pub fn may_leave(&self, front: u32, image: &[u8]) -> bool
+        ensures leaves { IsTrue result ↔ MayLeaveBytes self.now.device front image.now }
+    {
+        self.device.may_leave(front, image)
     }
 
     /// All that was put out since the device was attached or made.
