@@ -21,6 +21,8 @@ mod reading;
 #[cfg(test)]
 mod runs;
 #[cfg(test)]
+mod stops;
+#[cfg(test)]
 mod watched;
 #[cfg(test)]
 mod words;

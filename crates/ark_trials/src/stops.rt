@@ -1,0 +1,112 @@
+//! What a stop leaves of a run's device, against images that are put together write by write.
+
+use crate::runs::run;
+use ark_memory::{Event, Fail, MemoryWorld};
+use std::alloc::Global;
+use std::test::Fail as Failure;
+
+const SCRIPT: &[u8] =
+    b"app a\nvsa a site 4 raw\npoke a site 0 01\npoke a site 1 02\npoke a site 0 03\n";
+
+// How many events there are up to and with the last sync that succeeded among the first ones.
+fn synced_at(world: &MemoryWorld, front: u32) -> u32 {
+    let mut synced = 0;
+    for i in 0..front {
+        if matches!(world.event(i), Some(Event::Sync { ok: true })) {
+            synced = i.saturating_add(1);
+        }
+    }
+    synced
+}
+
+// Puts a block into an image.
+fn put_block(image: &mut [u8], n: u32, block: &[u8]) {
+    let from = 512 * n as usize;
+    if let Some(place) = image.get_mut(from..from + 512) {
+        if place.len() == block.len() {
+            place.copy_from_slice(block);
+        }
+    }
+}
+
+// The image of 200 blocks after the first events: of the writes since the last sync those that are kept, in their order.
+fn image_at(
+    alloc: Global,
+    world: &MemoryWorld,
+    front: u32,
+    kept: &[bool],
+) -> Result<Vec<u8>, Failure> {
+    let mut image = Vec::new(alloc);
+    image.resize(200 * 512, 0)?;
+    let synced = synced_at(world, front);
+    let mut next: usize = 0;
+    for i in 0..front {
+        if let Some(Event::Write { n, block, took, .. }) = world.event(i) {
+            let stays = if i < synced {
+                took
+            } else {
+                let stays = kept.get(next).copied().unwrap_or(false);
+                next = next.saturating_add(1);
+                stays
+            };
+            if stays {
+                put_block(&mut image, n, &block.0);
+            }
+        }
+    }
+    Ok(image)
+}
+
+// At every front each choice of the writes since the last sync, kept or lost, may be left, and nothing that no write wrote.
+#[test]
+fn leaves_each_choice_of_writes(rt: HostRuntime) -> Result<(), Failure> {
+    let done = run(rt.alloc(), SCRIPT, &[])?;
+    assert_eq!(rt;
+        done.world.out(),
+        b"ready 200 0\nok\nok\nok\nok\nok\n".as_slice()
+    );
+    assert_eq!(rt; done.world.events(), 11);
+    for front in 0..=11u32 {
+        for first in [false, true] {
+            for second in [false, true] {
+                for third in [false, true] {
+                    let kept = [first, second, third];
+                    let mut image = image_at(rt.alloc(), &done.world, front, &kept)?;
+                    assert!(rt; done.world.may_leave(front, &image), "at {front}");
+                    put_block(&mut image, 131, &[9; 512]);
+                    assert!(rt; !done.world.may_leave(front, &image), "at {front}");
+                }
+            }
+        }
+    }
+    let whole = image_at(rt.alloc(), &done.world, 11, &[true, true, true])?;
+    assert_eq!(rt; done.world.image(), whole.as_slice());
+    Ok(())
+}
+
+// A write that comes after the front, one that a sync has covered since, and bytes that are no whole device are refused.
+#[test]
+fn leaves_nothing_else(rt: HostRuntime) -> Result<(), Failure> {
+    let done = run(rt.alloc(), SCRIPT, &[])?;
+    let world = &done.world;
+    let fresh = image_at(rt.alloc(), world, 0, &[])?;
+    let formatted = image_at(rt.alloc(), world, 2, &[])?;
+    assert!(rt; !world.may_leave(0, &formatted));
+    assert!(rt; world.may_leave(1, &fresh));
+    assert!(rt; world.may_leave(1, &formatted));
+    assert!(rt; !world.may_leave(2, &fresh));
+    assert!(rt; world.may_leave(2, &formatted));
+    let poked = image_at(rt.alloc(), world, 11, &[true, true, false])?;
+    assert!(rt; world.may_leave(11, &poked));
+    assert!(rt; !world.may_leave(6, &poked));
+    assert!(rt; !world.may_leave(11, poked.get(512..).unwrap_or(&[])));
+    let plan = [Fail {
+        call: 2,
+        took: false,
+        part: 0,
+    }];
+    let failed = run(rt.alloc(), SCRIPT, &plan)?;
+    assert!(rt; failed.world.may_leave(2, &fresh));
+    assert!(rt; failed.world.may_leave(2, &formatted));
+    Ok(())
+}
