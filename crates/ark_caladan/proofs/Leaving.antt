@@ -17,9 +17,9 @@ use Rattle.ark_entry.proofs.Appending.{idle_finds, body_finds, marking_finds, mo
 use Rattle.ark_entry.proofs.Dropping.{dropping_finds, later, around}
 use Rattle.ark_caladan.specs.Chain.{Command, append, trim, pop, after, next_number, blocks_of}
 use Rattle.ark_caladan.specs.Numbers.{Fits}
-use Rattle.ark_caladan.specs.Leaves.{Lies, IsRing, Holds, HasRoom, with_draft, with_entry, dropped_by, freed_by, HeaderAfter}
+use Rattle.ark_caladan.specs.Leaves.{LiesInRing, IsRing, Holds, HasRoom, with_draft, with_entry, dropped_by, freed_by, HeaderAfter}
 
-module _ (kind : Kind) (header : List ℕ) (h : Header) (ring stored : List (List ℕ)) (l : Entries) (is_ring : IsRing ring) (lies : Lies kind (length ring) header h stored l) where
+module _ (kind : Kind) (header : List ℕ) (h : Header) (ring stored : List (List ℕ)) (l : Entries) (is_ring : IsRing ring) (lies : LiesInRing kind (length ring) header h stored l) where
   -- a list that stands from the header's start on is found
   listed : (xs : List (List ℕ)) → length l.payloads ≤ length xs → Finds (length ring) h.start (reading ring h.start) 0 l.first xs → found_of kind (header ∷ ring) ≡ found (record { first = l.first; payloads = xs })
   listed xs more finds = stands_is_list kind header ring is_ring.whole is_ring.some (record { first = l.first; payloads = xs })
@@ -49,7 +49,7 @@ module _ (kind : Kind) (header : List ℕ) (h : Header) (ring stored : List (Lis
         longer = length-append l.payloads (payload ∷ [])
 
     -- and then the list with the entry lies there
-    pub entry_lies : Lies kind (length ring) header h (with_entry (length ring) h stored l payload) (after l (append (next_number l) payload))
+    pub entry_lies : LiesInRing kind (length ring) header h (with_entry (length ring) h stored l payload) (after l (append (next_number l) payload))
     entry_lies = record {
       read = lies.read;
       first = lies.first;
@@ -98,7 +98,7 @@ dropped_front l (append n payload) fits some = absurd (omega (arith, some))
 dropped_front l (trim n) fits some = (omega (arith, fits.0, fits.1), omega (arith, fits.0), refl)
 dropped_front l (pop n) fits some = (omega (arith, fits.1), refl, refl)
 
-module _ (kind : Kind) (header new_header : List ℕ) (h new : Header) (ring stored : List (List ℕ)) (l : Entries) (c : Command) (is_ring : IsRing ring) (lies : Lies kind (length ring) header h stored l)
+module _ (kind : Kind) (header new_header : List ℕ) (h new : Header) (ring stored : List (List ℕ)) (l : Entries) (c : Command) (is_ring : IsRing ring) (lies : LiesInRing kind (length ring) header h stored l)
     (fits : Fits l c) (some : 1 ≤ dropped_by l c) (written : HeaderAfter kind (length ring) new_header h l c new) where
   length-front : length (take (dropped_by l c) l.payloads) ≡ dropped_by l c
   length-front = length-take-le (dropped_by l c) l.payloads (dropped_front l c fits some).0
@@ -148,7 +148,7 @@ module _ (kind : Kind) (header new_header : List ℕ) (h new : Header) (ring sto
       (subst (λ (s : ℕ). Stands (length ring) s (at (drop (freed_by l c) stored)) 0 (l.first + length (take (dropped_by l c) l.payloads)) (drop (dropped_by l c) l.payloads) (length (drop (freed_by l c) stored))) (sym written.start) shifted))
 
   -- and afterwards what is left of the list lies there
-  pub rest_lies : Lies kind (length ring) new_header new (drop (freed_by l c) stored) (after l c)
+  pub rest_lies : LiesInRing kind (length ring) new_header new (drop (freed_by l c) stored) (after l c)
   rest_lies = record {
     read = written.read;
     first = sym written.first;

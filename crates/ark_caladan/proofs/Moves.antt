@@ -5,7 +5,7 @@ use Rattle.ark_media.specs.Journal.{Event, Write, Out, block, current}
 use Rattle.ark_media.specs.Calls.{Call, Reads, Writes, Syncs, Comes}
 use Rattle.ark_media.specs.Stops.{MayHold, MayLeave, Whole}
 use Rattle.ark_media.proofs.Stopping.{current_same, current_other, other_write, now_may, sync_narrows}
-use Rattle.ark_caladan.specs.Moving.{OnDisk, Moving, Rests, Elsewhere, and}
+use Rattle.ark_caladan.specs.Moving.{OnDisk, Moving, IsAtRest, Elsewhere, and}
 
 -- what a stop may leave of the area's blocks gains nothing by an event elsewhere
 pub images_elsewhere : (blocks : List ℕ) (base : List (List ℕ)) → OnDisk blocks base → (j : List Event) (call : Call) (ok : Bool) (e : Event) → Elsewhere blocks call → Comes call ok e
@@ -72,8 +72,8 @@ module _ (blocks : List ℕ) (base : List (List ℕ)) (on_disk : OnDisk blocks b
       })
 
   -- a sync that succeeds when all that differs is done leaves the second view alone
-  pub syncs_all : (done : ℕ → Bool) (e : Event) → ((k : ℕ) → k < length blocks → (a k ≡ b k) ⊎ (done k ≡ true)) → Comes Syncs true e → Moving blocks base j a b done → Rests blocks base (e ∷ j) b
-  syncs_all done e all came moving = subst (λ (ev : Event). Rests blocks base (ev ∷ j) b) (sym came) (record {
+  pub syncs_all : (done : ℕ → Bool) (e : Event) → ((k : ℕ) → k < length blocks → (a k ≡ b k) ⊎ (done k ≡ true)) → Comes Syncs true e → Moving blocks base j a b done → IsAtRest blocks base (e ∷ j) b
+  syncs_all done e all came moving = subst (λ (ev : Event). IsAtRest blocks base (ev ∷ j) b) (sym came) (record {
     left = λ k lt content is. inl (is ∙ there k lt);
     now = λ k lt is_done. there k lt;
   })
@@ -82,14 +82,14 @@ module _ (blocks : List ℕ) (base : List (List ℕ)) (on_disk : OnDisk blocks b
       there k lt = ⊎_elim (λ same. ⊎_elim (λ old. old ∙ same) (λ new. new) (now_either done moving k lt)) (λ is_done. moving.now k lt is_done) (all k lt)
 
   -- from rest it begins to move, with no event
-  pub begins : (done : ℕ → Bool) → ((k : ℕ) → k < length blocks → done k ≡ true → a k ≡ b k) → Rests blocks base j a → Moving blocks base j a b done
+  pub begins : (done : ℕ → Bool) → ((k : ℕ) → k < length blocks → done k ≡ true → a k ≡ b k) → IsAtRest blocks base j a → Moving blocks base j a b done
   begins done same rests = record {
     left = λ k lt content left. inl (⊎_elim (λ x. x) (λ x. x) (rests.left k lt content left));
     now = λ k lt is_done. rests.now k lt refl ∙ same k lt is_done;
   }
 
   -- at rest in a view, and so in any that is the same at each place
-  pub rests_same : ((k : ℕ) → k < length blocks → a k ≡ b k) → Rests blocks base j a → Rests blocks base j b
+  pub rests_same : ((k : ℕ) → k < length blocks → a k ≡ b k) → IsAtRest blocks base j a → IsAtRest blocks base j b
   rests_same same rests = record {
     left = λ k lt content left. inl (⊎_elim (λ x. x ∙ same k lt) (λ x. x ∙ same k lt) (rests.left k lt content left));
     now = λ k lt is_done. rests.now k lt refl ∙ same k lt;

@@ -12,7 +12,7 @@ use Rattle.ark_entry.specs.Reading.{reading, Finds, HasList}
 use Rattle.ark_entry.specs.Repair.{used_by, blocks_read}
 use Rattle.ark_entry.proofs.Readings.{found_stands, stands_is_list}
 use Rattle.ark_entry.proofs.Repairing.{repair_finds, read_stands, at_read, length-read, finds_fit}
-use Rattle.ark_caladan.specs.Leaves.{Lies, IsRing, Holds, Repairs}
+use Rattle.ark_caladan.specs.Leaves.{LiesInRing, IsRing, Holds, Repairs}
 
 module _ (kind : Kind) (header : List ℕ) (h : Header) (ring : List (List ℕ)) (l : Entries) (is_ring : IsRing ring) (read : header_of kind (length ring) header ≡ Some h) (is_found : found_of kind (header ∷ ring) ≡ found l) where
   has : HasList kind header ring l
@@ -45,7 +45,7 @@ module _ (kind : Kind) (header : List ℕ) (h : Header) (ring : List (List ℕ))
         (new, read_new, first ∙ sym repairs.first, repairs.count, subst (λ (n : ℕ). Finds (length new_ring) new.start (reading new_ring new.start) 0 n l.payloads) (first ∙ sym repairs.first) finds_new)
 
     -- and it lies in its blocks
-    pub repaired_lies : Lies kind (length new_ring) new_header new (blocks_read (reading new_ring new.start) 0 (used_by l.payloads)) l
+    pub repaired_lies : LiesInRing kind (length new_ring) new_header new (blocks_read (reading new_ring new.start) 0 (used_by l.payloads)) l
     repaired_lies = record {
       read = read_new;
       first = first ∙ sym repairs.first;

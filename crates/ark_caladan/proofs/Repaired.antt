@@ -16,15 +16,15 @@ use Rattle.ark_entry.specs.Repair.{used_by, blocks_read, Zeroes}
 use Rattle.ark_entry.proofs.Readings.{start_inside, found_stands}
 use Rattle.ark_entry.proofs.Repairing.{at_read, length-read, finds_fit, read_stands}
 use Rattle.ark_entry.specs.Writing.{at}
-use Rattle.ark_caladan.specs.Leaves.{IsRing, Lies}
-use Rattle.ark_caladan.specs.Moving.{OnDisk, Moving, Rests, view, view_of, area_of, repaired, Opens}
+use Rattle.ark_caladan.specs.Leaves.{IsRing, LiesInRing}
+use Rattle.ark_caladan.specs.Moving.{OnDisk, Moving, IsAtRest, view, view_of, area_of, repaired, Opens}
 use Rattle.ark_caladan.proofs.Moves.{image_has}
 use Rattle.ark_caladan.proofs.Opening.{repaired_is_found}
 use Rattle.ark_caladan.proofs.Stopped.{place_back, place_forth, ring_at}
 
 -- a sync that succeeds leaves what is there
-pub synced_rests : (blocks : List ℕ) (base : List (List ℕ)) (j : List Event) (e : Event) → Comes Syncs true e → Rests blocks base (e ∷ j) (area_of blocks (current base j))
-synced_rests blocks base j e came = subst (λ (ev : Event). Rests blocks base (ev ∷ j) (area_of blocks (current base j))) (sym came) (record { left = λ k lt content is. inl is; now = λ k lt is_done. refl })
+pub synced_rests : (blocks : List ℕ) (base : List (List ℕ)) (j : List Event) (e : Event) → Comes Syncs true e → IsAtRest blocks base (e ∷ j) (area_of blocks (current base j))
+synced_rests blocks base j e came = subst (λ (ev : Event). IsAtRest blocks base (ev ∷ j) (area_of blocks (current base j))) (sym came) (record { left = λ k lt content is. inl is; now = λ k lt is_done. refl })
 
 not_less : (a b : ℕ) → b ≤ a → nat_lt a b ≡ false
 not_less a b le = by (nat_lt a b) refl
@@ -132,7 +132,7 @@ module _ (n0 : ℕ) (rest : List ℕ) (base : List (List ℕ)) (on_disk : OnDisk
           (omega (arith, length-read (length rest) h.start (reading (view rest old) h.start) 0 (used_by l.payloads), past)))
 
   -- and the list lies there
-  pub repaired_lies : Lies kind (length rest) new_header new (blocks_read (reading (view rest old) h.start) 0 (used_by l.payloads)) l
+  pub repaired_lies : LiesInRing kind (length rest) new_header new (blocks_read (reading (view rest old) h.start) 0 (used_by l.payloads)) l
   repaired_lies =
       let first : l.first ≡ h.first = stands.2 ∙ ap (λ (x : Header). x.first) same in
       let finds : Finds (length (view rest old)) h.start (reading (view rest old) h.start) 0 h.first l.payloads =

@@ -14,8 +14,8 @@ use Rattle.ark_entry.specs.Writing.{at, Between, zeroed}
 use Rattle.ark_entry.proofs.Readings.{start_inside}
 use Rattle.ark_caladan.specs.Chain.{Command, append, after, next_number}
 use Rattle.ark_caladan.specs.Numbers.{Fits}
-use Rattle.ark_caladan.specs.Leaves.{Lies, IsRing, Holds, HasRoom, with_draft, with_entry, dropped_by, freed_by, HeaderAfter}
-use Rattle.ark_caladan.specs.Moving.{OnDisk, Moving, Rests, view, view_of}
+use Rattle.ark_caladan.specs.Leaves.{LiesInRing, IsRing, Holds, HasRoom, with_draft, with_entry, dropped_by, freed_by, HeaderAfter}
+use Rattle.ark_caladan.specs.Moving.{OnDisk, Moving, IsAtRest, view, view_of}
 use Rattle.ark_caladan.proofs.Leaving.{rest_is_found, draft_is_found, marker_is_found, dropped_is_found}
 use Rattle.ark_caladan.proofs.Moves.{image_has}
 
@@ -80,18 +80,18 @@ module _ (n0 : ℕ) (rest : List ℕ) (base : List (List ℕ)) (j : List Event) 
         (λ new. inr (here ∙ new ∙ view_at (length rest) hb start sb u ls inside))
         (image_has (n0 ∷ rest) base on_disk j (view_of (length rest) ha start sa) (view_of (length rest) hb start sb) done moving image leaves (suc ((start + u) % length rest)) (omega (arith, low)))
 
-  module _ (kind : Kind) (header : List ℕ) (h : Header) (stored : List (List ℕ)) (l : Entries) (lies : Lies kind (length rest) header h stored l) where
+  module _ (kind : Kind) (header : List ℕ) (h : Header) (stored : List (List ℕ)) (l : Entries) (lies : LiesInRing kind (length rest) header h stored l) where
     ls : h.start < length rest
     ls = start_inside kind header (length rest) h some lies.read
 
-    lies_there : Lies kind (length (view rest image)) header h stored l
-    lies_there = subst (λ (n : ℕ). Lies kind n header h stored l) (sym long) lies
+    lies_there : LiesInRing kind (length (view rest image)) header h stored l
+    lies_there = subst (λ (n : ℕ). LiesInRing kind n header h stored l) (sym long) lies
 
     same_header : (new : List ℕ) → (block image n0 ≡ new) ⊎ (block image n0 ≡ new) → found_of kind (view (n0 ∷ rest) image) ≡ found_of kind (new ∷ view rest image)
     same_header new is = ap (λ (b : List ℕ). found_of kind (b ∷ view rest image)) (⊎_elim (λ x. x) (λ x. x) is)
 
     -- between two commands
-    pub rest_stop : Rests (n0 ∷ rest) base j (view_of (length rest) header h.start stored) → found_of kind (view (n0 ∷ rest) image) ≡ found l
+    pub rest_stop : IsAtRest (n0 ∷ rest) base j (view_of (length rest) header h.start stored) → found_of kind (view (n0 ∷ rest) image) ≡ found l
     rest_stop rests =
         same_header header (header_is header header h.start stored stored ls (λ k. true) rests)
         ∙ rest_is_found kind header h (view rest image) stored l is_ring lies_there (ring_is header header h.start stored stored ls (λ k. true) rests)

@@ -9,8 +9,8 @@ use Rattle.ark_media.proofs.Stopping.{now_left}
 use Rattle.ark_entry.specs.Header.{empty}
 use Rattle.ark_entry.specs.Found.{found, found_of}
 use Rattle.ark_entry.proofs.WorkedRings.{payload, stored}
-use Rattle.ark_caladan.specs.Leaves.{Lies}
-use Rattle.ark_caladan.specs.Moving.{OnDisk, Moving, Rests, Elsewhere, and, view, view_of, Opens}
+use Rattle.ark_caladan.specs.Leaves.{LiesInRing}
+use Rattle.ark_caladan.specs.Moving.{OnDisk, Moving, IsAtRest, Elsewhere, and, view, view_of, Opens}
 use Rattle.ark_caladan.proofs.Moves.{images_elsewhere, begins, wrote_next}
 use Rattle.ark_caladan.proofs.Stopped.{rest_stop, draft_stop}
 use Rattle.ark_caladan.proofs.Repaired.{repaired_lies}
@@ -41,7 +41,7 @@ on_disk : OnDisk blocks device
 on_disk = on_device device refl
 
 -- with no event an area is at rest in what is there
-pub rests_at : (base : List (List ℕ)) (a : ℕ → List ℕ) → ((k : ℕ) → k < 5 → block base (get_or blocks k 0) ≡ a k) → Rests blocks base [] a
+pub rests_at : (base : List (List ℕ)) (a : ℕ → List ℕ) → ((k : ℕ) → k < 5 → block base (get_or blocks k 0) ≡ a k) → IsAtRest blocks base [] a
 rests_at base a there = record { left = λ k lt content is. inl (is ∙ there k lt); now = λ k lt is_done. there k lt }
 
 abbrev idle : ℕ → List ℕ
@@ -55,7 +55,7 @@ stands (suc (suc (suc zero))) lt = refl
 stands (suc (suc (suc (suc zero)))) lt = refl
 stands (suc (suc (suc (suc (suc k))))) lt = absurd (omega (arith, lt))
 
-rests : Rests blocks device [] idle
+rests : IsAtRest blocks device [] idle
 rests = rests_at device idle stands
 
 pub whole : AllBlocks device
@@ -124,6 +124,6 @@ left_whole (suc (suc (suc (suc zero)))) lt = refl
 left_whole (suc (suc (suc (suc (suc zero))))) lt = refl
 left_whole (suc (suc (suc (suc (suc (suc n)))))) lt = absurd (omega (arith, lt))
 
-opened_lies : Lies Log 4 repaired_header repaired stored one
+opened_lies : LiesInRing Log 4 repaired_header repaired stored one
 unfolding blocks_in
 opened_lies = repaired_lies 1 rest device on_disk (omega arith) Log left_over left_whole refl empty one repaired_header repaired opens

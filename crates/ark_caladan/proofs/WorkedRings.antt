@@ -11,7 +11,7 @@ use Rattle.ark_entry.specs.Writing.{zeroed}
 use Rattle.ark_entry.proofs.WorkedRings.{acked, payload, stands, stored}
 use Rattle.ark_caladan.specs.Chain.{append, trim, after}
 use Rattle.ark_caladan.specs.Numbers.{Fits}
-use Rattle.ark_caladan.specs.Leaves.{Lies, IsRing, Holds, HasRoom, with_draft, with_entry, HeaderAfter, Repairs}
+use Rattle.ark_caladan.specs.Leaves.{LiesInRing, IsRing, Holds, HasRoom, with_draft, with_entry, HeaderAfter, Repairs}
 use Rattle.ark_caladan.proofs.Leaving.{rest_is_found, draft_is_found, marker_is_found, entry_lies, dropped_is_found, rest_lies, rest_holds}
 use Rattle.ark_caladan.proofs.Opening.{repaired_is_found, repaired_lies, repaired_holds}
 
@@ -22,7 +22,7 @@ one = record { first = 1; payloads = acked }
 abbrev pub ring : List (List ℕ)
 ring = stored ++ replicate 3 zero_block
 
-pub lies : Lies Log 4 zero_block empty stored one
+pub lies : LiesInRing Log 4 zero_block empty stored one
 lies = record { read = refl; first = refl; count = omega arith; stands = stands; fits = omega arith }
 
 pub has_room : HasRoom 4 stored one payload
@@ -107,7 +107,7 @@ one_or_two : (found_of Log (zero_block ∷ final_ring) ≡ found one) ⊎ (found
 unfolding blocks_in
 one_or_two = marker_is_found Log zero_block empty final_ring stored one is_final_ring lies payload has_room holds_final
 
-two_lie : Lies Log 4 zero_block empty final (after one (append 2 payload))
+two_lie : LiesInRing Log 4 zero_block empty final (after one (append 2 payload))
 two_lie = entry_lies Log zero_block empty ring stored one is_ring lies payload has_room
 
 -- a trim of the entry, and its header
@@ -133,7 +133,7 @@ holds_zeroed (suc (suc (suc (suc u)))) lt = absurd (omega (arith, lt))
 trimmed_found : found_of Log (trimmed_header ∷ ring) ≡ found (after one (trim 2))
 trimmed_found = dropped_is_found Log zero_block trimmed_header empty trimmed ring stored one (trim 2) is_ring lies fits (omega arith) header_after holds_zeroed
 
-none_lie : Lies Log 4 trimmed_header trimmed [] (after one (trim 2))
+none_lie : LiesInRing Log 4 trimmed_header trimmed [] (after one (trim 2))
 none_lie = rest_lies Log zero_block trimmed_header empty trimmed ring stored one (trim 2) is_ring lies fits (omega arith) header_after
 
 zeros_ring : IsRing (replicate 4 zero_block)
@@ -182,7 +182,7 @@ repaired_found : found_of Log (repaired_header ∷ ring) ≡ found one
 unfolding blocks_in
 repaired_found = repaired_is_found Log zero_block empty draft_ring one is_draft_ring refl with_draft_found repaired_header repaired ring is_ring repairs
 
-repaired_lie : Lies Log 4 repaired_header repaired stored one
+repaired_lie : LiesInRing Log 4 repaired_header repaired stored one
 unfolding blocks_in
 repaired_lie = repaired_lies Log zero_block empty draft_ring one is_draft_ring refl with_draft_found repaired_header repaired ring is_ring repairs
 

@@ -10,7 +10,7 @@ use Rattle.ark_entry.specs.Writing.{at, Between, drafted, finished}
 use Rattle.ark_caladan.specs.Chain.{Command, append, trim, pop, after, next_number, blocks_of}
 
 -- The list's entries stand in these blocks from the header's start on, and the header counts no more than there are.
-pub record Lies (kind : Kind) (room : ℕ) (header : List ℕ) (h : Header) (stored : List (List ℕ)) (l : Entries) : Type 0 where
+pub record LiesInRing (kind : Kind) (room : ℕ) (header : List ℕ) (h : Header) (stored : List (List ℕ)) (l : Entries) : Type 0 where
   pub read : header_of kind room header ≡ Some h
   pub first : l.first ≡ h.first
   pub count : h.count ≤ length l.payloads

@@ -20,8 +20,8 @@ pub record Moving (blocks : List ℕ) (base : List (List ℕ)) (journal : List E
   pub now : (k : ℕ) → k < length blocks → done k ≡ true → block (current base journal) (get_or blocks k 0) ≡ b k
 
 -- it is at rest in one view
-abbrev pub Rests : List ℕ → List (List ℕ) → List Event → (ℕ → List ℕ) → Type 0
-Rests blocks base journal a = Moving blocks base journal a a (λ k. true)
+abbrev pub IsAtRest : List ℕ → List (List ℕ) → List Event → (ℕ → List ℕ) → Type 0
+IsAtRest blocks base journal a = Moving blocks base journal a a (λ k. true)
 
 -- a call that writes no block of the area
 abbrev pub Elsewhere : List ℕ → Call → Type 0

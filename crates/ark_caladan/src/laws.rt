@@ -10,7 +10,7 @@ ghost use Rattle.ark_entry.specs.Found.{Entries, Found, found, damaged, found_of
 ghost use Rattle.ark_entry.specs.Writing.{zeroed};
 ghost use Rattle.ark_caladan.specs.Chain.{Command, append, trim, pop, after, after_all, next_number, blocks_of, phases_of, moves_of, Log, in_progress, lists, stored};
 ghost use Rattle.ark_caladan.specs.Numbers.{Fits, AllFit, GoesOn, payload_of};
-ghost use Rattle.ark_caladan.specs.Leaves.{Lies, IsRing, Holds, HasRoom, with_draft, with_entry, dropped_by, freed_by, HeaderAfter, Repairs};
+ghost use Rattle.ark_caladan.specs.Leaves.{LiesInRing, IsRing, Holds, HasRoom, with_draft, with_entry, dropped_by, freed_by, HeaderAfter, Repairs};
 
 /// An append adds its payload behind the list and drops nothing. A trim drops the entries below its number, a pop the first one,
 /// and neither adds one. After any commands the numbers have only gone on, and an entry that is still there is the same.
@@ -55,26 +55,26 @@ pub fn list_laws()
 pub fn append_leaves()
     ensures rest_is_found { (kind : Kind) (header : List ℕ) (h : Header)
         (ring stored : List (List ℕ)) (l : Entries) → IsRing ring
-        → Lies kind (length ring) header h stored l
+        → LiesInRing kind (length ring) header h stored l
         → Holds ring h stored stored → found_of kind (header ∷ ring) ≡ found l }
     ensures draft_is_found { (kind : Kind) (header : List ℕ) (h : Header)
         (ring stored : List (List ℕ)) (l : Entries) → IsRing ring
-        → Lies kind (length ring) header h stored l
+        → LiesInRing kind (length ring) header h stored l
         → (payload : List ℕ) → HasRoom (length ring) stored l payload
         → Holds ring h stored (with_draft (length ring) h stored l payload)
         → found_of kind (header ∷ ring) ≡ found l }
     ensures marker_is_found { (kind : Kind) (header : List ℕ) (h : Header)
         (ring stored : List (List ℕ)) (l : Entries) → IsRing ring
-        → Lies kind (length ring) header h stored l
+        → LiesInRing kind (length ring) header h stored l
         → (payload : List ℕ) → HasRoom (length ring) stored l payload
         → Holds ring h (with_draft (length ring) h stored l payload)
         (with_entry (length ring) h stored l payload)
         → (found_of kind (header ∷ ring) ≡ found l)
         ⊎ (found_of kind (header ∷ ring) ≡ found (after l (append (next_number l) payload))) }
     ensures entry_lies { (kind : Kind) (header : List ℕ) (h : Header) (ring stored : List (List ℕ))
-        (l : Entries) → IsRing ring → Lies kind (length ring) header h stored l
+        (l : Entries) → IsRing ring → LiesInRing kind (length ring) header h stored l
         → (payload : List ℕ) → HasRoom (length ring) stored l payload
-        → Lies kind (length ring) header h (with_entry (length ring) h stored l payload)
+        → LiesInRing kind (length ring) header h (with_entry (length ring) h stored l payload)
         (after l (append (next_number l) payload)) }
 {}
 
@@ -83,18 +83,18 @@ pub fn append_leaves()
 pub fn drop_leaves()
     ensures dropped_is_found { (kind : Kind) (header new_header : List ℕ) (h new : Header)
         (ring stored : List (List ℕ)) (l : Entries) (c : Command) → IsRing ring
-        → Lies kind (length ring) header h stored l
+        → LiesInRing kind (length ring) header h stored l
         → Fits l c → 1 ≤ dropped_by l c → HeaderAfter kind (length ring) new_header h l c new
         → Holds ring h stored (zeroed (freed_by l c) stored)
         → found_of kind (new_header ∷ ring) ≡ found (after l c) }
     ensures rest_lies { (kind : Kind) (header new_header : List ℕ) (h new : Header)
         (ring stored : List (List ℕ)) (l : Entries) (c : Command) → IsRing ring
-        → Lies kind (length ring) header h stored l
+        → LiesInRing kind (length ring) header h stored l
         → Fits l c → 1 ≤ dropped_by l c → HeaderAfter kind (length ring) new_header h l c new
-        → Lies kind (length ring) new_header new (drop (freed_by l c) stored) (after l c) }
+        → LiesInRing kind (length ring) new_header new (drop (freed_by l c) stored) (after l c) }
     ensures rest_holds { (kind : Kind) (header new_header : List ℕ) (h new : Header)
         (ring stored : List (List ℕ)) (l : Entries) (c : Command) → IsRing ring
-        → Lies kind (length ring) header h stored l
+        → LiesInRing kind (length ring) header h stored l
         → Fits l c → 1 ≤ dropped_by l c → HeaderAfter kind (length ring) new_header h l c new
         → Holds ring h (zeroed (freed_by l c) stored) (zeroed (freed_by l c) stored)
         → Holds ring new (drop (freed_by l c) stored) (drop (freed_by l c) stored) }
@@ -114,7 +114,7 @@ pub fn opening_leaves()
         → found_of kind (header ∷ ring) ≡ found l
         → (new_header : List ℕ) (new : Header) (new_ring : List (List ℕ)) → IsRing new_ring
         → Repairs kind header h ring l new_header new new_ring
-        → Lies kind (length new_ring) new_header new
+        → LiesInRing kind (length new_ring) new_header new
         (blocks_read (reading new_ring new.start) 0 (used_by l.payloads)) l }
     ensures repaired_holds { (kind : Kind) (header : List ℕ) (h : Header) (ring : List (List ℕ))
         (l : Entries) → IsRing ring → header_of kind (length ring) header ≡ Some h

@@ -11,8 +11,8 @@ ghost use Rattle.ark_entry.specs.Repair.{used_by, blocks_read};
 ghost use Rattle.ark_entry.specs.Writing.{at, zeroed};
 ghost use Rattle.ark_caladan.specs.Chain.{Command, append, after, next_number};
 ghost use Rattle.ark_caladan.specs.Numbers.{Fits};
-ghost use Rattle.ark_caladan.specs.Leaves.{Lies, HasRoom, with_draft, with_entry, dropped_by, freed_by, HeaderAfter};
-ghost use Rattle.ark_caladan.specs.Moving.{OnDisk, Moving, Rests, Elsewhere, and, view, view_of, area_of, repaired, Opens};
+ghost use Rattle.ark_caladan.specs.Leaves.{LiesInRing, HasRoom, with_draft, with_entry, dropped_by, freed_by, HeaderAfter};
+ghost use Rattle.ark_caladan.specs.Moving.{OnDisk, Moving, IsAtRest, Elsewhere, and, view, view_of, area_of, repaired, Opens};
 
 /// What each event does to an area that moves from view a to view b. One of a call elsewhere, as a write of other blocks, a read or a
 /// sync, adds nothing to what a stop may leave of the area, and it goes on so. It goes on so, too, at any write of a block of b at its
@@ -43,15 +43,15 @@ pub fn moving_laws()
     ensures syncs_all { (blocks : List ℕ) (base : List (List ℕ)) → OnDisk blocks base
         → (j : List Event) (a b : ℕ → List ℕ) (done : ℕ → Bool) (e : Event)
         → ((k : ℕ) → k < length blocks → (a k ≡ b k) ⊎ (done k ≡ true)) → Comes Syncs true e
-        → Moving blocks base j a b done → Rests blocks base (e ∷ j) b }
+        → Moving blocks base j a b done → IsAtRest blocks base (e ∷ j) b }
     ensures begins { (blocks : List ℕ) (base : List (List ℕ)) → OnDisk blocks base
         → (j : List Event) (a b : ℕ → List ℕ) (done : ℕ → Bool)
-        → ((k : ℕ) → k < length blocks → done k ≡ true → a k ≡ b k) → Rests blocks base j a
+        → ((k : ℕ) → k < length blocks → done k ≡ true → a k ≡ b k) → IsAtRest blocks base j a
         → Moving blocks base j a b done }
     ensures rests_same { (blocks : List ℕ) (base : List (List ℕ)) → OnDisk blocks base
         → (j : List Event) (a b : ℕ → List ℕ)
-        → ((k : ℕ) → k < length blocks → a k ≡ b k) → Rests blocks base j a
-        → Rests blocks base j b }
+        → ((k : ℕ) → k < length blocks → a k ≡ b k) → IsAtRest blocks base j a
+        → IsAtRest blocks base j b }
 {}
 
 /// Where the view of a ring has its blocks, and that a ring whose first blocks became zero is the ring of what is left.
@@ -72,14 +72,14 @@ pub fn rest_stops()
         (image : List (List ℕ)) → OnDisk (n0 ∷ rest) base → 0 < length rest
         → MayLeave Whole base j image → AllBlocks image
         → (kind : Kind) (header : List ℕ) (h : Header) (stored : List (List ℕ)) (l : Entries)
-        → Lies kind (length rest) header h stored l
-        → Rests (n0 ∷ rest) base j (view_of (length rest) header h.start stored)
+        → LiesInRing kind (length rest) header h stored l
+        → IsAtRest (n0 ∷ rest) base j (view_of (length rest) header h.start stored)
         → found_of kind (view (n0 ∷ rest) image) ≡ found l }
     ensures draft_stop { (n0 : ℕ) (rest : List ℕ) (base : List (List ℕ)) (j : List Event)
         (image : List (List ℕ)) → OnDisk (n0 ∷ rest) base → 0 < length rest
         → MayLeave Whole base j image → AllBlocks image
         → (kind : Kind) (header : List ℕ) (h : Header) (stored : List (List ℕ)) (l : Entries)
-        → Lies kind (length rest) header h stored l → (payload : List ℕ)
+        → LiesInRing kind (length rest) header h stored l → (payload : List ℕ)
         → HasRoom (length rest) stored l payload
         → (done : ℕ → Bool) → Moving (n0 ∷ rest) base j
         (view_of (length rest) header h.start stored)
@@ -94,7 +94,7 @@ pub fn deciding_stops()
         (image : List (List ℕ)) → OnDisk (n0 ∷ rest) base → 0 < length rest
         → MayLeave Whole base j image → AllBlocks image
         → (kind : Kind) (header : List ℕ) (h : Header) (stored : List (List ℕ)) (l : Entries)
-        → Lies kind (length rest) header h stored l → (payload : List ℕ)
+        → LiesInRing kind (length rest) header h stored l → (payload : List ℕ)
         → HasRoom (length rest) stored l payload
         → (done : ℕ → Bool)
         → Moving (n0 ∷ rest) base j
@@ -107,7 +107,7 @@ pub fn deciding_stops()
         (image : List (List ℕ)) → OnDisk (n0 ∷ rest) base → 0 < length rest
         → MayLeave Whole base j image → AllBlocks image
         → (kind : Kind) (header : List ℕ) (h : Header) (stored : List (List ℕ)) (l : Entries)
-        → Lies kind (length rest) header h stored l → (c : Command) → Fits l c → 1 ≤ dropped_by l c
+        → LiesInRing kind (length rest) header h stored l → (c : Command) → Fits l c → 1 ≤ dropped_by l c
         → (new_header : List ℕ) (new : Header) → HeaderAfter kind (length rest) new_header h l c new
         → (done : ℕ → Bool) → Moving (n0 ∷ rest) base j
         (view_of (length rest) header h.start stored)
@@ -118,7 +118,7 @@ pub fn deciding_stops()
         (image : List (List ℕ)) → OnDisk (n0 ∷ rest) base → 0 < length rest
         → MayLeave Whole base j image → AllBlocks image
         → (kind : Kind) (header : List ℕ) (h : Header) (stored : List (List ℕ)) (l : Entries)
-        → Lies kind (length rest) header h stored l → (c : Command) → Fits l c → 1 ≤ dropped_by l c
+        → LiesInRing kind (length rest) header h stored l → (c : Command) → Fits l c → 1 ≤ dropped_by l c
         → (new_header : List ℕ) (new : Header) → HeaderAfter kind (length rest) new_header h l c new
         → (done : ℕ → Bool) → Moving (n0 ∷ rest) base j
         (view_of (length rest) new_header h.start stored)
@@ -130,7 +130,7 @@ pub fn deciding_stops()
 /// a repaired area is the ring of the list's own blocks.
 pub fn opening_stops()
     ensures synced_rests { (blocks : List ℕ) (base : List (List ℕ)) (j : List Event) (e : Event)
-        → Comes Syncs true e → Rests blocks base (e ∷ j) (area_of blocks (current base j)) }
+        → Comes Syncs true e → IsAtRest blocks base (e ∷ j) (area_of blocks (current base j)) }
     ensures repair_stop { (n0 : ℕ) (rest : List ℕ) (base : List (List ℕ))
         → OnDisk (n0 ∷ rest) base → 0 < length rest → (kind : Kind) (old : List (List ℕ))
         → AllBlocks old → length old ≡ length base
@@ -154,6 +154,6 @@ pub fn opening_stops()
         → AllBlocks old → length old ≡ length base
         → (h : Header) (l : Entries) (new_header : List ℕ) (new : Header)
         → Opens kind n0 rest old h l new_header new
-        → Lies kind (length rest) new_header new
+        → LiesInRing kind (length rest) new_header new
         (blocks_read (reading (view rest old) h.start) 0 (used_by l.payloads)) l }
 {}

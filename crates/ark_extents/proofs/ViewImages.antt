@@ -3,7 +3,7 @@ use Rattle.std.proofs.Common.{◌≡◌, inl, inr, ⊎_elim, ℕ, zero, suc, ◌
 use Rattle.std.specs.Prelude.{option_map}
 use Rattle.std.proofs.lemmas.Bool.{cases_eq, eqb-true, eqb-false}
 use Rattle.ark_media.specs.Journal.{Event, Read, Write, Sync, Out, History, block, current}
-use Rattle.ark_media.specs.Calls.{Told, IsHonest}
+use Rattle.ark_media.specs.Calls.{Told, GivesBlock}
 use Rattle.ark_media.specs.Stops.{MayHold}
 use Rattle.ark_extents.specs.Blocks.{AreDistinct}
 use Rattle.ark_extents.specs.Views.{place_in, view_image, view_events, view_history, read_at, write_at, view_told, ArePlaced, IsLeftAlike}
@@ -132,7 +132,7 @@ distinct_placed blocks placed i k li lk e =
 -- a read of the disk is a read of the view
 pub honest_view : (blocks : List ℕ) → ArePlaced blocks → (told : Told) (k : ℕ) (out : List ℕ) → k < length blocks
     → ((h : History) → told.history ≡ Some h → (i : ℕ) → i < length blocks → get_or blocks i 0 < length h.base)
-    → IsHonest told.history (get_or blocks k 0) out → IsHonest (view_told blocks told).history k out
+    → GivesBlock told.history (get_or blocks k 0) out → GivesBlock (view_told blocks told).history k out
 honest_view blocks placed told k out lt inside honest = record {
   told = λ h is.
       let x = some_map (view_history blocks) told.history h is in

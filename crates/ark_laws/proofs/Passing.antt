@@ -5,7 +5,7 @@ use Rattle.std.proofs.lemmas.List.{append-nil, append_assoc}
 use Rattle.std.specs.Prelude.{Option, Some, None, option_and_then, nat_le}
 use Rattle.std.specs.List.{AllByRecursion}
 use Rattle.ark_media.specs.Journal.{Event, Read, Write, Sync, Out}
-use Rattle.ark_vic.specs.Pace.{Pass, bytes_between, Keeps}
+use Rattle.ark_vic.specs.Pace.{Pass, passed_between, Keeps}
 use Rattle.ark_script.specs.Line.{Line}
 use Rattle.ark_machine.specs.Objects.{Paced}
 use Rattle.ark_machine.specs.Machine.{Machine, vsic_at}
@@ -23,9 +23,9 @@ use Rattle.ark_laws.proofs.Paced.{VsicPaced, vsic_at_paced}
 fewer_step : (a b c : ℕ) → b ≤ c → a + b ≤ a + c
 fewer_step a b c h = omega arith
 
-fewer_between : (s t : ℕ) (p more : List Pass) → bytes_between s t p ≤ bytes_between s t (p ++ more)
+fewer_between : (s t : ℕ) (p more : List Pass) → passed_between s t p ≤ passed_between s t (p ++ more)
 fewer_between s t [] more = omega arith
-fewer_between s t (x ∷ p) more = fewer_step (cond (nat_le s x.0 && nat_le x.0 t) x.1 0) (bytes_between s t p) (bytes_between s t (p ++ more)) (fewer_between s t p more)
+fewer_between s t (x ∷ p) more = fewer_step (cond (nat_le s x.0 && nat_le x.0 t) x.1 0) (passed_between s t p) (passed_between s t (p ++ more)) (fewer_between s t p more)
 
 keeps_front : (q b : ℕ) (p more : List Pass) → Keeps q b (p ++ more) → Keeps q b p
 keeps_front q b p more h s t le = let k = h s t le in let f = fewer_between s t p more in omega (arith, k, f)

@@ -89,7 +89,7 @@ pub record GoesBy {D : Type 0} (goes : D → List Event → D → Type 0) (old n
   pub does : P events
 
 -- a read gives the block of the current image, where this is told
-pub record IsHonest (after : Option History) (n : ℕ) (out : List ℕ) : Type 0 where
+pub record GivesBlock (after : Option History) (n : ℕ) (out : List ℕ) : Type 0 where
   pub told : (h : History) → after ≡ Some h → out ≡ block (current h.base h.journal) n
 
 -- what is told after was told before, with the same value

@@ -1,6 +1,6 @@
 ghost use Rattle.std.specs.Prelude.{◌≡◌, ◌≤◌, ◌<◌, ℕ, List, [], ◌∷◌, ◌++◌, Some, length, is_ok, IfOk, OnOk, OnErr, IfSome};
 ghost use Rattle.ark_media.specs.Journal.{Event, History, AllBlocks, fresh};
-ghost use Rattle.ark_media.specs.Calls.{Told, Beside, attaching, making, Tells, Rests, Went, Reads, Writes, Syncs, Adds, StillTold, HasCause, IsHonest, Puts, Fetches, Keeps, KeepsAtAttach, KeepsAtFetch, KeepsAtPut};
+ghost use Rattle.ark_media.specs.Calls.{Told, Beside, attaching, making, Tells, Rests, Went, Reads, Writes, Syncs, Adds, StillTold, HasCause, GivesBlock, Puts, Fetches, Keeps, KeepsAtAttach, KeepsAtFetch, KeepsAtPut};
 
 /// A read, a write or a sync failed.
 #[derive(Clone, Copy, Debug, PartialEq, Eq)]
@@ -38,7 +38,7 @@ pub trait Disk {
         requires inside { n < (told self.old).blocks }
         requires room { length out.old ≡ 512 }
         ensures went { Went goes (Reads n ∷ []) (is_ok result) self.old self.new }
-        ensures honest { OnOk result (IsHonest (told self.new).history n out.new) }
+        ensures honest { OnOk result (GivesBlock (told self.new).history n out.new) }
         ensures unread { OnErr result (out.new ≡ out.old) };
 
     /// Writes block `n`, 512 bytes. A failed write may have taken effect or not.

@@ -4,7 +4,7 @@ use Rattle.std.proofs.lemmas.Bool.{leb-true}
 use Rattle.std.proofs.lemmas.List.{take-append-drop, length-take}
 use Rattle.std.specs.Prelude.{Option, Some, Result, Ok, Err, is_ok, OnOk, leb, ◌&&◌, if◌then◌else◌}
 use Rattle.ark_media.specs.Journal.{Event, Out, History, AllBlocks, onto, block, current, output_of, HasFailed, has_succeeded}
-use Rattle.ark_media.specs.Calls.{Call, Reads, Writes, Syncs, Comes, Makes, Adds, Rose, Puts, Beside, Moves, IsHonest, HasCause}
+use Rattle.ark_media.specs.Calls.{Call, Reads, Writes, Syncs, Comes, Makes, Adds, Rose, Puts, Beside, Moves, GivesBlock, HasCause}
 use Rattle.ark_media.specs.Blocks.{whole_blocks}
 use Rattle.ark_memory.specs.Reels.{Reel, IsReady, with_event, lost_of, begun, history_of, told_history, told_of}
 use Rattle.ark_memory.specs.Turns.{works, takes, is_over, let_out, counted, after_call, after_put, after_begin}
@@ -91,7 +91,7 @@ has_cause (Ok x) before now later is = record { later = later; failed = tt; work
 has_cause (Err e) before now later is = record { later = later; failed = rose before now is; worked = tt }
 
 -- a read over a history that is told
-pub honest : (r : Reel) (n : ℕ) (out : List ℕ) → out ≡ block (current r.base (onto r.events [])) n → IsHonest (history_of r) n out
+pub honest : (r : Reel) (n : ℕ) (out : List ℕ) → out ≡ block (current r.base (onto r.events [])) n → GivesBlock (history_of r) n out
 honest r n out is = record { told = at r.lost }
   where
     at : (lost : Bool) (h : History) → told_history lost (record { base = r.base; journal = onto r.events [] }) ≡ Some h → out ≡ block (current h.base h.journal) n

@@ -7,27 +7,27 @@ abbrev pub Pass : Type 0
 Pass = ℕ × ℕ
 
 -- the bytes of the passes with ticks s to t
-abbrev pub bytes_between : ℕ → ℕ → List Pass → ℕ
-bytes_between s t [] = 0
-bytes_between s t (x ∷ p) = (if nat_le s x.0 && nat_le x.0 t then x.1 else 0) + bytes_between s t p
+abbrev pub passed_between : ℕ → ℕ → List Pass → ℕ
+passed_between s t [] = 0
+passed_between s t (x ∷ p) = (if nat_le s x.0 && nat_le x.0 t then x.1 else 0) + passed_between s t p
 
 -- the law: in each window from tick s to tick t at most b + q * (t - s) bytes passed
 abbrev pub Keeps : ℕ → ℕ → List Pass → Type 0
-Keeps q b p = (s t : ℕ) → s ≤ t → bytes_between s t p ≤ b + q * (t - s)
+Keeps q b p = (s t : ℕ) → s ≤ t → passed_between s t p ≤ b + q * (t - s)
 
 -- no pass is after tick t
 abbrev pub NoneAfter : ℕ → List Pass → Type 0
 NoneAfter t p = AllByRecursion (λ x. x.0 ≤ t) p
 
 -- the bytes of the passes from tick s on
-abbrev pub bytes_from : ℕ → List Pass → ℕ
-bytes_from s [] = 0
-bytes_from s (x ∷ p) = (if nat_le s x.0 then x.1 else 0) + bytes_from s p
+abbrev pub passed_from : ℕ → List Pass → ℕ
+passed_from s [] = 0
+passed_from s (x ∷ p) = (if nat_le s x.0 then x.1 else 0) + passed_from s p
 
 -- the greatest of 0 and, for each pass of xs at a tick s, the bytes of p from s on less q * (t - s)
 abbrev pub greatest : ℕ → ℕ → List Pass → List Pass → ℕ
 greatest q t p [] = 0
-greatest q t p (x ∷ xs) = max (bytes_from x.0 p - q * (t - x.0)) (greatest q t p xs)
+greatest q t p (x ∷ xs) = max (passed_from x.0 p - q * (t - x.0)) (greatest q t p xs)
 
 -- what the passes of p take of the burst at tick t
 abbrev pub fill_of : ℕ → List Pass → ℕ → ℕ

@@ -33,6 +33,8 @@ fn keeps_blocks_in_a_file(rt: HostRuntime) -> Result<(), Fail> {
         };
         assert_eq!(rt; *byte, want, "at {i}");
     }
+    drop(host);
+    let mut host = FileHost::new(rt);
     assert_eq!(rt; host.make(name, 131), Ok(131));
     assert_eq!(rt; host.read(129), Ok([0; 512]));
     assert_eq!(rt; fs::metadata(&rt, name)?.len(), 67_072);
@@ -102,8 +104,45 @@ fn fails_to_read_past_the_end_of_the_file(rt: HostRuntime) -> Result<(), Fail> {
         .set_len(66_559)?;
     assert_eq!(rt; host.read(129), Err(DiskFailed));
     assert_eq!(rt; host.read(128), Ok([0; 512]));
+    drop(host);
+    let mut host = FileHost::new(rt);
     assert_eq!(rt; host.attach(name), Ok(129));
     fs::remove_file(&rt, name)?;
+    Ok(())
+}
+
+// A device in use is neither attached nor made anew, by its own host or by another, and keeps what it holds. It is free again
+// after its host has ended.
+#[test]
+fn refuses_a_device_in_use(rt: HostRuntime) -> Result<(), Fail> {
+    let name = temporary(&rt, "used")?;
+    let name = name.as_str();
+
+    let mut host = FileHost::new(rt);
+    let mut other = FileHost::new(rt);
+    assert_eq!(rt; host.make(name, 130), Ok(130));
+    assert_eq!(rt; host.write(5, &[7; 512]), Ok(()));
+    assert_eq!(rt; host.attach(name), Err(AttachFailed));
+    assert_eq!(rt; host.make(name, 130), Err(AttachFailed));
+    assert_eq!(rt; other.attach(name), Err(AttachFailed));
+    assert_eq!(rt; other.make(name, 200), Err(AttachFailed));
+    assert_eq!(rt; fs::metadata(&rt, name)?.len(), 66_560);
+    assert_eq!(rt; host.read(5), Ok([7; 512]));
+    drop(host);
+    assert_eq!(rt; other.attach(name), Ok(130));
+    assert_eq!(rt; other.read(5), Ok([7; 512]));
+    fs::remove_file(&rt, name)?;
+    Ok(())
+}
+
+// The folder of a file is what stands before its last slash.
+#[test]
+fn syncs_the_folder_of_a_file(rt: HostRuntime) -> Result<(), Fail> {
+    let name = temporary(&rt, "no folder/device")?;
+    assert!(rt; sync_folder(&rt, "device").is_ok());
+    assert!(rt; sync_folder(&rt, "/device").is_ok());
+    assert!(rt; sync_folder(&rt, "/tmp/device").is_ok());
+    assert!(rt; sync_folder(&rt, name.as_str()).is_err());
     Ok(())
 }
 

@@ -1,6 +1,6 @@
 ghost use Rattle.std.specs.Prelude.{◌≡◌, ◌<◌, [], ◌∷◌, length, is_ok, OnOk, OnErr};
 ghost use Rattle.ark_media.specs.Going.{moves_none, moves_then};
-ghost use Rattle.ark_media.specs.Calls.{Went, Reads, Writes, Syncs, IsHonest};
+ghost use Rattle.ark_media.specs.Calls.{Went, Reads, Writes, Syncs, GivesBlock};
 ghost use Rattle.ark_memory.specs.Size.{size_told, blocks_told};
 ghost use Rattle.ark_memory.specs.Turns.{works, counted, after_read, after_write, after_sync};
 ghost use Rattle.ark_memory.specs.World.{TurnsOn, told_by, beside_by, goes_by, turn_at};
@@ -21,7 +21,7 @@ impl Disk for MemoryWorld {
         requires inside { n < (told_by self.old).blocks }
         requires room { length out.old ≡ 512 }
         ensures went { Went goes_by (Reads n ∷ []) (is_ok result) self.old self.new }
-        ensures honest { OnOk result (IsHonest (told_by self.new).history n out.new) }
+        ensures honest { OnOk result (GivesBlock (told_by self.new).history n out.new) }
         ensures unread { OnErr result (out.new ≡ out.old) }
         ensures turns { TurnsOn self.old self.new }
         ensures planned { is_ok result ≡ works (turn_at self.old) }

@@ -2,7 +2,7 @@ use Rattle.std.proofs.Common.{◌<◌, ◌∙◌, ℕ, get_or, is_ok, refl, subs
 use Rattle.std.proofs.lemmas.Option.{slice_get_within, get_or_from_slice_get}
 use Rattle.std.proofs.lemmas.Result.{on_ok_weaker}
 use Rattle.std.specs.Prelude.{OnOk}
-use Rattle.ark_media.specs.Calls.{IsHonest}
+use Rattle.ark_media.specs.Calls.{GivesBlock}
 use Rattle.ark_extents.proofs.ViewImages.{honest_view}
 use Rattle.ark_extents.proofs.Unview.{unview_read}
 use Rattle.ark_extents.proofs.view.VsaViewDisk.read.Goals as goal
@@ -23,4 +23,4 @@ returns-clause-honest g c =
     on_ok_weaker c.read.result
     (λ honest. honest_view v.spans v.placed (g.D.Disk.told c.read.new.self) c.args.n c.read.new.out (slice_get_within v.spans c.args.n c.in-Some.at at)
     (λ h is i lt. subst (λ (m : ℕ). get_or v.spans i 0 < m) (sym (g.met.D.Disk.size_is c.read.new.self h is ∙ same)) (v.inside i 0 lt)) honest)
-    (subst (λ (m : ℕ). OnOk c.read.result (IsHonest (g.D.Disk.told c.read.new.self).history m c.read.new.out)) (sym (get_or_from_slice_get v.spans c.args.n c.in-Some.at 0 at)) c.read.ensures.honest)
+    (subst (λ (m : ℕ). OnOk c.read.result (GivesBlock (g.D.Disk.told c.read.new.self).history m c.read.new.out)) (sym (get_or_from_slice_get v.spans c.args.n c.in-Some.at 0 at)) c.read.ensures.honest)
