@@ -107,7 +107,8 @@ pub fn deciding_stops()
         (image : List (List ℕ)) → OnDisk (n0 ∷ rest) base → 0 < length rest
         → MayLeave Whole base j image → AllBlocks image
         → (kind : Kind) (header : List ℕ) (h : Header) (stored : List (List ℕ)) (l : Entries)
-        → LiesInRing kind (length rest) header h stored l → (c : Command) → Fits l c → 1 ≤ dropped_by l c
+        → LiesInRing kind (length rest) header h stored l
+        → (c : Command) → Fits l c → 1 ≤ dropped_by l c
         → (new_header : List ℕ) (new : Header) → HeaderAfter kind (length rest) new_header h l c new
         → (done : ℕ → Bool) → Moving (n0 ∷ rest) base j
         (view_of (length rest) header h.start stored)
@@ -118,7 +119,8 @@ pub fn deciding_stops()
         (image : List (List ℕ)) → OnDisk (n0 ∷ rest) base → 0 < length rest
         → MayLeave Whole base j image → AllBlocks image
         → (kind : Kind) (header : List ℕ) (h : Header) (stored : List (List ℕ)) (l : Entries)
-        → LiesInRing kind (length rest) header h stored l → (c : Command) → Fits l c → 1 ≤ dropped_by l c
+        → LiesInRing kind (length rest) header h stored l
+        → (c : Command) → Fits l c → 1 ≤ dropped_by l c
         → (new_header : List ℕ) (new : Header) → HeaderAfter kind (length rest) new_header h l c new
         → (done : ℕ → Bool) → Moving (n0 ∷ rest) base j
         (view_of (length rest) new_header h.start stored)

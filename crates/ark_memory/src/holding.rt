@@ -37,7 +37,8 @@ impl Holding {
 
     /// After one event more: a write may leave its content, and after a sync that succeeded what stands is left alone.
     pub fn after(self, n: u32, content: &[u8], event: Event<'_>) -> Holding
-        ensures { (e : journal.Event) → Shows event.entry e → result ≡ spec.after n content.now e self }
+        ensures { (e : journal.Event) → Shows event.entry e
+            → result ≡ spec.after n content.now e self }
     {
         match event {
             Event::Write {

@@ -34,7 +34,8 @@ impl Recorded {
     // Whether a stop after so many events may leave a content at block `n`.
     fn may_hold(&self, front: u32, n: u32, content: &[u8]) -> bool
         requires { n < length self.now.base }
-        ensures { IsTrue result ↔ MayHold Whole self.now.base (front_of self.now front) n content.now }
+        ensures { IsTrue result
+            ↔ MayHold Whole self.now.base (front_of self.now front) n content.now }
     {
         self.holding(front, n, content).left
     }
