@@ -2,7 +2,8 @@ use crate::runs::words_of;
 use ark_cli::{Task, WordsFault, read_words};
 use ark_host::Host;
 use ark_media::{MemoryWorld, Outside};
-use ark_script::{Reply, Said, read_line};
+use ark_reading::read_line;
+use ark_script::{Reply, Said};
 use std::test::Fail;
 
 // The words of a command, by themselves.
