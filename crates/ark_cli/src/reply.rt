@@ -3,7 +3,8 @@ ghost use Rattle.ark_script.specs.Reply.{bytes_shown};
 ghost use Rattle.ark_script.specs.Text.{IsSaid, text};
 
 use ark_base::Memory;
-use ark_script::{Reply, TEXT_ROOM, print};
+use ark_printing::{TEXT_ROOM, print};
+use ark_script::Reply;
 use std::alloc::Global;
 use std::marker::Model;
 

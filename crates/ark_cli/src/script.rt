@@ -14,7 +14,8 @@ use crate::reply::ReplyBuffer;
 use ark_base::{Refusal, Status};
 use ark_host::Host;
 use ark_media::{Disk, Outside, SinkFailed};
-use ark_script::{MAX_LINE, Reply, Said, read_line};
+use ark_reading::{MAX_LINE, read_line};
+use ark_script::{Reply, Said};
 use memchr::memchr;
 
 // Reads one line, of which too long a one is told by its kept bytes, and makes its step.

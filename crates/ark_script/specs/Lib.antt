@@ -3,15 +3,8 @@ pub mod Form
 pub mod Lending
 pub mod Line
 pub mod Lines
-pub mod Listed
 pub mod Lists
-pub mod Meant
-pub mod Named
 pub mod Ranges
-pub mod Reading
 pub mod Reply
-pub mod Sentence
-pub mod Shape
 pub mod Text
-pub mod Word
 pub mod Words

@@ -1,15 +1,12 @@
-//! Lines of a script and the replies to them: what a line asks for, and how a reply is spelled.
+//! Lines of a script and the replies to them, as types and definitions: what a line asks for, and how a reply is spelled.
 #![tactic(auto)]
 
-mod printing;
-mod putting;
-mod reading;
 mod reply;
 mod said;
+mod spelling;
 mod step;
 
-pub use printing::{TEXT_ROOM, print};
-pub use reading::{MAX_LINE, one_meaning, read_line};
 pub use reply::{MAX_SHOWN, Reply};
 pub use said::Said;
+pub use spelling::decode;
 pub use step::{Hex, Side, Step};

@@ -3,7 +3,8 @@ use ark_cli::{Task, WordsFault, read_words};
 use ark_host::Host;
 use ark_media::Outside;
 use ark_memory::MemoryWorld;
-use ark_script::{Reply, Said, read_line};
+use ark_reading::read_line;
+use ark_script::{Reply, Said};
 use std::test::Fail;
 
 // The words of a command, by themselves.

@@ -2,7 +2,8 @@
 ghost use Rattle.std.specs.Prelude.{◌≤◌, length};
 
 use ark_base::{Name, Outcome, Refusal};
-use ark_script::{MAX_SHOWN, Reply, Said, TEXT_ROOM, print};
+use ark_printing::{TEXT_ROOM, print};
+use ark_script::{MAX_SHOWN, Reply, Said};
 use std::alloc::Global;
 
 // Says this and shows these bytes.

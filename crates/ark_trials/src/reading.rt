@@ -1,6 +1,7 @@
 //! Lines of every word, read.
 
-use ark_script::{MAX_LINE, Step, read_line};
+use ark_reading::{MAX_LINE, read_line};
+use ark_script::Step;
 use std::alloc::{AllocError, Global};
 
 // The number of the refusal, or 0 where the line is read.

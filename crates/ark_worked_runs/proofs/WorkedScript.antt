@@ -14,13 +14,13 @@ use Rattle.ark_script.specs.Line as w
 use Rattle.ark_script.specs.Lines.{Meaning, Says, EachSays, lines_of}
 use Rattle.ark_script.specs.Line.{Line}
 use Rattle.ark_script.specs.Form.{AreArguments, IsForm, word_of, IsPlace}
-use Rattle.ark_script.specs.Meant.{meaning_of}
-use Rattle.ark_script.specs.Reading.{one_of, two_of, name_of}
-use Rattle.ark_script.specs.Sentence.{one_read, two_read}
-use Rattle.ark_script.specs.Shape.{read_bare_app, read_sized_app, read_app}
-use Rattle.ark_script.specs.Word.{word_at}
+use Rattle.ark_reading.specs.Meant.{meaning_of}
+use Rattle.ark_forms.specs.Reading.{one_of, two_of, name_of}
+use Rattle.ark_reading.specs.Sentence.{one_read, two_read}
+use Rattle.ark_reading.specs.Shape.{read_bare_app, read_sized_app, read_app}
+use Rattle.ark_reading.specs.Word.{word_at}
 use Rattle.ark_script.specs.Words.{IsKnown, words_of}
-use Rattle.ark_script.proofs.Grammar.{says}
+use Rattle.ark_reading.proofs.Grammar.{says}
 use Rattle.ark_machine.specs.Row.{answer}
 use Rattle.ark_machine.specs.Step.{step}
 use Rattle.ark_machine.specs.System.{fresh_system}

@@ -1,0 +1,9 @@
+pub mod Addressing
+pub mod Arguing
+pub mod Choosing
+pub mod Listing
+pub mod Numbers
+pub mod Parts
+pub mod Readers
+pub mod Ruling
+pub mod Serving

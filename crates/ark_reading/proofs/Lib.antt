@@ -1,0 +1,11 @@
+pub mod Completing
+pub mod Grammar
+pub mod Limits
+pub mod Meant
+pub mod Ranging
+pub mod Sentences
+pub mod Shaping
+pub mod Singling
+pub mod Sounding
+pub mod WordOf
+pub mod Wording

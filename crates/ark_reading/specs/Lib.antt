@@ -1,0 +1,4 @@
+pub mod Meant
+pub mod Sentence
+pub mod Shape
+pub mod Word

@@ -1,6 +1,0 @@
-use Rattle.std.proofs.Common.{arith, ◌≤◌}
-use Rattle.ark_script.proofs.Numbers.{number_read}
-use Rattle.ark_script.proofs.reading.number.octet.Goals as goal
-
-pub overflow_cast-result : goal.overflow_cast-result
-overflow_cast-result c = let small : c.in-Some.n ≤ 255 = (number_read 0 255 _ _ c.in-Some.ensures).2 in omega arith
