@@ -43,10 +43,15 @@ pub record IsArea (x : Around) (l : List ℕ) (c : Capability) (r : Raw) : Type 
   pub raw : slot.kind ≡ kind.Raw
   pub fits : IsRaw x.history slot.blocks r
 
+-- whatever a stop may leave of these blocks opens to one of the log's lists
+abbrev pub OpensToLists : History → List ℕ → Log → Type 0
+OpensToLists h blocks g = (contents : List (List ℕ)) → MayShow h blocks contents
+    → Contains (lists g) (found_of g.kind contents)
+
 -- a log's stored list is found in its blocks, and whatever a stop may leave of them opens to one of its lists
 pub record IsListed (h : History) (blocks : List ℕ) (g : Log) : Type 0 where
   pub now : found_of g.kind (view (current h.base h.journal) blocks) ≡ stored g
-  pub left : (contents : List (List ℕ)) → MayShow h blocks contents → Contains (lists g) (found_of g.kind contents)
+  pub left : OpensToLists h blocks g
 
 -- the bytes of so many frames
 abbrev pub frames_piece : Frames → Piece

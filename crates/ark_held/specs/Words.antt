@@ -1,5 +1,7 @@
 -- What is found under a label, and why nothing can be added there.
 use Rattle.std.specs.Prelude.{ℕ, Bool, true, false, ◌||◌, List, [], ◌∷◌, ◌++◌, length, nat_eq, nat_le, Option, Some, None, Result, Ok, Err}
+use Rattle.std.specs.Result.{result_map_both}
+use Rattle.std.specs.Borrow.{Bor}
 use Rattle.std.specs.Map.{lookup}
 use Rattle.ark_base.specs.declared.kind.Kind.{Kind}
 use Rattle.ark_base.specs.declared.kind.Kind.TheVariants as kind
@@ -32,6 +34,10 @@ raw_blocks kind.Queue blocks = Err r.WrongKind
 abbrev pub found_blocks : Option Area → Result (List ℕ) Refusal
 found_blocks None = Err r.WrongKind
 found_blocks (Some a) = raw_blocks a.kind a.spans
+
+-- what a reference to blocks shows, or why there are none
+abbrev pub seen : Result (Bor (List ℕ)) Refusal → Result (List ℕ) Refusal
+seen found = result_map_both (λ s. s.now) (λ e. e) found
 
 abbrev pub area_of : AreaList → CapKind → ℕ → Result (List ℕ) Refusal
 area_of areas cap_kind.Vsa grant = found_blocks (lookup (nat_eq grant) areas)

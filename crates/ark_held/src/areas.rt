@@ -1,4 +1,4 @@
-ghost use Rattle.std.specs.Prelude.{◌≡◌, ◌<◌, [], length, nat_eq, IfOk};
+ghost use Rattle.std.specs.Prelude.{◌≡◌, ◌<◌, [], length, nat_eq, option_copied, IfOk};
 ghost use Rattle.std.specs.Map.{lookup};
 ghost use Rattle.ark_held.specs.Words.{with_area};
 
@@ -56,10 +56,10 @@ impl Areas {
     }
 
     /// The area of this grant; `None` where there is none.
-    pub fn get(&self, grant: u64) -> Option<Area>
-        ensures area { result ≡ lookup (nat_eq grant) self.now }
+    pub fn get(&self, grant: u64) -> Option<&Area>
+        ensures area { option_copied result ≡ lookup (nat_eq grant) self.now }
     {
-        self.areas.get(&grant).copied()
+        self.areas.get(&grant)
     }
 
     /// Adds an area at the end, unless there is one of this grant. It takes no memory.
