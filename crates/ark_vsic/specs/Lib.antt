@@ -1,0 +1,4 @@
+pub mod Card
+pub mod Places
+pub mod Moves
+pub mod Lending
