@@ -31,16 +31,16 @@ module _ (n wrap : ℕ) where
       let low : j % m < m = mod-lt j (let s : 0 < m = omega (arith, is, lt) in s) in
       ⊎_elim
       (λ last.
-          let full : suc (j % m) ≡ m = omega (arith, low, last) in
-          let here : wrap + j % m + 1 ≡ n = omega (arith, full, is, lt) in
-          let back : suc j % m ≡ 0 = suc-mod j m ∙ ap (λ x. x % m) full ∙ mod_self m in
-          let none : wrap ≡ wrap + 0 = omega arith in
-          goes_back (wrap + j % m) here some ∙ none ∙ sym (ap (λ x. wrap + x) back))
+      let full : suc (j % m) ≡ m = omega (arith, low, last) in
+      let here : wrap + j % m + 1 ≡ n = omega (arith, full, is, lt) in
+      let back : suc j % m ≡ 0 = suc-mod j m ∙ ap (λ x. x % m) full ∙ mod_self m in
+      let none : wrap ≡ wrap + 0 = omega arith in
+      goes_back (wrap + j % m) here some ∙ none ∙ sym (ap (λ x. wrap + x) back))
       (λ before.
-          let on : wrap + j % m + 1 < n = omega (arith, before, is, lt) in
-          let next : suc j % m ≡ suc (j % m) = suc-mod j m ∙ mod-eq_of_lt before in
-          let sum : wrap + j % m + 1 ≡ wrap + suc (j % m) = omega arith in
-          goes_on (wrap + j % m) (inr (inl on)) ∙ sum ∙ sym (ap (λ x. wrap + x) next))
+      let on : wrap + j % m + 1 < n = omega (arith, before, is, lt) in
+      let next : suc j % m ≡ suc (j % m) = suc-mod j m ∙ mod-eq_of_lt before in
+      let sum : wrap + j % m + 1 ≡ wrap + suc (j % m) = omega arith in
+      goes_on (wrap + j % m) (inr (inl on)) ∙ sum ∙ sym (ap (λ x. wrap + x) next))
       (at_or_below m (suc (j % m)))
 
   -- where `wrap` is no place of the area, none of those behind it is
@@ -76,19 +76,19 @@ module _ (n wrap : ℕ) where
       ⊎_elim
       (λ away. let far : n ≤ first + k = omega (arith, away) in on_straight first k (straight first k (inl away)) (goes_on (first + k) (inl far)) (straight first (suc k) (inl away)))
       (λ lt.
-          ⊎_elim
-          (λ le. let none : wrap ≡ 0 = omega (arith, le) in on_straight first k (straight first k (inr (inr none))) (goes_on (first + k) (inr (inr none))) (straight first (suc k) (inr (inr none))))
-          (λ some.
-              ⊎_elim (goes_round first k lt some)
-              (λ below.
-                  ⊎_elim
-                  (λ le. let is : first + suc k ≡ n = omega (arith, le, below) in turns_first first k lt some is)
-                  (λ less.
-                      let next : first + k + 1 < n = omega (arith, less) in
-                      on_straight first k (straight first k (inr (inl below))) (goes_on (first + k) (inr (inl next))) (straight first (suc k) (inr (inl less))))
-                  (at_or_below n (first + suc k)))
-              (at_or_below n (first + k)))
-          (at_or_below wrap 0))
+      ⊎_elim
+      (λ le. let none : wrap ≡ 0 = omega (arith, le) in on_straight first k (straight first k (inr (inr none))) (goes_on (first + k) (inr (inr none))) (straight first (suc k) (inr (inr none))))
+      (λ some.
+      ⊎_elim (goes_round first k lt some)
+      (λ below.
+      ⊎_elim
+      (λ le. let is : first + suc k ≡ n = omega (arith, le, below) in turns_first first k lt some is)
+      (λ less.
+      let next : first + k + 1 < n = omega (arith, less) in
+      on_straight first k (straight first k (inr (inl below))) (goes_on (first + k) (inr (inl next))) (straight first (suc k) (inr (inl less))))
+      (at_or_below n (first + suc k)))
+      (at_or_below n (first + k)))
+      (at_or_below wrap 0))
       (at_or_below n first)
 
   starts : (first : ℕ) → place_of n wrap first 0 ≡ first

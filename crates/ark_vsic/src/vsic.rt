@@ -200,6 +200,7 @@ impl Vsic {
         ensures ring { self.new.ring ≡ ring_after self.old.ring result }
         ensures pace { self.new.pace ≡ pace_after self.old.pace (due_of self.old held.now now) now }
         ensures bound { self.new.bound ≡ self.old.bound }
+        ensures frames { region.new.taken ≡ region.old.taken }
         ensures region { Leaves self.old (due_of self.old held.now now) (worked result) (D.told disk.new).history region.old region.new }
     {
         match self.due(held, now) {
