@@ -2,7 +2,7 @@ ghost use Rattle.std.specs.Prelude.{◌≡◌, ◌∷◌, [], None, IfSome};
 ghost use Rattle.ark_vsic.specs.Moves.{IsSound};
 ghost use Rattle.ark_vsic.specs.Card.{PacedBy};
 
-use ark_base::{Memory, Outcome, Span};
+use ark_base::{Outcome, Span};
 use ark_extents::Spans;
 use ark_media::{Disk, Fail as Failing, MemoryWorld, Outside};
 use ark_region::{Buf, Region};
@@ -12,7 +12,9 @@ use std::alloc::Global;
 
 // Work on blocks of the area of grant 3.
 fn work(job: Job, first: u32, count: u32, wrap: u32, buf: Option<Buf>) -> Descriptor
-    ensures { result ≡ record { job = job; grant = 3; first = first; count = count; wrap = wrap; from = 0; len = 0; tag = 7; buf = buf } }
+    ensures { result ≡ record {
+        job = job; grant = 3; first = first; count = count; wrap = wrap; from = 0; len = 0; tag = 7; buf = buf
+    } }
 {
     Descriptor {
         job,

@@ -1,11 +1,9 @@
 -- What is due, and where it lies: a block that is due has a place in an area that is bound and held, and may pass.
-use Rattle.std.proofs.Common.{◌≡◌, ◌⊎◌, ℕ, zero, suc, ◌+◌, ◌≤◌, ◌<◌, Bool, true, false, nat_lt, nat_le, List, [], ◌∷◌, ◌++◌, length, Option, Some, None, slice_get, refl, sym, ap, subst, ◌∙◌, arith}
-use Rattle.std.specs.Prelude.{Contains, is_some, option_map, unwrap_or, ◌==◌, if◌then◌else◌}
+use Rattle.std.proofs.Common.{◌≡◌, ℕ, suc, ◌+◌, ◌≤◌, ◌<◌, true, false, nat_lt, nat_le, List, [], ◌∷◌, ◌++◌, length, Option, Some, None, slice_get, refl, sym, ap, subst, ◌∙◌, arith}
+use Rattle.std.specs.Prelude.{Contains, is_some, option_map, unwrap_or, ◌==◌}
 use Rattle.std.specs.List.{find}
 use Rattle.std.proofs.lemmas.Bool.{cond_both, eqb-true, false≢true}
 use Rattle.std.proofs.lemmas.Bool.Decides.{nat_tests}
-use Rattle.ark_base.specs.declared.kind.Outcome.{Outcome}
-use Rattle.ark_base.specs.declared.kind.Outcome.TheVariants as outcome
 use Rattle.ark_vic.specs.Pace.{Pace, Pass, Keeps, StandsFor, fill_at, filled}
 use Rattle.ark_vic.proofs.PaceLemmas.{may_law, passed_law}
 use Rattle.ark_vic.specs.declared.descriptor.Descriptor.{Descriptor}
@@ -14,7 +12,7 @@ use Rattle.ark_vic.specs.declared.descriptor.Job.TheVariants as job
 use Rattle.ark_vsic.specs.declared.due.Due.{Due}
 use Rattle.ark_vsic.specs.declared.due.Due.TheVariants as due
 use Rattle.ark_vsic.specs.Card.{Card, Areas, is_bound, head_of}
-use Rattle.ark_vsic.specs.Places.{place_of, place_after}
+use Rattle.ark_vsic.specs.Places.{place_of}
 use Rattle.ark_vsic.specs.Moves.{due_paced, due_at, due_in, due_by, due_for, due_of, area_of}
 use Rattle.ark_vsic.specs.Own.{IsItsOwn}
 use Rattle.ark_vsic.proofs.Stepping.{stepwise}

@@ -1,5 +1,5 @@
 -- What a read leaves of a region.
-use Rattle.std.proofs.Common.{◌≡◌, ℕ, ◌+◌, ◌-◌, ◌*◌, ◌≤◌, ◌<◌, Bool, List, ◌++◌, length, take, drop, Option, Some, Result, Ok, Err, refl, sym, ap, subst, ◌∙◌, arith, slice_range}
+use Rattle.std.proofs.Common.{◌≡◌, ℕ, ◌+◌, ◌-◌, ◌*◌, ◌≤◌, ◌<◌, Bool, List, ◌++◌, length, take, drop, Option, Some, Result, Ok, Err, sym, ap, subst, ◌∙◌, arith, slice_range}
 use Rattle.std.specs.Prelude.{is_ok, OnOk, OnErr, MatchOption}
 use Rattle.std.proofs.lemmas.List.{take-append-drop}
 use Rattle.std.proofs.Math.Seq.{take-append_seam}
@@ -8,7 +8,6 @@ use Rattle.ark_media.specs.Calls.{IsHonest}
 use Rattle.ark_region.specs.Frames.{Piece, Space, Lies, Wrote, bytes_of, fitted, written}
 use Rattle.ark_region.proofs.Putting.{part_of}
 use Rattle.ark_vic.specs.declared.descriptor.Descriptor.{Descriptor}
-use Rattle.ark_vic.specs.declared.descriptor.Job.{Job}
 use Rattle.ark_vic.specs.declared.descriptor.Job.TheVariants as job
 use Rattle.ark_vsic.specs.Moves.{Got, LeavesBlock, IsSound, IsSoundBy}
 

@@ -1,5 +1,5 @@
 -- A storage card, and the areas that its descriptors may name.
-use Rattle.std.specs.Prelude.{ℕ, ◌≤◌, ◌==◌, ◌++◌, Bool, not, List, [], ◌∷◌, Option, Some, None, IfSome, filter as select, if◌then◌else◌, slice_get}
+use Rattle.std.specs.Prelude.{ℕ, ◌≤◌, ◌==◌, ◌++◌, Bool, not, List, [], ◌∷◌, Option, IfSome, filter as select, if◌then◌else◌, slice_get}
 use Rattle.std.specs.List.{list_any}
 use Rattle.ark_vic.specs.Pace.{Pace}
 use Rattle.ark_vic.specs.Queue.{Queue}

@@ -15,7 +15,8 @@ fn read_block<D: Disk>(head: &Descriptor, k: u32, n: u32, region: &mut Region, d
     requires sound { IsSound region.old.taken k head.now }
     requires inside { n < (D.told disk.old).blocks }
     ensures went { Went D.goes (block_call head.now k n region.old ∷ []) result disk.old disk.new }
-    ensures region { LeavesBlock head.now.job result head.now.buf (head.now.from + 512 * k) (D.told disk.new).history n region.old region.new }
+    ensures region { LeavesBlock head.now.job result head.now.buf (head.now.from + 512 * k)
+        (D.told disk.new).history n region.old region.new }
 {
     let Some(buf) = &head.buf else {
         unreachable!();
@@ -51,7 +52,8 @@ pub(crate) fn try_block<D: Disk>(
     requires sound { IsSound region.old.taken k head.now }
     requires inside { n < (D.told disk.old).blocks }
     ensures went { Went D.goes (block_call head.now k n region.old ∷ []) result disk.old disk.new }
-    ensures region { LeavesBlock head.now.job result head.now.buf (head.now.from + 512 * k) (D.told disk.new).history n region.old region.new }
+    ensures region { LeavesBlock head.now.job result head.now.buf (head.now.from + 512 * k)
+        (D.told disk.new).history n region.old region.new }
 {
     match head.job {
         Job::Read => read_block(head, k, n, region, disk),

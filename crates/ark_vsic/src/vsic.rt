@@ -1,4 +1,4 @@
-ghost use Rattle.std.specs.Prelude.{◌≡◌, ◌≤◌, ◌<◌, ◌+◌, ◌⊎◌, [], All, false, true, None, length, IfOk, IfSome};
+ghost use Rattle.std.specs.Prelude.{◌≡◌, ◌≤◌, ◌<◌, ◌+◌, ◌⊎◌, [], All, true, None, length, IfOk, IfSome};
 ghost use Rattle.std.specs.Borrow.{sem};
 ghost use Rattle.ark_media.specs.Calls.{Went};
 ghost use Rattle.ark_vsic.specs.declared.due.Moved.TheVariants as moved;
@@ -42,7 +42,12 @@ impl Vsic {
     /// fails for want of memory alone; no other call takes memory.
     pub fn new(alloc: Global, size: u32) -> Result<Vsic, Memory>
         requires { size ≤ 256 }
-        ensures ring { IfOk result (λ v. v.ring ≡ record { posted = []; unreaped = []; moved = 0; size = size }) }
+        ensures ring { IfOk result (λ v. v.ring ≡ record {
+          posted = [];
+          unreaped = [];
+          moved = 0;
+          size = size;
+        }) }
         ensures bound { IfOk result (λ v. v.bound ≡ []) }
         ensures pace { IfOk result (λ v. v.pace ≡ None) }
     {
@@ -126,10 +131,13 @@ impl Vsic {
     // Tries the block that is due; whether that succeeded.
     fn try_next<D: Disk>(&self, n: u32, region: &mut Region, disk: &mut D) -> bool
         requires blocks { MovesBlocks (head_of self.now.ring) }
-        requires sound { IfSome (head_of self.now.ring) (λ d. IsSound region.old.taken self.now.ring.moved d) }
+        requires sound { IfSome (head_of self.now.ring) (λ d.
+            IsSound region.old.taken self.now.ring.moved d) }
         requires inside { n < (D.told disk.old).blocks }
-        ensures went { Went D.goes (calls_of self.now (due.Block n) region.old) result disk.old disk.new }
-        ensures region { Leaves self.now (due.Block n) result (D.told disk.new).history region.old region.new }
+        ensures went { Went D.goes (calls_of self.now (due.Block n) region.old)
+            result disk.old disk.new }
+        ensures region { Leaves self.now (due.Block n) result
+            (D.told disk.new).history region.old region.new }
     {
         let Some(head) = self.ring.head() else {
             unreachable!();
@@ -141,7 +149,9 @@ impl Vsic {
     fn end(&mut self, outcome: Outcome) -> Moved
         requires { 0 < length self.old.ring.posted }
         ensures answer { result ≡ moved.Done outcome }
-        ensures card { self.new ≡ record self.old { ring = ended self.old.ring (head_of self.old.ring) outcome } }
+        ensures card { self.new ≡ record self.old {
+          ring = ended self.old.ring (head_of self.old.ring) outcome;
+        } }
     {
         self.ring.finish(outcome, 0);
         Moved::Done(outcome)
@@ -162,7 +172,9 @@ impl Vsic {
         requires posted { 0 < length self.old.ring.posted }
         requires below { self.old.ring.moved < count_of (head_of self.old.ring) }
         ensures answer { result ≡ answer_tried (is_last self.old.ring) ok }
-        ensures card { self.new ≡ record self.old { ring = ring_after self.old.ring (answer_tried (is_last self.old.ring) ok) } }
+        ensures card { self.new ≡ record self.old {
+          ring = ring_after self.old.ring (answer_tried (is_last self.old.ring) ok);
+        } }
     {
         let count = self.blocks();
         if ok && self.ring.moved() + 1 < count {
@@ -192,16 +204,20 @@ impl Vsic {
         disk: &mut D,
         now: u64,
     ) -> Moved
-        requires sound { IfSome (head_of self.old.ring) (λ d. IsSound region.old.taken self.old.ring.moved d) }
+        requires sound { IfSome (head_of self.old.ring) (λ d.
+            IsSound region.old.taken self.old.ring.moved d) }
         requires inside { All (λ a. All (λ n. n < (D.told disk.old).blocks) a.1) held.now }
         requires later { PacedBy now self.old.pace }
-        ensures went { Went D.goes (calls_of self.old (due_of self.old held.now now) region.old) (worked result) disk.old disk.new }
-        ensures answer { result ≡ answer_of self.old (due_of self.old held.now now) (worked result) }
+        ensures went { Went D.goes (calls_of self.old (due_of self.old held.now now) region.old)
+            (worked result) disk.old disk.new }
+        ensures answer { result
+            ≡ answer_of self.old (due_of self.old held.now now) (worked result) }
         ensures ring { self.new.ring ≡ ring_after self.old.ring result }
         ensures pace { self.new.pace ≡ pace_after self.old.pace (due_of self.old held.now now) now }
         ensures bound { self.new.bound ≡ self.old.bound }
         ensures frames { region.new.taken ≡ region.old.taken }
-        ensures region { Leaves self.old (due_of self.old held.now now) (worked result) (D.told disk.new).history region.old region.new }
+        ensures region { Leaves self.old (due_of self.old held.now now) (worked result)
+            (D.told disk.new).history region.old region.new }
     {
         match self.due(held, now) {
             Due::Nothing => Moved::Idle,
