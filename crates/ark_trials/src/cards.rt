@@ -13,7 +13,15 @@ use std::alloc::Global;
 // Work on blocks of the area of grant 3.
 fn work(job: Job, first: u32, count: u32, wrap: u32, buf: Option<Buf>) -> Descriptor
     ensures { result ≡ record {
-        job = job; grant = 3; first = first; count = count; wrap = wrap; from = 0; len = 0; tag = 7; buf = buf
+      job = job;
+      grant = 3;
+      first = first;
+      count = count;
+      wrap = wrap;
+      from = 0;
+      len = 0;
+      tag = 7;
+      buf = buf;
     } }
 {
     Descriptor {
