@@ -7,6 +7,8 @@ mod areas;
 #[cfg(test)]
 mod built;
 #[cfg(test)]
+mod cards;
+#[cfg(test)]
 mod each_call;
 #[cfg(test)]
 mod failures;

@@ -1,0 +1,4 @@
+pub mod Fair
+pub mod Reading
+pub mod Stepping
+pub mod Owning

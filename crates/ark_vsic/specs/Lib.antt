@@ -1,0 +1,5 @@
+pub mod Card
+pub mod Places
+pub mod Moves
+pub mod Own
+pub mod Lending

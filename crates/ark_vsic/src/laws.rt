@@ -1,0 +1,30 @@
+// Laws of the definitions, each the contract of a function that does nothing.
+ghost use Rattle.std.specs.Prelude.{◌≡◌, ◌++◌, ◌∷◌, [], ℕ, List};
+ghost use Rattle.ark_vic.specs.Pace.{Keeps, Pace, Pass, StandsFor, filled};
+ghost use Rattle.ark_vsic.specs.Card.{Areas, Card};
+ghost use Rattle.ark_vsic.specs.Moves.{due_of};
+ghost use Rattle.ark_vsic.specs.Own.{IsItsOwn, IsPacedFor};
+ghost use Rattle.ark_vsic.specs.Places.{place_after, place_of};
+ghost use Rattle.ark_vsic.specs.declared.due.Due.TheVariants as due;
+
+/// The place of a descriptor's block in closed form is what its blocks come to from one to the next, also where they wrap.
+pub fn place_laws()
+    ensures stepwise { (n wrap first k : ℕ)
+        → place_of n wrap first k ≡ place_after n wrap first k }
+{}
+
+/// A block that is due is one of an area that is bound and held, at the oldest descriptor's place, and its 512 bytes keep the
+/// law of the card's rate, whatever passes that stands for; a card waits only where they would break it.
+pub fn due_laws()
+    ensures own { (card : Card) (held : Areas) (now n : ℕ)
+        → due_of card held now ≡ due.Block n → IsItsOwn card held n }
+    ensures keeps { (card : Card) (held : Areas) (now n : ℕ) (r : Pace) (p : List Pass)
+        → IsPacedFor card r p now → due_of card held now ≡ due.Block n
+        → Keeps r.per_tick r.burst (p ++ (now, 512) ∷ []) }
+    ensures stands { (card : Card) (held : Areas) (now n : ℕ) (r : Pace) (p : List Pass)
+        → IsPacedFor card r p now → due_of card held now ≡ due.Block n
+        → StandsFor (filled r 512 now) (p ++ (now, 512) ∷ []) }
+    ensures waits { (card : Card) (held : Areas) (now : ℕ) (r : Pace) (p : List Pass)
+        → IsPacedFor card r p now → due_of card held now ≡ due.Waits
+        → ¬ Keeps r.per_tick r.burst (p ++ (now, 512) ∷ []) }
+{}
