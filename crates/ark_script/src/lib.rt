@@ -1,6 +1,7 @@
 //! Lines of a script and the replies to them: what a line asks for, and how a reply is spelled.
 #![tactic(auto)]
 
+mod group;
 mod printing;
 mod putting;
 mod reading;
@@ -8,6 +9,7 @@ mod reply;
 mod said;
 mod step;
 
+pub use group::Group;
 pub use printing::{TEXT_ROOM, print};
 pub use reading::{MAX_LINE, one_meaning, read_line};
 pub use reply::{MAX_SHOWN, Reply};
