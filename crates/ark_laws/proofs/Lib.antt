@@ -51,3 +51,4 @@ pub mod TableFailed
 pub mod Texts
 pub mod Told
 pub mod Touching
+pub mod Turns
