@@ -15,7 +15,8 @@ use Rattle.ark_machine.specs.Row.{Row, says, answer, unless_refused}
 use Rattle.ark_machine.specs.Network.{is_let_out}
 use Rattle.ark_machine.specs.Refused.{is_told_late, is_of_sending, reaps_first, may_fault}
 use Rattle.ark_laws.proofs.Early.{same_refusal, early_not_told}
-use Rattle.ark_laws.proofs.Steady.{is_plain, Leads}
+use Rattle.ark_laws.proofs.Steady.{Leads}
+use Rattle.ark_laws.proofs.Walk.{is_plain}
 
 -- only the move of a card sends, what a filter of the card lets out
 abbrev pub MaySend : Machine → Option Own → Line → List ℕ → Type 0

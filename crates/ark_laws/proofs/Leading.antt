@@ -28,7 +28,8 @@ use Rattle.ark_machine.specs.Sockets.{with_buffers, socketed_at, with_socket_car
 use Rattle.ark_machine.specs.Logs.{opening, opened_on, opened_machine, damage_of, found_in, with_opened}
 use Rattle.ark_machine.specs.Paced.{IsPacedAt, ArePacedAt}
 use Rattle.ark_laws.proofs.Paced.{new_paced, object_paced, each_paced, synced_paced, vsic_paced, vnic_paced, log_paced, socket_paced, raw_paced}
-use Rattle.ark_laws.proofs.Steady.{is_plain, Leads, RowSteady}
+use Rattle.ark_laws.proofs.Steady.{Leads, RowSteady}
+use Rattle.ark_laws.proofs.Walk.{is_plain}
 
 -- Machines of the rows.
 
@@ -95,16 +96,16 @@ reaped_plain flush o = refl
 reaped_plain (phase p) o = refl
 
 pub reap_steady : (m : Machine) (v : List ℕ) (us : List (Job × Outcome)) → RowSteady m (reap_oldest m v us)
-reap_steady m v [] = record { plain = refl; paced = λ t h. h }
-reap_steady m v (u ∷ us) = record { plain = reaped_plain u.0 u.1; paced = λ t h. vsic_paced t m v _ (λ y q. q) h }
+reap_steady m v [] = record { plain = refl; goes = λ t h. h }
+reap_steady m v (u ∷ us) = record { plain = reaped_plain u.0 u.1; goes = λ t h. vsic_paced t m v _ (λ y q. q) h }
 
 received_steady : (m : Machine) (v : List ℕ) (us : List (Place × ℕ)) → RowSteady m (take_received m v us)
-received_steady m v [] = record { plain = refl; paced = λ t h. h }
-received_steady m v (u ∷ us) = record { plain = refl; paced = λ t h. vnic_paced t m v _ (λ y q. q) h }
+received_steady m v [] = record { plain = refl; goes = λ t h. h }
+received_steady m v (u ∷ us) = record { plain = refl; goes = λ t h. vnic_paced t m v _ (λ y q. q) h }
 
 sent_steady : (m : Machine) (v : List ℕ) (us : List (Place × Outcome)) → RowSteady m (take_sent m v us)
-sent_steady m v [] = record { plain = refl; paced = λ t h. h }
-sent_steady m v (u ∷ us) = record { plain = refl; paced = λ t h. vnic_paced t m v _ (λ y q. q) h }
+sent_steady m v [] = record { plain = refl; goes = λ t h. h }
+sent_steady m v (u ∷ us) = record { plain = refl; goes = λ t h. vnic_paced t m v _ (λ y q. q) h }
 
 pub oldest_steady : (d : Direction) (m : Machine) (v : List ℕ) → RowSteady m (take_oldest d m v)
 oldest_steady direction.Rx m v = received_steady m v (received_at m v)
@@ -150,8 +151,8 @@ pulled_leads m v None t h = h
 pulled_leads m v (Some own) t h = vnic_paced t (all_received m v own (unreaped_rx m v)) v rx_reaped (λ y q. q) (all_received_leads m v own (unreaped_rx m v) t h)
 
 pub give_steady : (m : Machine) (k : List ℕ) (ds : List Datagram) → RowSteady m (give_oldest m k ds)
-give_steady m k [] = record { plain = refl; paced = λ t h. h }
-give_steady m k (d ∷ ds) = record { plain = refl; paced = λ t h. socket_paced t m k _ h }
+give_steady m k [] = record { plain = refl; goes = λ t h. h }
+give_steady m k (d ∷ ds) = record { plain = refl; goes = λ t h. socket_paced t m k _ h }
 
 pub opened_leads : (m : Machine) (s v : List ℕ) (g : Given) → Leads m (opened_machine m s v g)
 opened_leads m s v g =

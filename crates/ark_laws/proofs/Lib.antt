@@ -52,3 +52,4 @@ pub mod Texts
 pub mod Told
 pub mod Touching
 pub mod Turns
+mod Walk

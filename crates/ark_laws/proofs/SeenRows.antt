@@ -24,10 +24,9 @@ use Rattle.ark_machine.specs.Cards.{reap_oldest, unreaped_at, bound_with, bound_
 use Rattle.ark_machine.specs.Network.{take_received, take_sent, take_oldest, received_at, sent_at, is_socketed}
 use Rattle.ark_machine.specs.Sockets.{with_buffers, socketed_at, with_socket_card, card_places, card_at, tx_reaped, sent_reaped, posted_at, framed, frame_frames, pulled, datagrams_at}
 use Rattle.ark_machine.specs.Logs.{opening, opened_on, opened_machine, damage_of, found_in, closing, card_of}
-use Rattle.ark_machine.specs.Polls.{next_call}
 use Rattle.ark_machine.specs.Step.{step}
 use Rattle.ark_laws.proofs.Seen.{Sees, view, seen, other, sees_itself, sees_then, object_sees, new_sees, without_sees, if_sees, synced_sees, vsic_sees, vnic_sees, log_sees, buffer_sees, raw_sees, door_view, buffer_view, answer_sees}
-use Rattle.ark_laws.proofs.SeenMoves.{with_opened_sees, polled_sees, settling_sees, next_call_sees, card_moves_sees, pulled_sees, give_sees}
+use Rattle.ark_laws.proofs.SeenMoves.{with_opened_sees, polled_sees, settles_sees, card_moves_sees, pulled_sees, give_sees}
 
 -- the words that change filters or network cards
 abbrev pub changes_filters : Line → Bool
@@ -183,7 +182,7 @@ row_sees m (w.trim a x1 x2) g h = answer_sees m _ _ (λ free kind. with_opened_s
 row_sees m (w.pop a x1) g h = answer_sees m _ _ (λ free kind. with_opened_sees m x1 _)
 row_sees m (w.walk a x1 x2) g h = answer_sees m _ _ (λ free kind. sees_itself m)
 row_sees m (w.poll a x1) g h = answer_sees m _ _ (λ free kind. polled_sees m x1)
-row_sees m (w.settle a x1) g h = answer_sees m _ _ (λ free kind. settling_sees m g.ended x1 (next_call m x1) (next_call_sees m x1))
+row_sees m (w.settle a x1) g h = answer_sees m _ _ (λ free kind. settles_sees m g.ended x1)
 row_sees m (w.close a x1) g h = answer_sees m _ _ (λ free kind. sees_then (log_sees m x1 closing) (vsic_sees (with_log m x1 closing) (card_of m x1) (bound_without (serial_at m x1))))
 row_sees m (w.dev a x1) g h = answer_sees m _ _ (λ free kind. card_moves_sees m x1 g _)
 row_sees m (w.nic own) g h = sees_itself m

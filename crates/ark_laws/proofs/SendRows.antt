@@ -134,7 +134,7 @@ tx_is m v x own (p ∷ ps) of = frame_is m v x own p.0 p.1 ps (take p.1 (bytes_i
 pub card_is : (m : Machine) (v : List ℕ) (g : Given) (o : Option Vnic) → ((t : ℕ) → MachinePacedAt t m → VnicPaced t o) → IsMove m g.own v (card_moves m v g o)
 card_is m v g None of =
     let s = move_steady m v (first_end g.ended) in
-    record { sent = λ h. absurd (plain_not_sent (move m v (first_end g.ended)).said s.plain h); undelivered = λ b u h. plain_not_delivered (move m v (first_end g.ended)).said b u s.plain h; unrefused = λ y h. plain_not_refused (move m v (first_end g.ended)).said y s.plain h; paced = s.paced }
+    record { sent = λ h. absurd (plain_not_sent (move m v (first_end g.ended)).said s.plain h); undelivered = λ b u h. plain_not_delivered (move m v (first_end g.ended)).said b u s.plain h; unrefused = λ y h. plain_not_refused (move m v (first_end g.ended)).said y s.plain h; paced = s.goes }
 card_is m v g (Some x) of = tx_is m v x g.own x.tx.posted (λ t h. (of t h).1)
 
 pub dev_row : (a v : List ℕ) (m : Machine) (own : Option Own) (c : Conditions) (row : Row) → c.no_application ≡ not m.made → late c ≡ None

@@ -26,7 +26,7 @@ use Rattle.ark_machine.specs.Follow.{ends_of}
 use Rattle.ark_machine.specs.Sending.{IsLetOut, KeepsRate, KeepsRates, HeldKeeps, ListedKeeps, AllKeep}
 use Rattle.ark_machine.specs.Paced.{IsPacedAt, ArePacedAt, HeldPacedAt, MachinePacedAt, ListedPacedAt, StandsPaced}
 use Rattle.ark_laws.proofs.Paced.{later_held, new_paced}
-use Rattle.ark_laws.proofs.Steady.{is_plain}
+use Rattle.ark_laws.proofs.Walk.{is_plain}
 use Rattle.ark_laws.proofs.Answering.{MaySend, plain_not_sent}
 use Rattle.ark_laws.proofs.Rows.{row_is, arrive_is}
 use Rattle.ark_laws.proofs.Turns.{each_turn, quiet_not_sent}
