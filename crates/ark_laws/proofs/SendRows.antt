@@ -25,7 +25,7 @@ use Rattle.ark_machine.specs.Paced.{IsPacedAt, MachinePacedAt}
 use Rattle.ark_laws.proofs.Paced.{VnicPaced, passed_paced, vnic_paced, rung_paced}
 use Rattle.ark_laws.proofs.Early.{some_refusal, same_refusal, early_not_told, told_not_sending}
 use Rattle.ark_laws.proofs.Steady.{Leads, move_steady}
-use Rattle.ark_laws.proofs.Answering.{plain_not_sent, plain_not_refused, plain_not_delivered, needs_application, IsRow}
+use Rattle.ark_laws.proofs.Answering.{plain_not_sent, plain_not_refused, plain_not_delivered, needs_application, IsRow, early_row}
 use Rattle.ark_laws.proofs.Leading.{sent_reaped_leads, posted_leads}
 
 -- `sendto`: reaped first, and then refused or posted
@@ -56,14 +56,7 @@ sendto_row a m own k ip port payload c g asks none_late =
 
     by : (first : Option Refusal) (full lacks : Bool) → early c ≡ first
         → IsRow (w.sendto a k ip port payload) m own (unless_refused first (late c) m (unless_refused (when full r.RingFull (when lacks r.NoBuffer None)) None n row))
-    by (Some x) full lacks is = record {
-      sent = λ h. absurd cc;
-      undelivered = λ b u h. absurd cc;
-      refused = λ y h no. ap (λ z. says m z) h;
-      told = λ y h late_one. absurd (early_not_told c x is (subst (λ z. is_told_late z ≡ true) (sym (same_refusal x y h)) late_one));
-      paced = λ t h. h;
-      unmade = λ no. inr refl;
-    }
+    by (Some x) full lacks is = early_row (w.sendto a k ip port payload) m own c x is
     by None full lacks is = rw none_late (then (when full r.RingFull (when lacks r.NoBuffer None)) refl)
       where
         then : (next : Option Refusal) → when full r.RingFull (when lacks r.NoBuffer None) ≡ next → IsRow (w.sendto a k ip port payload) m own (unless_refused next None n row)
@@ -144,14 +137,7 @@ unfolding answer
 dev_row a v m own c row asks none_late sent undelivered unrefused lead = by (early c) refl
   where
     by : (first : Option Refusal) → early c ≡ first → IsRow (w.dev a v) m own (unless_refused first (late c) m row)
-    by (Some x) is = record {
-      sent = λ h. absurd cc;
-      undelivered = λ b u h. absurd cc;
-      refused = λ y h no. ap (λ z. says m z) h;
-      told = λ y h late_one. absurd (early_not_told c x is (subst (λ z. is_told_late z ≡ true) (sym (same_refusal x y h)) late_one));
-      paced = λ t h. h;
-      unmade = λ no. inr refl;
-    }
+    by (Some x) is = early_row (w.dev a v) m own c x is
     by None is = rw none_late (record {
       sent = sent;
       undelivered = undelivered;
