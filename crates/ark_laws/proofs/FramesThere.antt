@@ -5,21 +5,18 @@ use Rattle.ark_base.specs.declared.kind.Outcome.{Outcome}
 use Rattle.ark_base.specs.declared.kind.Outcome.TheVariants as outcome
 use Rattle.ark_packet.specs.declared.own.Own.{Own}
 use Rattle.ark_vic.specs.declared.door.Bell.TheVariants as bell
-use Rattle.ark_caladan.specs.Chain.{Opened}
 use Rattle.ark_script.specs.declared.said.Said.TheVariants as said
 use Rattle.ark_machine.specs.Objects
 use Rattle.ark_machine.specs.Objects.{Object, Raw, Vsic, Vnic, Place, Job, Transfer, transfer, flush, phase, as_log}
 use Rattle.ark_machine.specs.Machine.{Machine, object_at, vnic_at, with_vnic}
-use Rattle.ark_machine.specs.Row.{Given, Ended, says}
+use Rattle.ark_machine.specs.Row.{Given, says}
 use Rattle.ark_machine.specs.Buffers.{with_bytes}
 use Rattle.ark_machine.specs.Rates.{is_over_burst, may_pass, passed}
 use Rattle.ark_machine.specs.Moves.{Move, moves, deciding_tried, first_end}
-use Rattle.ark_machine.specs.Logs.{with_opened}
-use Rattle.ark_machine.specs.Polls.{polled, next_call, settling}
 use Rattle.ark_machine.specs.Network.{bytes_in, is_let_out, tx_ending, tx_ended, tx_passed, frame_moves, tx_moves, with_frame, filled, rx_ending, rx_passed, received, arrival, arrive}
 use Rattle.ark_machine.specs.Devices.{card_moves}
 use Rattle.ark_machine.specs.Frames.{frames_at, IsThere}
-use Rattle.ark_laws.proofs.Walk.{Walk, move_goes, polled_goes, settles_goes}
+use Rattle.ark_laws.proofs.Walk.{Walk, move_goes}
 use Rattle.ark_laws.proofs.Growing.{size_in, frames_in, Grows, same_grows, then_grows, plain_grows, log_is, vsic_grows, log_grows, raw_grows, buffer_grows, vnic_grows, rung_grows, each_grows, synced_grows, written_longer}
 use Rattle.ark_laws.proofs.Setting.{vnic_set}
 
@@ -29,9 +26,6 @@ kept m x p has = inl has
 
 pub bytes_grow : (m : Machine) (b : List ℕ) (off : ℕ) (bytes : List ℕ) → Grows m (with_bytes m b off bytes)
 bytes_grow m b off bytes = buffer_grows m b _ (λ x. written_longer x.bytes off bytes)
-
-pub opened_grows : (m : Machine) (l : List ℕ) (f : Opened → Opened) → Grows m (with_opened m l f)
-opened_grows m l f = log_grows m l _
 
 deciding_size : (v : List ℕ) (took : Bool) (o : Object) → size_in (Some (deciding_tried v took o)) ≡ size_in (Some o)
 deciding_size v took (Objects.log g) = refl
@@ -43,7 +37,7 @@ deciding_frames v took (Objects.log g) = refl
 deciding_frames v took (Objects.vnic x) = refl
 deciding_frames v took _ = refl
 
-grows_walk : Walk Grows
+pub grows_walk : Walk Grows
 grows_walk = record {
   same = same_grows;
   then = λ m k n f g. then_grows f g;
@@ -57,12 +51,6 @@ grows_walk = record {
   syncs = synced_grows;
   decides = λ m v took. each_grows m (deciding_tried v took) (deciding_size v took) (deciding_frames v took);
 }
-
-pub polled_grows : (m : Machine) (s : List ℕ) → Grows m (polled m s).row.machine
-polled_grows m s = (polled_goes Grows grows_walk m s).goes
-
-pub settles_grow : (m : Machine) (es : List Ended) (s : List ℕ) → Grows m (settling es s (next_call m s)).machine
-settles_grow m es s = (settles_goes Grows grows_walk m es s).goes
 
 -- Moves of a network card, and frames that arrive.
 

@@ -53,3 +53,4 @@ pub mod Told
 pub mod Touching
 pub mod Turns
 mod Walk
+mod RowWalk

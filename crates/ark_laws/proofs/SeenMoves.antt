@@ -1,27 +1,27 @@
 -- Moves, polls and settling leave the filters and network cards that are held.
 use Rattle.std.proofs.Common.{◌≡◌, ℕ, Bool, true, false, not, List, [], ◌∷◌, ◌++◌, ◌&&◌, length, take, refl, cond}
-use Rattle.std.specs.Prelude.{Option, Some, None, Result, Ok, Err, option_map, unwrap_or, nat_lt, bytes_eq}
+use Rattle.std.specs.Prelude.{Option, Some, None, option_map, unwrap_or, nat_lt}
 use Rattle.ark_base.specs.declared.kind.Outcome.{Outcome}
 use Rattle.ark_base.specs.declared.kind.Outcome.TheVariants as outcome
-use Rattle.ark_caladan.specs.Chain.{Opened}
 use Rattle.ark_packet.specs.Udp as udp
 use Rattle.ark_packet.specs.declared.own.Own.{Own}
-use Rattle.ark_packet.specs.declared.udp.Bad.{Bad}
 use Rattle.ark_vic.specs.declared.door.Bell.TheVariants as bell
 use Rattle.ark_script.specs.declared.said.Said.TheVariants as said
 use Rattle.ark_machine.specs.Objects
 use Rattle.ark_machine.specs.Objects.{Object, Paced, Raw, Vsic, Vnic, Job, Place, Transfer, Datagram, transfer, flush, phase, as_log}
-use Rattle.ark_machine.specs.Machine.{Machine, object_at, vnic_at, each_object, with_vnic}
-use Rattle.ark_machine.specs.Row.{Ended, Given, says}
-use Rattle.ark_machine.specs.Rates.{is_over_burst, may_pass, passed}
+use Rattle.ark_machine.specs.Machine.{Machine, object_at, vnic_at, with_vnic}
+use Rattle.ark_machine.specs.Row.{Given, says}
+use Rattle.ark_machine.specs.Rates.{is_over_burst, may_pass, passed, pace_of, with_pace, no_rings}
 use Rattle.ark_machine.specs.Moves.{Move, moves, deciding_tried, first_end}
-use Rattle.ark_machine.specs.Logs.{with_opened}
-use Rattle.ark_machine.specs.Polls.{polled, next_call, settling}
 use Rattle.ark_machine.specs.Network.{is_let_out, bytes_in, tx_ended, tx_ending, tx_passed, frame_moves, tx_moves, with_frame, filled, rx_ending, rx_passed, received, arrival, arrive}
-use Rattle.ark_machine.specs.Sockets.{has_port, max_datagrams, delivered, with_datagram, with_received, all_received, rx_reaped, unreaped_rx, pulled, give_oldest}
+use Rattle.ark_machine.specs.Sockets.{has_port, max_datagrams, delivered, posted_at}
 use Rattle.ark_machine.specs.Devices.{card_moves}
-use Rattle.ark_laws.proofs.Walk.{Walk, move_goes, polled_goes, settles_goes}
-use Rattle.ark_laws.proofs.Seen.{Sees, view, other, sees_itself, sees_then, object_sees, each_sees, if_sees, synced_sees, vsic_sees, vnic_sees, log_sees, buffer_sees, socket_sees, raw_sees, rung_sees, log_view}
+use Rattle.ark_laws.proofs.Walk.{Walk, move_goes}
+use Rattle.ark_laws.proofs.Seen.{Sees, view, other, sees_itself, sees_then, object_sees, each_sees, synced_sees, vsic_sees, vnic_sees, log_sees, buffer_sees, socket_sees, raw_sees, rung_sees, log_view, new_sees, door_view}
+use Rattle.std.proofs.lemmas.Bool.{false≢true}
+use Rattle.ark_script.specs.declared.step.Side.{Side}
+use Rattle.ark_script.specs.declared.step.Side.TheVariants as side
+use Rattle.ark_laws.proofs.RowWalk.{RowWalk, is_new}
 
 deciding_view : (v : List ℕ) (took : Bool) (o : Object) → view (deciding_tried v took o) ≡ view o
 deciding_view v took (Objects.raw r) = refl
@@ -48,15 +48,6 @@ sees_walk = record {
   syncs = synced_sees;
   decides = λ m v took. each_sees m (deciding_tried v took) (deciding_view v took);
 }
-
-pub with_opened_sees : (m : Machine) (s : List ℕ) (f : Opened → Opened) → Sees m (with_opened m s f)
-with_opened_sees m s f = log_sees m s _
-
-pub polled_sees : (m : Machine) (s : List ℕ) → Sees m (polled m s).row.machine
-polled_sees m s = (polled_goes Sees sees_walk m s).goes
-
-pub settles_sees : (m : Machine) (es : List Ended) (s : List ℕ) → Sees m (settling es s (next_call m s)).machine
-settles_sees m es s = (settles_goes Sees sees_walk m es s).goes
 
 -- Frames that go out and that arrive.
 
@@ -114,7 +105,7 @@ arrive_sees a m v frame = by (vnic_at m v)
     by None = sees_itself m
     by (Some x) = arrival_sees a m v x x.rx.posted frame
 
--- Datagrams.
+-- Rows.
 
 delivered_view : (v : List ℕ) (d : udp.Datagram) (o : Object) → view (delivered v d o) ≡ view o
 delivered_view v d (Objects.raw r) = refl
@@ -128,19 +119,34 @@ delivered_view v d (Objects.buffer b) = refl
 delivered_view v d (Objects.socket k) =
     elim (has_port v d.to_port (Objects.socket k) && nat_lt (length k.datagrams) max_datagrams) as (λ b. view (cond b (Objects.socket (record k { datagrams = k.datagrams ++ (record { ip = d.from; port = d.from_port; payload = d.payload }) ∷ [] })) (Objects.socket k)) ≡ other) [ true ↦ refl | false ↦ refl ]
 
-datagram_sees : (m : Machine) (v : List ℕ) (own : Own) (d : Result udp.Datagram Bad) → Sees m (with_datagram m v own d)
-datagram_sees m v own (Err e) = sees_itself m
-datagram_sees m v own (Ok d) = if_sees m (each_object (delivered v d) m) m (bytes_eq own.ip d.to) (each_sees m (delivered v d) (delivered_view v d)) (sees_itself m)
+new_view : (o : Object) → is_new o ≡ true → view o ≡ other
+new_view (Objects.raw r) h = refl
+new_view (Objects.log g) h = refl
+new_view (Objects.vsic v) h = refl
+new_view (Objects.vnic v) h = absurd (false≢true h)
+new_view (Objects.filter f c) h = absurd (false≢true h)
+new_view (Objects.door c) h = refl
+new_view (Objects.rate q b) h = refl
+new_view (Objects.buffer b) h = refl
+new_view (Objects.socket k) h = refl
 
-all_received_sees : (m : Machine) (v : List ℕ) (own : Own) (us : List (Place × ℕ)) → Sees m (all_received m v own us)
-all_received_sees m v own [] = sees_itself m
-all_received_sees m v own (u ∷ us) =
-    sees_then (datagram_sees m v own _) (all_received_sees (with_received m v own (take u.1 (bytes_in m u.0))) v own us)
+pace_sees : (m : Machine) (v : List ℕ) (q : Side) (p : Option Paced) → Sees m (with_pace m v q p)
+pace_sees m v side.Rx p = vnic_sees m v _
+pace_sees m v side.Tx p = vnic_sees m v _
+pace_sees m v side.Io p = vsic_sees m v _
 
-pub pulled_sees : (m : Machine) (v : List ℕ) (own : Option Own) → Sees m (pulled m v own)
-pulled_sees m v None = sees_itself m
-pulled_sees m v (Some own) = sees_then (all_received_sees m v own (unreaped_rx m v)) (vnic_sees (all_received m v own (unreaped_rx m v)) v rx_reaped)
+posted_sees : (m : Machine) (v frame : List ℕ) (o : Option ℕ) → Sees m (posted_at m v frame o)
+posted_sees m v frame None = sees_itself m
+posted_sees m v frame (Some s) = vnic_sees m v _
 
-pub give_sees : (m : Machine) (k : List ℕ) (ds : List Datagram) → Sees m (give_oldest m k ds).machine
-give_sees m k [] = sees_itself m
-give_sees m k (d ∷ ds) = socket_sees m k _
+pub sees_rows : RowWalk Sees
+sees_rows = record {
+  walk = sees_walk;
+  created = λ m l o free fresh. new_sees m l o free (new_view o fresh);
+  vnic = λ m v f rx tx posts. vnic_sees m v f;
+  paces = λ m v q o. pace_sees m v q (pace_of m o);
+  socket = socket_sees;
+  delivers = λ m v d. each_sees m (delivered v d) (delivered_view v d);
+  sends = posted_sees;
+  looks = λ m d c is. object_sees m d (Objects.door no_rings) (door_view (object_at m d) c is);
+}

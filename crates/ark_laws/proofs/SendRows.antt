@@ -1,5 +1,5 @@
 -- The rows of the words that send: `sendto` and `dev`.
-use Rattle.std.proofs.Common.{◌≡◌, inr, ℕ, Bool, true, false, not, List, [], ◌∷◌, ◌&&◌, ◌||◌, take, refl, sym, ◌∙◌, ap, subst, cond}
+use Rattle.std.proofs.Common.{◌≡◌, inr, ℕ, Bool, true, false, not, List, [], ◌∷◌, ◌&&◌, ◌||◌, take, refl, sym, ◌∙◌, subst, cond}
 use Rattle.std.proofs.lemmas.Bool.{false≢true}
 use Rattle.std.specs.Prelude.{Option, Some, None, IsTrue, is_none}
 use Rattle.ark_base.specs.Conditions.{Conditions, early, late, when}
@@ -23,10 +23,11 @@ use Rattle.ark_machine.specs.Devices.{card_moves}
 use Rattle.ark_machine.specs.Refused.{is_told_late, is_of_sending}
 use Rattle.ark_machine.specs.Paced.{IsPacedAt, MachinePacedAt}
 use Rattle.ark_laws.proofs.Paced.{VnicPaced, passed_paced, vnic_paced, rung_paced}
-use Rattle.ark_laws.proofs.Early.{some_refusal, same_refusal, early_not_told, told_not_sending}
+use Rattle.ark_laws.proofs.Early.{some_refusal, same_refusal, told_not_sending}
 use Rattle.ark_laws.proofs.Steady.{Leads, move_steady}
 use Rattle.ark_laws.proofs.Answering.{plain_not_sent, plain_not_refused, plain_not_delivered, needs_application, IsRow, early_row}
-use Rattle.ark_laws.proofs.Leading.{sent_reaped_leads, posted_leads}
+use Rattle.ark_laws.proofs.Leading.{posted_leads, leads_rows}
+use Rattle.ark_laws.proofs.RowWalk.{sent_reaped_goes}
 
 -- `sendto`: reaped first, and then refused or posted
 
@@ -65,7 +66,7 @@ sendto_row a m own k ip port payload c g asks none_late =
           undelivered = λ b u h. absurd cc;
           told = λ y h late_one. absurd (told_not_sending y late_one (subst (λ z. is_of_sending z ≡ true) (same_refusal x y h) (of_sending full lacks x also)));
           refused = λ y h no. absurd (sending_leaves y (subst (λ z. is_of_sending z ≡ true) (same_refusal x y h) (of_sending full lacks x also)) no);
-          paced = sent_reaped_leads m k;
+          paced = sent_reaped_goes Leads leads_rows m k;
           unmade = λ no. absurd (needs_application c (asks ∙ rw no refl) is);
         }
         then None also = record {
@@ -73,7 +74,7 @@ sendto_row a m own k ip port payload c g asks none_late =
           undelivered = λ b u h. absurd cc;
           refused = λ y h no. absurd cc;
           told = λ y h late_one. absurd cc;
-          paced = λ t h. posted_leads n (card_at n k) (framed n k g.own ip port payload) (room_for n (frame_frames payload)) t (sent_reaped_leads m k t h);
+          paced = λ t h. posted_leads n (card_at n k) (framed n k g.own ip port payload) (room_for n (frame_frames payload)) t (sent_reaped_goes Leads leads_rows m k t h);
           unmade = λ no. absurd (needs_application c (asks ∙ rw no refl) is);
         }
 
