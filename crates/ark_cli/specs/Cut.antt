@@ -6,6 +6,7 @@ use Rattle.ark_script.specs.Text.{text}
 use Rattle.ark_machine.specs.System.{System, Turn}
 use Rattle.ark_machine.specs.Built.{turn}
 use Rattle.ark_machine.specs.Follow.{Performs, ends_of}
+use Rattle.ark_machine.specs.Confined.{IsConfined}
 use Rattle.ark_machine.specs.Sending.{SendsFront, DeliversFront}
 use Rattle.ark_machine.specs.Replies.{MayLack, system_after, Replies}
 
@@ -33,8 +34,10 @@ pub record CutReplies (s : System) (lines : List (List ℕ)) (whole : List (List
   pub replies : Replies s lines whole part
   pub shows : Shows (system_after s replies.meanings whole) (drop (length whole) lines) part
 
--- The frame of which the first bytes of a reply show something was let out or in, within the rate of its card's queue.
+-- The part touches only what its line may touch, and the frame of which the first bytes of its reply show something was let out or
+-- in, within the rate of its card's queue.
 pub record IsCutConfined (s : System) (m : Meaning) (part : List Event) : Type 0 where
+  pub device : IsConfined s m (device_events part)
   pub sends : SendsFront s m (output_of part)
   pub delivers : DeliversFront s m (output_of part)
 

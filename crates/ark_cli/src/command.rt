@@ -33,13 +33,16 @@ fn run_with<W: Outside>(
 ) -> Status
     requires low { 130 ≤ blocks }
     requires high { blocks ≤ 1048576 }
-    requires host { (h : History) → length h.base ≡ blocks → IsZero h (free_at_first blocks) → Stands host.old blocks h (fresh_system blocks) }
+    requires host { (h : History) → length h.base ≡ blocks → IsZero h (free_at_first blocks) →
+        Stands host.old blocks h (fresh_system blocks) }
     requires sound { IsSound host.old }
     requires inside { IsInside blocks host.old }
     requires none { host.old.lines ≡ 0 }
     requires line { line.old ≡ [] }
-    ensures runs { RunsNew blocks device.now (W.told world.old) (W.told world.new) (W.beside world.old) (W.beside world.new) result }
-    ensures cause { IsCause (W.told world.old) (W.told world.new) (W.beside world.old) (W.beside world.new) result }
+    ensures runs { RunsNew blocks device.now (W.told world.old) (W.told world.new)
+        (W.beside world.old) (W.beside world.new) result }
+    ensures cause { IsCause (W.told world.old) (W.told world.new)
+        (W.beside world.old) (W.beside world.new) result }
 {
     match open_new(blocks, device, out, world) {
         Err(status) => status,
@@ -51,8 +54,10 @@ fn run_with<W: Outside>(
 fn run_new<W: Outside>(alloc: Global, blocks: u32, device: &str, world: &mut W) -> Status
     requires low { 130 ≤ blocks }
     requires high { blocks ≤ 1048576 }
-    ensures runs { RunsNew blocks device.now (W.told world.old) (W.told world.new) (W.beside world.old) (W.beside world.new) result }
-    ensures cause { IsCause (W.told world.old) (W.told world.new) (W.beside world.old) (W.beside world.new) result }
+    ensures runs { RunsNew blocks device.now (W.told world.old) (W.told world.new)
+        (W.beside world.old) (W.beside world.new) result }
+    ensures cause { IsCause (W.told world.old) (W.told world.new)
+        (W.beside world.old) (W.beside world.new) result }
 {
     let Ok(mut line) = LineBuffer::new(alloc) else {
         return Status::Memory;
@@ -68,8 +73,10 @@ fn run_new<W: Outside>(alloc: Global, blocks: u32, device: &str, world: &mut W) 
 
 // What the words ask for, up to the closing line.
 fn command<W: Outside>(alloc: Global, words: &[String], world: &mut W) -> Status
-    ensures runs { Commands (map string_bytes words.now) (W.told world.old) (W.told world.new) (W.beside world.old) (W.beside world.new) result }
-    ensures cause { IsCause (W.told world.old) (W.told world.new) (W.beside world.old) (W.beside world.new) result }
+    ensures runs { Commands (map string_bytes words.now) (W.told world.old) (W.told world.new)
+        (W.beside world.old) (W.beside world.new) result }
+    ensures cause { IsCause (W.told world.old) (W.told world.new)
+        (W.beside world.old) (W.beside world.new) result }
 {
     match read_words(alloc, words) {
         Ok(run) => run_new(alloc, run.blocks, run.device, world),
@@ -81,8 +88,12 @@ fn command<W: Outside>(alloc: Global, words: &[String], world: &mut W) -> Status
 // Puts the closing line of a status that has one. Where this fails, the status stays.
 fn close<W: Outside>(status: Status, world: &mut W)
     requires { IsUndamaged status }
-    ensures unfailed { status ≡ Status.Done → NoneFailed (W.beside world.old) (W.beside world.new) }
-    ensures closes { (closing : List Event) × Closes status (W.beside world.old).sink_faults (W.beside world.new).sink_faults closing × Goes closing [] (W.told world.old) (W.told world.new) (W.beside world.old) (W.beside world.new) }
+    ensures unfailed { status ≡ Status.Done →
+        NoneFailed (W.beside world.old) (W.beside world.new) }
+    ensures closes { (closing : List Event)
+        × Closes status (W.beside world.old).sink_faults (W.beside world.new).sink_faults closing
+        × Goes closing [] (W.told world.old) (W.told world.new)
+        (W.beside world.old) (W.beside world.new) }
 {
     let line: &[u8] = match status {
         Status::Done => return,
@@ -102,21 +113,34 @@ fn close<W: Outside>(status: Status, world: &mut W)
 /// script. The answer is the status of the process.
 pub fn arrakis<W: Outside>(alloc: Global, words: &[String], world: &mut W) -> Status
     // How it ends, and what the outside tells then: output, device events and script.
-    ensures does { Does (map string_bytes words.now) (W.told world.old) (W.told world.new) (W.beside world.old) (W.beside world.new) result }
+    ensures does { Does (map string_bytes words.now) (W.told world.old) (W.told world.new)
+        (W.beside world.old) (W.beside world.new) result }
 
     // When each status comes; want of memory may come before a device is made, also where the words are no command.
     ensures done { result ≡ Status.Done → NoneFailed (W.beside world.old) (W.beside world.new) }
-    ensures usage { result ≡ Status.Usage → (blocks : ℕ) (device : List ℕ) → IsRun (map string_bytes words.now) blocks device → ⊥ }
-    ensures no_command { ((blocks : ℕ) (device : List ℕ) → IsRun (map string_bytes words.now) blocks device → ⊥) → (result ≡ Status.Usage) ⊎ (result ≡ Status.Memory) }
-    ensures source { result ≡ Status.Source → Rose (W.beside world.old).source_faults (W.beside world.new).source_faults }
-    ensures sink { result ≡ Status.Sink → Rose (W.beside world.old).sink_faults (W.beside world.new).sink_faults }
-    ensures device { result ≡ Status.Device → Rose (W.beside world.old).attach_faults (W.beside world.new).attach_faults ⊎ Rose (W.told world.old).faults (W.told world.new).faults }
+    ensures usage { result ≡ Status.Usage → (blocks : ℕ) (device : List ℕ) →
+        IsRun (map string_bytes words.now) blocks device → ⊥ }
+    ensures no_command { ((blocks : ℕ) (device : List ℕ) → IsRun (map string_bytes words.now) blocks device → ⊥)
+        → (result ≡ Status.Usage) ⊎ (result ≡ Status.Memory) }
+    ensures source { result ≡ Status.Source →
+        Rose (W.beside world.old).source_faults (W.beside world.new).source_faults }
+    ensures sink { result ≡ Status.Sink →
+        Rose (W.beside world.old).sink_faults (W.beside world.new).sink_faults }
+    ensures device { result ≡ Status.Device →
+        Rose (W.beside world.old).attach_faults (W.beside world.new).attach_faults ⊎
+        Rose (W.told world.old).faults (W.told world.new).faults }
     ensures undamaged { (block : ℕ) → result ≡ Status.Damaged block → ⊥ }
     // Where nothing fails, the whole script is run, unless memory was wanting.
-    ensures complete { (size : ℕ) (device : List ℕ) → IsRun (map string_bytes words.now) size device → HasShortScript (W.beside world.old).script (W.beside world.new).script →
-        IsUntroubled (W.told world.old) (W.told world.new) (W.beside world.old) (W.beside world.new) → (result ≡ Status.Done) ⊎ (result ≡ Status.Memory) }
+    ensures complete { (size : ℕ) (device : List ℕ) →
+        IsRun (map string_bytes words.now) size device →
+        HasShortScript (W.beside world.old).script (W.beside world.new).script →
+        IsUntroubled (W.told world.old) (W.told world.new)
+        (W.beside world.old) (W.beside world.new) → (result ≡ Status.Done) ⊎
+        (result ≡ Status.Memory) }
     // And where no count of failed device calls rose, none of the run's failed.
-    ensures unfailed { result ≡ Status.Done → (Rose (W.told world.old).faults (W.told world.new).faults → ⊥) → HasNoFault (W.told world.new).history }
+    ensures unfailed { result ≡ Status.Done →
+        (Rose (W.told world.old).faults (W.told world.new).faults → ⊥) →
+        HasNoFault (W.told world.new).history }
 {
     let status = command(alloc, words, world);
     close(status, world);

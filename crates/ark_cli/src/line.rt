@@ -17,7 +17,8 @@ pub struct LineBuffer {
 // Writes a piece at a place, over what was there.
 fn put_at(bytes: &mut [u8], at: usize, piece: &[u8])
     requires fits { at + length piece.now ≤ length bytes.old }
-    ensures { bytes.new ≡ take at bytes.old ++ (piece.now ++ drop (at + length piece.now) bytes.old) }
+    ensures { bytes.new ≡
+        take at bytes.old ++ (piece.now ++ drop (at + length piece.now) bytes.old) }
 {
     bytes[at..at + piece.len()].copy_from_slice(piece);
 }

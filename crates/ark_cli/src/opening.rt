@@ -19,9 +19,11 @@ pub fn open_new<W: Outside>(
 ) -> Result<(), Status>
     requires low { 130 ≤ blocks }
     requires high { blocks ≤ 1048576 }
-    ensures opens { Opens blocks device.now (W.told world.old) (W.told world.new) (W.beside world.old) (W.beside world.new) result }
+    ensures opens { Opens blocks device.now (W.told world.old) (W.told world.new)
+        (W.beside world.old) (W.beside world.new) result }
     ensures unfailed { OnOk result (NoneFailed (W.beside world.old) (W.beside world.new)) }
-    ensures cause { IfErr result (λ e. IsCause (W.told world.old) (W.told world.new) (W.beside world.old) (W.beside world.new) e) }
+    ensures cause { IfErr result (λ e. IsCause (W.told world.old) (W.told world.new)
+        (W.beside world.old) (W.beside world.new) e) }
 {
     out.reply.say(Said::Ready(blocks, 0), 0);
     out.text.print(&out.reply);

@@ -7,7 +7,7 @@ ghost use Rattle.ark_script.specs.declared.said.Said.TheVariants as said;
 ghost use Rattle.ark_host.specs.Inside.{IsInside};
 ghost use Rattle.ark_host.specs.Time.{IsSound};
 ghost use Rattle.ark_cli.specs.Line.{kept};
-ghost use Rattle.ark_cli.specs.Session.{Acts, ServesLine, AnswersLine, Fed, Feeds, Finishes, Turns, Ran, is_done, piece_of, NoneFailed, IsFault, IsScriptEnd};
+ghost use Rattle.ark_cli.specs.Session.{WorldGoesBy, LineSaid, LinePut, FedSoFar, FeedsMore, FeedsLast, FetchesMore, ScriptRun, is_done, piece_of, NoneFailed, IsFault, IsScriptEnd};
 
 use crate::line::{LineBuffer, kept_of};
 use crate::reply::ReplyBuffer;
@@ -23,8 +23,9 @@ fn serve_line<D: Disk>(host: &mut Host, line: &[u8], out: &mut Reply, disk: &mut
     requires sound { IsSound host.old }
     requires inside { IsInside (D.told disk.old).blocks host.old }
     requires few { host.old.lines < 2 ^ 31 }
-    ensures serves { GoesBy D.goes disk.old disk.new (λ es. (whole : List ℕ) → line.now ≡ kept whole →
-        ServesLine host.old whole es host.new (D.told disk.new) out.new.said (bytes_shown out.new)) }
+    ensures serves { GoesBy D.goes disk.old disk.new (λ es. (whole : List ℕ) →
+        line.now ≡ kept whole →
+        LineSaid host.old whole es host.new (D.told disk.new) out.new.said (bytes_shown out.new)) }
     ensures said { IsSaid out.new.said }
     ensures sound { IsSound host.new }
     ensures inside { IsInside (D.told disk.old).blocks host.new }
@@ -58,10 +59,13 @@ fn answer_line<W: Outside>(
     requires sound { IsSound host.old }
     requires inside { IsInside (W.told world.old).blocks host.old }
     requires few { host.old.lines < 2 ^ 31 }
-    ensures answers { Acts (W.told world.old) (W.told world.new) (W.beside world.old) (W.beside world.new) (λ part. (whole : List ℕ) →
-        line.now ≡ kept whole → AnswersLine host.old whole part host.new (W.told world.new) (is_ok result)) }
+    ensures puts { WorldGoesBy (W.told world.old) (W.told world.new)
+        (W.beside world.old) (W.beside world.new) (λ part. (whole : List ℕ) →
+        line.now ≡ kept whole →
+        LinePut host.old whole part host.new (W.told world.new) (is_ok result)) }
     ensures unfailed { OnOk result (NoneFailed (W.beside world.old) (W.beside world.new)) }
-    ensures cause { OnErr result (Rose (W.beside world.old).sink_faults (W.beside world.new).sink_faults) }
+    ensures cause { OnErr result
+        (Rose (W.beside world.old).sink_faults (W.beside world.new).sink_faults) }
     ensures sound { IsSound host.new }
     ensures inside { IsInside (W.told world.old).blocks host.new }
     ensures counted { host.new.lines ≤ host.old.lines + 1 }
@@ -83,10 +87,15 @@ fn end_line<W: Outside>(
     requires sound { IsSound host.old }
     requires inside { IsInside (W.told world.old).blocks host.old }
     requires few { host.old.lines < 2 ^ 31 }
-    ensures feeds { Acts (W.told world.old) (W.told world.new) (W.beside world.old) (W.beside world.new) (λ more. (first : Host) (fed : List ℕ) (added : List Event) →
-        Fed first fed added host.old (W.told world.old) line.old → Feeds first fed (bytes.now ++ 10 ∷ []) added more host.new (W.told world.new) line.new (is_ok result)) }
+    ensures feeds { WorldGoesBy (W.told world.old) (W.told world.new)
+        (W.beside world.old) (W.beside world.new) (λ more. (first : Host) (fed : List ℕ)
+        (added : List Event) →
+        FedSoFar first fed added host.old (W.told world.old) line.old →
+        FeedsMore first fed (bytes.now ++ 10 ∷ []) added more host.new
+        (W.told world.new) line.new (is_ok result)) }
     ensures unfailed { OnOk result (NoneFailed (W.beside world.old) (W.beside world.new)) }
-    ensures cause { OnErr result (Rose (W.beside world.old).sink_faults (W.beside world.new).sink_faults) }
+    ensures cause { OnErr result
+        (Rose (W.beside world.old).sink_faults (W.beside world.new).sink_faults) }
     ensures sound { IsSound host.new }
     ensures inside { IsInside (W.told world.old).blocks host.new }
     ensures counted { host.new.lines ≤ host.old.lines + 1 }
@@ -113,11 +122,16 @@ fn run_piece<W: Outside>(
     requires sound { IsSound host.old }
     requires inside { IsInside (W.told world.old).blocks host.old }
     requires few { host.old.lines < 2 ^ 31 }
-    ensures feeds { Acts (W.told world.old) (W.told world.new) (W.beside world.old) (W.beside world.new) (λ more. (first : Host) (fed : List ℕ) (added : List Event) →
-        Fed first fed added host.old (W.told world.old) line.old → Feeds first fed (piece_of bytes.now result) added more host.new (W.told world.new) line.new (is_ok result)) }
+    ensures feeds { WorldGoesBy (W.told world.old) (W.told world.new)
+        (W.beside world.old) (W.beside world.new) (λ more. (first : Host) (fed : List ℕ)
+        (added : List Event) →
+        FedSoFar first fed added host.old (W.told world.old) line.old →
+        FeedsMore first fed (piece_of bytes.now result) added more host.new
+        (W.told world.new) line.new (is_ok result)) }
     ensures taken { IfOk result (λ n. (0 < n) × (n ≤ length bytes.now)) }
     ensures unfailed { OnOk result (NoneFailed (W.beside world.old) (W.beside world.new)) }
-    ensures cause { OnErr result (Rose (W.beside world.old).sink_faults (W.beside world.new).sink_faults) }
+    ensures cause { OnErr result
+        (Rose (W.beside world.old).sink_faults (W.beside world.new).sink_faults) }
     ensures sound { IsSound host.new }
     ensures inside { IsInside (W.told world.old).blocks host.new }
     ensures counted { host.new.lines ≤ host.old.lines + 1 }
@@ -145,10 +159,15 @@ fn run_bytes<W: Outside>(
     requires sound { IsSound host.old }
     requires inside { IsInside (W.told world.old).blocks host.old }
     requires few { host.old.lines + length bytes.now ≤ 2 ^ 31 }
-    ensures feeds { Acts (W.told world.old) (W.told world.new) (W.beside world.old) (W.beside world.new) (λ more. (first : Host) (fed : List ℕ) (added : List Event) →
-        Fed first fed added host.old (W.told world.old) line.old → Feeds first fed bytes.now added more host.new (W.told world.new) line.new (is_ok result)) }
+    ensures feeds { WorldGoesBy (W.told world.old) (W.told world.new)
+        (W.beside world.old) (W.beside world.new) (λ more. (first : Host) (fed : List ℕ)
+        (added : List Event) →
+        FedSoFar first fed added host.old (W.told world.old) line.old →
+        FeedsMore first fed bytes.now added more host.new (W.told world.new) line.new
+        (is_ok result)) }
     ensures unfailed { OnOk result (NoneFailed (W.beside world.old) (W.beside world.new)) }
-    ensures cause { OnErr result (Rose (W.beside world.old).sink_faults (W.beside world.new).sink_faults) }
+    ensures cause { OnErr result
+        (Rose (W.beside world.old).sink_faults (W.beside world.new).sink_faults) }
     ensures sound { IsSound host.new }
     ensures inside { IsInside (W.told world.old).blocks host.new }
     ensures counted { host.new.lines ≤ host.old.lines + length bytes.now }
@@ -170,10 +189,14 @@ fn finish<W: Outside>(
     requires sound { IsSound host.old }
     requires inside { IsInside (W.told world.old).blocks host.old }
     requires few { host.old.lines < 2 ^ 31 }
-    ensures finishes { Acts (W.told world.old) (W.told world.new) (W.beside world.old) (W.beside world.new) (λ more. (first : Host) (fed : List ℕ) (added : List Event) →
-        Fed first fed added host.old (W.told world.old) line.now → Finishes first fed added more (W.told world.new) (is_ok result)) }
+    ensures feeds_last { WorldGoesBy (W.told world.old) (W.told world.new)
+        (W.beside world.old) (W.beside world.new) (λ more. (first : Host) (fed : List ℕ)
+        (added : List Event) →
+        FedSoFar first fed added host.old (W.told world.old) line.now →
+        FeedsLast first fed added more (W.told world.new) (is_ok result)) }
     ensures unfailed { OnOk result (NoneFailed (W.beside world.old) (W.beside world.new)) }
-    ensures cause { OnErr result (Rose (W.beside world.old).sink_faults (W.beside world.new).sink_faults) }
+    ensures cause { OnErr result
+        (Rose (W.beside world.old).sink_faults (W.beside world.new).sink_faults) }
 {
     if line.bytes().is_empty() {
         return Ok(());
@@ -196,7 +219,8 @@ fn turn<W: Outside>(
     requires sound { IsSound host.old }
     requires inside { IsInside (W.told world.old).blocks host.old }
     requires few { host.old.lines + length chunk.old ≤ 2 ^ 31 }
-    ensures turns { Turns (length chunk.old) (W.told world.old) (W.told world.new) (W.beside world.old) (W.beside world.new) host.old host.new line.old line.new result }
+    ensures fetches { FetchesMore (length chunk.old) (W.told world.old) (W.told world.new)
+        (W.beside world.old) (W.beside world.new) host.old host.new line.old line.new result }
     ensures bound { IfOk result (λ n. n ≤ length chunk.old) }
     ensures unfailed { OnOk result (NoneFailed (W.beside world.old) (W.beside world.new)) }
     ensures cause { IfErr result (λ e. IsFault (W.beside world.old) (W.beside world.new) e) }
@@ -223,9 +247,15 @@ fn end_script<W: Outside>(
     requires sound { IsSound host.old }
     requires inside { IsInside (W.told world.old).blocks host.old }
     requires few { host.old.lines < 2 ^ 31 }
-    ensures finishes { Acts (W.told world.old) (W.told world.new) (W.beside world.old) (W.beside world.new) (λ more. (first : Host) (fed : List ℕ) (added : List Event) →
-        Fed first fed added host.old (W.told world.old) line.now → Finishes first fed added more (W.told world.new) (is_done result)) }
-    ensures cause { ((result ≡ Status.Done) × NoneFailed (W.beside world.old) (W.beside world.new)) ⊎ ((result ≡ Status.Sink) × Rose (W.beside world.old).sink_faults (W.beside world.new).sink_faults) }
+    ensures feeds_last { WorldGoesBy (W.told world.old) (W.told world.new)
+        (W.beside world.old) (W.beside world.new) (λ more. (first : Host) (fed : List ℕ)
+        (added : List Event) →
+        FedSoFar first fed added host.old (W.told world.old) line.now →
+        FeedsLast first fed added more (W.told world.new) (is_done result)) }
+    ensures cause { ((result ≡ Status.Done) ×
+        NoneFailed (W.beside world.old) (W.beside world.new)) ⊎
+        ((result ≡ Status.Sink) ×
+        Rose (W.beside world.old).sink_faults (W.beside world.new).sink_faults) }
 {
     match finish(host, line, out, world) {
         Ok(()) => Status::Done,
@@ -243,7 +273,8 @@ pub fn run_script<W: Outside>(
     requires sound { IsSound host.old }
     requires inside { IsInside (W.told world.old).blocks host.old }
     requires none { host.old.lines ≡ 0 }
-    ensures ran { Ran (W.told world.old) (W.told world.new) (W.beside world.old) (W.beside world.new) host.old line.old result }
+    ensures runs { ScriptRun (W.told world.old) (W.told world.new)
+        (W.beside world.old) (W.beside world.new) host.old line.old result }
     ensures cause { IsScriptEnd (W.beside world.old) (W.beside world.new) result }
 {
     let mut chunk = [0u8; 4096];

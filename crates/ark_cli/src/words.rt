@@ -16,7 +16,8 @@ pub struct NewRun<'a> {
 // The run that a task is, if the program runs it: a device that was there is not attached yet, and the other commands are not run.
 fn new_run(task: Task<'_>) -> Option<NewRun<'_>>
     ensures run { IfSome result (λ r. told task.entry ≡ run (Some r.blocks) r.device.now) }
-    ensures none { IfNone result ((blocks : ℕ) (device : List ℕ) → told task.entry ≡ run (Some blocks) device → ⊥) }
+    ensures none { IfNone result ((blocks : ℕ) (device : List ℕ) →
+        told task.entry ≡ run (Some blocks) device → ⊥) }
 {
     match task {
         Task::Run { new, device } => match new {
@@ -30,8 +31,10 @@ fn new_run(task: Task<'_>) -> Option<NewRun<'_>>
 
 /// The run that words ask for. `Usage` says that they ask for none, and `Memory` that memory ran out.
 pub fn read_words<'a>(alloc: Global, words: &'a [String]) -> Result<NewRun<'a>, WordsFault>
-    ensures run { IfOk result (λ r. IsRun (map string_bytes words.entry.now) r.blocks r.device.now) }
-    ensures usage { result ≡ Err WordsFault.Usage → (blocks : ℕ) (device : List ℕ) → IsRun (map string_bytes words.entry.now) blocks device → ⊥ }
+    ensures run { IfOk result (λ r. IsRun
+        (map string_bytes words.entry.now) r.blocks r.device.now) }
+    ensures usage { result ≡ Err WordsFault.Usage → (blocks : ℕ) (device : List ℕ) →
+        IsRun (map string_bytes words.entry.now) blocks device → ⊥ }
 {
     match ark_words::read_words(alloc, words) {
         Err(fault) => Err(fault),

@@ -11,3 +11,8 @@ IsSound host = (host.clock ≤ a_billion * host.lines) × (host.grants ≤ host.
 abbrev pub Counts : Host → Host → ℕ → ℕ → Type 0
 Counts old now ticks most =
     (now.clock ≡ old.clock + ticks) × (now.lines ≡ old.lines) × (old.grants ≤ now.grants) × (now.grants ≤ old.grants + most)
+
+-- A line let time go on by no more than a billion ticks, and made at most one grant. The step counts it.
+abbrev pub CountsLine : Host → Host → Type 0
+CountsLine old now =
+    (now.clock ≤ old.clock + a_billion) × (now.lines ≡ old.lines) × (old.grants ≤ now.grants) × (now.grants ≤ old.grants + 1)

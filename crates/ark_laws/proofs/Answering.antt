@@ -15,7 +15,8 @@ use Rattle.ark_machine.specs.Row.{Row, says, answer, unless_refused}
 use Rattle.ark_machine.specs.Network.{is_let_out}
 use Rattle.ark_machine.specs.Refused.{is_told_late, is_of_sending, reaps_first, may_fault}
 use Rattle.ark_laws.proofs.Early.{same_refusal, early_not_told}
-use Rattle.ark_laws.proofs.Steady.{is_plain, Leads}
+use Rattle.ark_laws.proofs.Steady.{Leads}
+use Rattle.ark_laws.proofs.Walk.{is_plain}
 
 -- only the move of a card sends, what a filter of the card lets out
 abbrev pub MaySend : Machine → Option Own → Line → List ℕ → Type 0
@@ -78,6 +79,17 @@ told_late c x h = by c.device_fault c.damaged h
 told_begins : (line : Line) (x : Refusal) → is_told_late x ≡ true → may_begin line x ≡ false → ⊥
 told_begins line x h e = false≢true (sym e ∙ rw h refl)
 
+-- a row that is refused before any device call
+pub early_row : (line : Line) (m : Machine) (own : Option Own) (c : Conditions) (x : Refusal) → early c ≡ Some x → IsRow line m own (says m (said.Refused x))
+early_row line m own c x is = record {
+  sent = λ h. absurd cc;
+  undelivered = λ b u h. absurd cc;
+  refused = λ y h no. ap (λ z. says m z) h;
+  told = λ y h late_one. absurd (early_not_told c x is (subst (λ z. is_told_late z ≡ true) (sym (same_refusal x y h)) late_one));
+  paced = λ t h. h;
+  unmade = λ no. inr refl;
+}
+
 -- a row that answers by its conditions
 pub of_answer : (line : Line) (m : Machine) (own : Option Own) (c : Conditions) (row : Row) → (late c ≡ None) ⊎ (may_fault line ≡ true) → is_plain row.said ≡ true → Leads m row.machine
     → (m.made ≡ false → early c ≡ None → (row.machine.made ≡ true) ⊎ (row.machine ≡ m)) → IsRow line m own (answer m c row)
@@ -89,14 +101,7 @@ of_answer line m own c row faults plain lead un = by (early c) (late c) refl ref
     may (inr yet) also = yet
 
     by : (first then : Option Refusal) → early c ≡ first → late c ≡ then → IsRow line m own (unless_refused first then m row)
-    by (Some x) then is also = record {
-      sent = λ h. absurd cc;
-      undelivered = λ b u h. absurd cc;
-      refused = λ y h no. ap (λ z. says m z) h;
-      told = λ y h late_one. absurd (early_not_told c x is (subst (λ z. is_told_late z ≡ true) (sym (same_refusal x y h)) late_one));
-      paced = λ t h. h;
-      unmade = λ no. inr refl;
-    }
+    by (Some x) then is also = early_row line m own c x is
     by None (Some x) is also = record {
       sent = λ h. absurd cc;
       undelivered = λ b u h. absurd cc;

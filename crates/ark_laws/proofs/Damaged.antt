@@ -1,7 +1,7 @@
 -- A line that is refused for a damaged list leaves the system as it was.
-use Rattle.std.proofs.Common.{◌≡◌, ℕ, Bool, true, false, List, refl, sym, ◌∙◌, ap}
+use Rattle.std.proofs.Common.{◌≡◌, ℕ, Bool, true, false, List, refl, sym, ◌∙◌, ap, []}
 use Rattle.std.proofs.lemmas.Bool.{false≢true}
-use Rattle.std.specs.Prelude.{Option, Some, None, is_some}
+use Rattle.std.specs.Prelude.{Option, Some, None, is_some, unwrap_or}
 use Rattle.ark_base.specs.Conditions.{when, when_some}
 use Rattle.ark_base.specs.declared.refusal.Refusal.{Refusal}
 use Rattle.ark_base.specs.declared.refusal.Refusal.TheVariants as r
@@ -14,12 +14,13 @@ use Rattle.ark_machine.specs.Logs.{damage_of, found_in}
 use Rattle.ark_machine.specs.Plane.{recorded}
 use Rattle.ark_machine.specs.Granting.{plane_after}
 use Rattle.ark_machine.specs.Step.{step}
-use Rattle.ark_machine.specs.System.{System, machine_of, set_machine, owner, owned_turn, line_turn}
+use Rattle.ark_machine.specs.System.{System, machine_of, set_machine, line_turn}
 use Rattle.ark_machine.specs.Refused.{may_leave, may_fault}
 use Rattle.ark_laws.proofs.Listed.{set_same}
-use Rattle.ark_laws.proofs.Rows.{row_is}
+use Rattle.ark_laws.proofs.Rows.{row_is, arrive_is}
 use Rattle.ark_laws.proofs.Faults.{late_machine}
-use Rattle.ark_laws.proofs.Refusing.{common_spared, same_system, refused_spared}
+use Rattle.ark_laws.proofs.Turns.{each_turn}
+use Rattle.ark_laws.proofs.Refusing.{same_system, refused_spared}
 
 not_damaged : (b : Bool) (n : ℕ) → when b r.DeviceFault None ≡ Some (r.Damaged n) → ⊥
 not_damaged true n h = cc
@@ -54,14 +55,16 @@ damaged_left m line g n h = calling_left m line g n ((row_is m line g).told (r.D
 
 pub damaged_unchanged : (s : System) (line : Line) (ends : List Ended) (memory : Bool) (n : ℕ) → (line_turn s line ends memory).said ≡ said.Refused (r.Damaged n)
     → (line_turn s line ends memory).after ≡ s
-damaged_unchanged s line ends memory n h = by (owner line) h
-  where
-    by : (o : Option (List ℕ)) → (owned_turn s line ends memory o).said ≡ said.Refused (r.Damaged n) → (owned_turn s line ends memory o).after ≡ s
-    by None e = (common_spared s line (r.Damaged n) e).0
-    by (Some a) e =
-        let m : Machine = machine_of s a in
-        same_system s _ _ (ap (λ x. plane_after s.plane m line x) e)
-        (ap (λ k. set_machine s.machines a k) (damaged_left m line (recorded s.plane line ends memory) n e) ∙ set_same s.machines s.now a)
+damaged_unchanged s line ends memory n h = each_turn (λ t. t.said ≡ said.Refused (r.Damaged n) → t.after ≡ s) s line ends memory (record {
+  own = λ a is e.
+      let m : Machine = machine_of s a in
+      same_system s _ _ (ap (λ x. plane_after s.plane m line x) e)
+      (ap (λ k. set_machine s.machines a k) (damaged_left m line (recorded s.plane line ends memory) n e) ∙ set_same s.machines s.now a);
+  ticks = λ n is e. absurd cc;
+  given = λ own is e. absurd cc;
+  arrives = λ frame own f is addressed found e. absurd ((arrive_is f.owner (machine_of s f.owner) (unwrap_or f.card []) frame).unrefused _ e);
+  quiet = λ reply q e. refl;
+}) h
 
 -- a refused line leaves the system as it was, but for the refusals that may leave something
 pub refused_unchanged : (s : System) (line : Line) (ends : List Ended) (memory : Bool) (x : Refusal) → (line_turn s line ends memory).said ≡ said.Refused x → may_leave line x ≡ false

@@ -22,7 +22,7 @@ use Rattle.ark_machine.specs.Step.{step}
 use Rattle.ark_machine.specs.System.{System, machine_of, owner, owned_turn, line_turn}
 use Rattle.ark_machine.specs.Refused.{is_told_late, is_gain, is_look, labels}
 use Rattle.ark_laws.proofs.Early.{same_refusal, early_not_told}
-use Rattle.ark_laws.proofs.Steady.{is_plain}
+use Rattle.ark_laws.proofs.Walk.{is_plain}
 use Rattle.ark_laws.proofs.Answering.{plain_not_refused}
 use Rattle.ark_laws.proofs.Privacy.{own_machine}
 

@@ -1,43 +1,32 @@
 -- Every line keeps the frames that are posted to transmit whole in their buffers, and no label stands twice after it.
-use Rattle.std.proofs.Common.{◌≡◌, ◌≤◌, ◌⊎◌, inl, inr, ℕ, zero, suc, Bool, true, false, ◌&&◌, ◌||◌, List, [], ◌∷◌, ◌++◌, length, take, refl, sym, ◌∙◌, ap, subst, arith, cond}
+use Rattle.std.proofs.Common.{◌≡◌, ◌≤◌, ◌⊎◌, inl, inr, ℕ, zero, suc, Bool, true, false, ◌&&◌, ◌||◌, List, [], ◌∷◌, ◌++◌, length, refl, sym, ◌∙◌, ap, subst, arith, cond}
 use Rattle.std.proofs.lemmas.Bool.{false≢true}
 use Rattle.std.proofs.lemmas.Bool.Decides.{nat_tests}
 use Rattle.std.proofs.lemmas.List.Elements.{Contains-append_cases}
-use Rattle.std.specs.Prelude.{Option, Some, None, is_some, is_none, option_map, option_and_then, find, unwrap_or, bytes_eq, nat_lt, Contains, Result, Ok, Err}
+use Rattle.std.specs.Prelude.{Option, Some, None, option_map, option_and_then, find, unwrap_or, bytes_eq, nat_lt, Contains}
 use Rattle.std.specs.List.{AllByRecursion, list_any}
 use Rattle.ark_base.specs.Conditions.{Conditions, early, late}
 use Rattle.ark_base.specs.declared.kind.Kind.{Kind}
 use Rattle.ark_base.specs.declared.kind.Kind.TheVariants as kind
-use Rattle.ark_base.specs.declared.kind.Outcome.{Outcome}
 use Rattle.ark_base.specs.declared.refusal.Refusal.{Refusal}
 use Rattle.ark_base.specs.declared.refusal.Refusal.TheVariants as r
-use Rattle.ark_packet.specs.Frame.{packet_in}
 use Rattle.ark_packet.specs.Udp as udp
 use Rattle.ark_packet.specs.Udp.{datagram_in}
-use Rattle.ark_packet.specs.declared.own.Own.{Own}
-use Rattle.ark_packet.specs.declared.udp.Bad.{Bad}
-use Rattle.ark_filters.specs.declared.filter.Direction.{Direction}
-use Rattle.ark_filters.specs.declared.filter.Direction.TheVariants as direction
 use Rattle.ark_filters.specs.declared.filter.Filter.{Filter}
-use Rattle.ark_vic.specs.declared.door.Counts.{Counts}
 use Rattle.ark_table.specs.Slots.{Slot}
 use Rattle.ark_script.specs.Line as w
 use Rattle.ark_script.specs.Line.{Line}
 use Rattle.ark_script.specs.declared.step.Side.{Side}
 use Rattle.ark_script.specs.declared.step.Side.TheVariants as side
-use Rattle.ark_machine.specs.Bytes.{padded}
 use Rattle.ark_machine.specs.Objects
 use Rattle.ark_machine.specs.Objects.{Object, Vnic, Place, Paced, Job, Datagram, as_filter, is_buffer}
-use Rattle.ark_machine.specs.Machine.{Machine, Held, unmade, at, object_at, vnic_at, door_at, filter_at, serial_at, bytes_at, is_so, with_object, each_object, without, with_vnic, with_log, room_for}
-use Rattle.ark_machine.specs.Row.{Row, Given, Ended, synced_by, has_fault, is_sync, answer, unless_refused}
+use Rattle.ark_machine.specs.Machine.{Machine, Held, unmade, at, object_at, filter_at, serial_at, bytes_at, is_so, each_object, without, with_vnic}
+use Rattle.ark_machine.specs.Row.{Row, Given, Ended, synced_by, is_sync, answer, unless_refused}
 use Rattle.ark_machine.specs.Control.{lets_go}
-use Rattle.ark_machine.specs.Areas.{new_area, grown, raw_written, block_written}
-use Rattle.ark_machine.specs.Buffers.{place_has, has_buffer, is_lent, with_new_buffer}
-use Rattle.ark_machine.specs.Rates.{no_rings, pace_of, with_pace, with_door}
-use Rattle.ark_machine.specs.Cards.{reap_oldest, unreaped_at}
-use Rattle.ark_machine.specs.Network.{bytes_in, is_socketed, posting_rx, posting_tx, take_received, take_sent, take_oldest, received_at, sent_at, assigned_to, arrive}
-use Rattle.ark_machine.specs.Sockets.{socketed_at, with_socket_card, card_places, card_at, tx_reaped, sent_reaped, posted_at, framed, frame_frames, has_port, delivered, with_datagram, with_received, all_received, rx_reaped, unreaped_rx, pulled, give_oldest, datagrams_at, max_datagrams}
-use Rattle.ark_machine.specs.Logs.{opening, opened_machine, found_in, damage_of, closing, card_of}
+use Rattle.ark_machine.specs.Buffers.{place_has, has_buffer, is_lent}
+use Rattle.ark_machine.specs.Rates.{no_rings, pace_of, with_pace}
+use Rattle.ark_machine.specs.Network.{posting_tx, assigned_to, arrive}
+use Rattle.ark_machine.specs.Sockets.{posted_at, has_port, delivered, max_datagrams}
 use Rattle.ark_machine.specs.Step.{step, ticked}
 use Rattle.ark_machine.specs.System.{System, fresh_system, listed_machine, machine_of, line_turn}
 use Rattle.ark_machine.specs.Private.{Play, Input, asks, comes, passes, inputs_of, private_machine}
@@ -45,12 +34,13 @@ use Rattle.ark_machine.specs.Start.{view, stored_area, with_slot, with_stored, a
 use Rattle.ark_machine.specs.Frames.{IsThere, FramesThere}
 use Rattle.ark_machine.specs.Labels.{AreLabelled}
 use Rattle.ark_machine.proofs.Grants.{or_false, clash}
-use Rattle.ark_laws.proofs.Labelled.{none_held, set_none, without_once}
+use Rattle.ark_laws.proofs.Labelled.{none_held, without_once}
 use Rattle.ark_laws.proofs.Listed.{same_bytes, bytes_eq-same}
 use Rattle.ark_laws.proofs.Privacy.{machine_private}
 use Rattle.ark_laws.proofs.Granted.{when_none, when_some_none, kind_and_limit}
-use Rattle.ark_laws.proofs.Growing.{size_in, frames_in, Grows, grown_there, same_grows, then_grows, cond_grows, plain_grows, door_is, vsic_grows, log_grows, raw_grows, socket_grows, vnic_grows, each_grows, synced_grows, new_there, new_grows, without_grows, without_at}
-use Rattle.ark_laws.proofs.FramesThere.{bytes_grow, opened_grows, polled_grows, settles_grow, card_grows, arrive_grows}
+use Rattle.ark_laws.proofs.Growing.{size_in, frames_in, Grows, grown_there, same_grows, then_grows, plain_grows, door_is, vsic_grows, socket_grows, vnic_grows, each_grows, synced_grows, new_there, new_grows, without_grows, without_at}
+use Rattle.ark_laws.proofs.FramesThere.{grows_walk, card_grows, arrive_grows}
+use Rattle.ark_laws.proofs.RowWalk.{RowWalk, is_new, row_goes}
 
 -- Rows.
 
@@ -106,11 +96,6 @@ asked_row m c row keeps = answer_keeps m c row (λ is. let p = named_range_and_l
 named_row : (m : Machine) (c : Conditions) (row : Row) → (c.name_taken ≡ false → Grows m row.machine) → Keeps m (answer m c row).machine
 named_row m c row grows = answer_keeps m c row (λ is. grown_keeps (grows (named_range_and_lent c is).0))
 
-area_frames : (k : Kind) (n : ℕ) → frames_in (Some (new_area k n)) ≡ []
-area_frames kind.Raw n = refl
-area_frames kind.Log n = refl
-area_frames kind.Queue n = refl
-
 synced_after : {m k : Machine} (ends : List Ended) → Grows m k → Grows m (synced_by ends k)
 synced_after {m = m} {k = k} ends g = then_grows g (synced_grows (list_any (λ e. e.ok && is_sync e.verb) ends) k)
 
@@ -133,11 +118,6 @@ pace_grows : (m : Machine) (v : List ℕ) (q : Side) (p : Option Paced) → Grow
 pace_grows m v side.Rx p = vnic_grows m v _ (λ x e q has. inl has)
 pace_grows m v side.Tx p = vnic_grows m v _ (λ x e q has. inl has)
 pace_grows m v side.Io p = vsic_grows m v _
-
-door_side_grows : (m : Machine) (v : List ℕ) (q : Side) (d : Option (List ℕ)) → Grows m (with_door m v q d)
-door_side_grows m v side.Rx d = vnic_grows m v _ (λ x e q has. inl has)
-door_side_grows m v side.Tx d = vnic_grows m v _ (λ x e q has. inl has)
-door_side_grows m v side.Io d = vsic_grows m v _
 
 -- what is dropped has no bytes
 no_bytes : (o : Option Object) → is_so is_buffer o ≡ false → size_in o ≡ 0
@@ -169,30 +149,6 @@ lets_go_frames x n _ = refl
 drop_grows : (m : Machine) (x : List ℕ) (ends : List Ended) → is_so is_buffer (object_at m x) ≡ false → Grows m (synced_by ends (each_object (lets_go x (serial_at m x)) (without m x)))
 drop_grows m x ends other =
     synced_after ends (then_grows (without_grows m x (no_bytes (object_at m x) other)) (each_grows (without m x) (lets_go x (serial_at m x)) (lets_go_size x (serial_at m x)) (lets_go_frames x (serial_at m x))))
-
-buffer_new_grows : (m : Machine) (b : List ℕ) (len : ℕ) (o : Option ℕ) → at m b ≡ None → Grows m (with_new_buffer m b len o)
-buffer_new_grows m b len None free = same_grows m
-buffer_new_grows m b len (Some start) free = new_grows m b _ refl free
-
-block_grows : (m : Machine) (s : List ℕ) (off : ℕ) (block : List ℕ) (es : List Ended) → Grows m (block_written m s off block es)
-block_grows m s off block [] = same_grows m
-block_grows m s off block (e ∷ es) = raw_grows m s (raw_written off block e.took)
-
-reap_grows : (m : Machine) (v : List ℕ) (us : List (Job × Outcome)) → Grows m (reap_oldest m v us).machine
-reap_grows m v [] = same_grows m
-reap_grows m v (u ∷ us) = vsic_grows m v _
-
-received_grow : (m : Machine) (v : List ℕ) (us : List (Place × ℕ)) → Grows m (take_received m v us).machine
-received_grow m v [] = same_grows m
-received_grow m v (u ∷ us) = vnic_grows m v _ (λ x e q has. inl has)
-
-sent_grow : (m : Machine) (v : List ℕ) (us : List (Place × Outcome)) → Grows m (take_sent m v us).machine
-sent_grow m v [] = same_grows m
-sent_grow m v (u ∷ us) = vnic_grows m v _ (λ x e q has. inl has)
-
-oldest_grows : (d : Direction) (m : Machine) (v : List ℕ) → Grows m (take_oldest d m v).machine
-oldest_grows direction.Rx m v = received_grow m v (received_at m v)
-oldest_grows direction.Tx m v = sent_grow m v (sent_at m v)
 
 -- `free`: a buffer that no descriptor has
 
@@ -265,30 +221,6 @@ posted_grows : (m : Machine) (v frame : List ℕ) (o : Option ℕ) → Grows m (
 posted_grows m v frame None = same_grows m
 posted_grows m v frame (Some s) = vnic_grows m v _ (λ x e q has. posted_one m x (Objects.taken (record { start = s; bytes = frame }), length frame) q (omega arith) has)
 
--- sockets
-
-socketed_grows : (m : Machine) (v : List ℕ) (o : Option (List ℕ)) → Grows m (socketed_at m v o)
-socketed_grows m v None = same_grows m
-socketed_grows m v (Some ss) = vnic_grows m v _ (λ x e q has. inl has)
-
-socket_card_grows : (m : Machine) (v : List ℕ) → Grows m (with_socket_card m v)
-socket_card_grows m v = cond_grows (is_socketed m v) (same_grows m) (socketed_grows m v (card_places m v))
-
-vnic_none : (m : Machine) (v : List ℕ) (f : Vnic → Vnic) (k : List ℕ) → at m k ≡ None → at (with_vnic m v f) k ≡ None
-vnic_none m v f k none = by (vnic_at m v)
-  where
-    by : (o : Option Vnic) → at (unwrap_or (option_map (λ x. with_object m v (Objects.vnic (f x))) o) m) k ≡ None
-    by None = none
-    by (Some x) = set_none v (Objects.vnic (f x)) k m.held none
-
-socket_card_none : (m : Machine) (v k : List ℕ) → at m k ≡ None → at (with_socket_card m v) k ≡ None
-socket_card_none m v k none = by (is_socketed m v) (card_places m v)
-  where
-    by : (t : Bool) (o : Option (List ℕ)) → at (cond t m (socketed_at m v o)) k ≡ None
-    by true o = none
-    by false None = none
-    by false (Some ss) = vnic_none m v _ k none
-
 delivered_size : (v : List ℕ) (d : udp.Datagram) (o : Object) → size_in (Some (delivered v d o)) ≡ size_in (Some o)
 delivered_size v d (Objects.socket k) = elim (has_port v d.to_port (Objects.socket k) && nat_lt (length k.datagrams) max_datagrams) as (λ t. size_in (Some (cond t (Objects.socket (record k { datagrams = k.datagrams ++ (record { ip = d.from; port = d.from_port; payload = d.payload }) ∷ [] })) (Objects.socket k))) ≡ 0) [ true ↦ refl | false ↦ refl ]
 delivered_size v d (Objects.buffer b) = refl
@@ -299,90 +231,41 @@ delivered_frames v d (Objects.socket k) = elim (has_port v d.to_port (Objects.so
 delivered_frames v d (Objects.vnic x) = refl
 delivered_frames v d _ = refl
 
-datagram_grows : (m : Machine) (v : List ℕ) (own : Own) (x : Result udp.Datagram Bad) → Grows m (with_datagram m v own x)
-datagram_grows m v own (Err e) = same_grows m
-datagram_grows m v own (Ok d) = cond_grows (bytes_eq own.ip d.to) (each_grows m (delivered v d) (delivered_size v d) (delivered_frames v d)) (same_grows m)
+new_frames : (o : Object) → is_new o ≡ true → frames_in (Some o) ≡ []
+new_frames (Objects.raw r) h = refl
+new_frames (Objects.log g) h = refl
+new_frames (Objects.vsic v) h = refl
+new_frames (Objects.vnic v) h = absurd (false≢true h)
+new_frames (Objects.filter f c) h = absurd (false≢true h)
+new_frames (Objects.door c) h = refl
+new_frames (Objects.rate q b) h = refl
+new_frames (Objects.buffer b) h = refl
+new_frames (Objects.socket k) h = refl
 
-all_received_grows : (m : Machine) (v : List ℕ) (own : Own) (us : List (Place × ℕ)) → Grows m (all_received m v own us)
-all_received_grows m v own [] = same_grows m
-all_received_grows m v own (u ∷ us) =
-    let frame : List ℕ = take u.1 (bytes_in m u.0) in
-    then_grows (datagram_grows m v own (datagram_in (packet_in frame))) (all_received_grows (with_received m v own frame) v own us)
-
-pulled_grows : (m : Machine) (v : List ℕ) (o : Option Own) → Grows m (pulled m v o)
-pulled_grows m v None = same_grows m
-pulled_grows m v (Some own) = then_grows (all_received_grows m v own (unreaped_rx m v)) (vnic_grows (all_received m v own (unreaped_rx m v)) v rx_reaped (λ x e q has. inl has))
-
-give_grows : (m : Machine) (k : List ℕ) (ds : List Datagram) → Grows m (give_oldest m k ds).machine
-give_grows m k [] = same_grows m
-give_grows m k (d ∷ ds) = socket_grows m k _
-
-look_grows : (m : Machine) (d : List ℕ) → is_none (door_at m d) ≡ false → Grows m (with_object m d (Objects.door no_rings))
-look_grows m d has = by (door_at m d) refl has
-  where
-    by : (o : Option Counts) → door_at m d ≡ o → is_none o ≡ false → Grows m (with_object m d (Objects.door no_rings))
-    by None e lacks = absurd (false≢true (sym lacks))
-    by (Some c) e lacks = plain_grows m d (Objects.door no_rings) (Objects.door c) (door_is (object_at m d) c e) refl refl
-
-opened_machine_grows : (m : Machine) (s v : List ℕ) (g : Given) → Grows m (opened_machine m s v g)
-opened_machine_grows m s v g =
-    cond_grows (has_fault g.ended) (synced_after g.ended (same_grows m)) (cond_grows (is_some (damage_of (found_in _))) (same_grows m)
-    (synced_after g.ended (then_grows (log_grows m s (opening v (room_for m 1))) (vsic_grows (with_log m s (opening v (room_for m 1))) v _))))
+grows_rows : RowWalk Grows
+grows_rows = record {
+  walk = grows_walk;
+  created = λ m l o free fresh. new_grows m l o (new_frames o fresh) (none_held (at m l) free);
+  vnic = λ m v f rx tx posts. vnic_grows m v f (λ x e q has. inl (subst (λ (ps : List (Place × ℕ)). Contains ps q) (posts x) has));
+  paces = λ m v q o. pace_grows m v q (pace_of m o);
+  socket = socket_grows;
+  delivers = λ m v d. each_grows m (delivered v d) (delivered_size v d) (delivered_frames v d);
+  sends = posted_grows;
+  looks = λ m d c is. plain_grows m d (Objects.door no_rings) (Objects.door c) (door_is (object_at m d) c is) refl refl;
+}
 
 -- the row of every line
 row_keeps : (m : Machine) (line : Line) (g : Given) → Keeps m (step m line g).machine
 unfolding step
 row_keeps m (w.app a x1) g = answer_keeps m _ _ (λ is. record { frames = λ h. h; labels = λ h. h })
-row_keeps m (w.vsic a x1 x2) g = named_row m _ _ (λ name. new_grows m x1 _ refl (none_held (at m x1) name))
 row_keeps m (w.vnic a x1 x2 x3) g = named_row m _ _ (λ name. new_grows m x1 _ refl (none_held (at m x1) name))
-row_keeps m (w.vsa a x1 x2 x3) g = named_row m _ _ (λ name. synced_after g.ended (cond_grows (has_fault g.ended) (same_grows m) (new_grows m x1 (new_area x3 x2) (area_frames x3 x2) (none_held (at m x1) name))))
-row_keeps m (w.grow a x1 x2) g = grown_row m _ _ (synced_after g.ended (cond_grows (has_fault g.ended) (same_grows m) (raw_grows m x1 (grown x2))))
-row_keeps m (w.bind a x1 x2) g = grown_row m _ _ (vsic_grows m x1 _)
-row_keeps m (w.unbind a x1 x2) g = grown_row m _ _ (vsic_grows m x1 _)
 row_keeps m (w.filter a x1 x2) g = named_row m _ _ (λ name. new_grows m x1 _ refl (none_held (at m x1) name))
 row_keeps m (w.assign a x1 x2) g = grown_row m _ _ (assigned_grows m x1 x2)
-row_keeps m (w.rate a x1 x2 x3) g = named_row m _ _ (λ name. new_grows m x1 _ refl (none_held (at m x1) name))
-row_keeps m (w.pace a x1 x2 x3) g = grown_row m _ _ (pace_grows m x1 x3 (pace_of m x2))
-row_keeps m (w.door a x1) g = named_row m _ _ (λ name. new_grows m x1 _ refl (none_held (at m x1) name))
-row_keeps m (w.watch a x1 x2 x3) g = grown_row m _ _ (door_side_grows m x1 x3 x2)
 row_keeps m (w.drop a x) g = asked_row m _ _ (λ kind range lent. grown_keeps (drop_grows m x g.ended kind))
-row_keeps m (w.buf a x1 x2) g = named_row m _ _ (λ name. buffer_new_grows m x1 x2 _ (none_held (at m x1) name))
-row_keeps m (w.fill a x1 x2 x3) g = grown_row m _ _ (bytes_grow m x1 x2 x3)
-row_keeps m (w.show a x1 x2 x3) g = answer_keeps m _ _ (λ is. kept_same m)
-row_keeps m (w.copy a x1 x2 x3) g = grown_row m _ _ (bytes_grow m x2 0 (take x3 (bytes_at m x1)))
 row_keeps m (w.free a x1) g = asked_row m _ _ (λ kind range lent. record { frames = free_there m x1 lent; labels = λ once. without_once x1 m.held once })
-row_keeps m (w.peek a x1 x2) g = answer_keeps m _ _ (λ is. kept_same m)
-row_keeps m (w.poke a x1 x2 x3) g = grown_row m _ _ (block_grows m x1 x2 (padded x3) g.ended)
-row_keeps m (w.get a x1 x2 x3 x4 x5) g = grown_row m _ _ (vsic_grows m x1 _)
-row_keeps m (w.put a x1 x2 x3 x4 x5) g = grown_row m _ _ (vsic_grows m x1 _)
-row_keeps m (w.flush a x1) g = grown_row m _ _ (vsic_grows m x1 _)
-row_keeps m (w.reap a x1) g = grown_row m _ _ (reap_grows m x1 (unreaped_at m x1))
-row_keeps m (w.post a x1 x2) g = grown_row m _ _ (vnic_grows m x1 (posting_rx (Objects.named x2)) (λ x e q has. inl has))
 row_keeps m (w.send a x1 x2 x3) g = asked_row m _ _ (λ kind range lent. grown_keeps (send_grows m x1 x2 x3 range))
-row_keeps m (w.take a x1 x2) g = grown_row m _ _ (oldest_grows x2 m x1)
-row_keeps m (w.sock a x1 x2 x3) g = named_row m _ _ (λ name. then_grows (socket_card_grows m x2) (new_grows (with_socket_card m x2) x1 _ refl (socket_card_none m x2 x1 (none_held (at m x1) name))))
-row_keeps m (w.sendto a k ip port payload) g =
-    let n : Machine = sent_reaped m k in
-    answer_keeps m _ _ (λ is. then_keeps (grown_keeps (vnic_grows m (card_at m k) tx_reaped (λ x e q has. inl has)))
-    (grown_row n _ _ (posted_grows n (card_at n k) (framed n k g.own ip port payload) (room_for n (frame_frames payload)))))
-row_keeps m (w.recv a x1) g =
-    let k : Machine = pulled m (card_at m x1) g.own in
-    grown_row m _ _ (then_grows (pulled_grows m (card_at m x1) g.own) (give_grows k x1 (datagrams_at k x1)))
-row_keeps m (w.look a x1) g = asked_row m _ _ (λ kind range lent. grown_keeps (look_grows m x1 kind))
-row_keeps m (w.log a x1 x2) g = grown_row m _ _ (opened_machine_grows m x1 x2 g)
-row_keeps m (w.queue a x1 x2) g = grown_row m _ _ (opened_machine_grows m x1 x2 g)
-row_keeps m (w.append a x1 x2) g = grown_row m _ _ (opened_grows m x1 _)
-row_keeps m (w.push a x1 x2) g = grown_row m _ _ (opened_grows m x1 _)
-row_keeps m (w.trim a x1 x2) g = grown_row m _ _ (opened_grows m x1 _)
-row_keeps m (w.pop a x1) g = grown_row m _ _ (opened_grows m x1 _)
-row_keeps m (w.walk a x1 x2) g = answer_keeps m _ _ (λ is. kept_same m)
-row_keeps m (w.poll a x1) g = grown_row m _ _ (polled_grows m x1)
-row_keeps m (w.settle a x1) g = grown_row m _ _ (settles_grow m g.ended x1)
-row_keeps m (w.close a x1) g = grown_row m _ _ (then_grows (log_grows m x1 closing) (vsic_grows (with_log m x1 closing) (card_of m x1) _))
 row_keeps m (w.dev a x1) g = grown_row m _ _ (card_grows m x1 g)
-row_keeps m (w.nic own) g = kept_same m
-row_keeps m (w.wire frame) g = kept_same m
-row_keeps m (w.tick n) g = kept_same m
+row_keeps m line g = grown_keeps (row_goes Grows grows_rows m line g refl)
 
 -- Systems.
 

@@ -18,7 +18,8 @@ use Rattle.ark_machine.specs.Machine.{Machine, vnic_at}
 use Rattle.ark_machine.specs.Row.{Ended}
 use Rattle.ark_machine.specs.Rates.{passed}
 use Rattle.ark_machine.specs.Plane.{LiveFilter, is_receive, recorded}
-use Rattle.ark_machine.specs.System.{System, machine_of, owner, takes, quiet_turn, nic_turn, taken_turn, wire_turn, common_turn, owned_turn, line_turn}
+use Rattle.ark_machine.specs.Network.{arrive}
+use Rattle.ark_machine.specs.System.{System, machine_of, takes, quiet_turn, line_turn, arrival_turn}
 use Rattle.ark_machine.specs.Built.{turn, is_built, so_far}
 use Rattle.ark_machine.specs.Follow.{ends_of}
 use Rattle.ark_machine.specs.Replies.{turn_for, has_lacked, Answers}
@@ -30,6 +31,7 @@ use Rattle.ark_laws.proofs.Rows.{row_is, within_of, arrive_is}
 use Rattle.ark_laws.proofs.Letting.{sent_counted, sends_by_card}
 use Rattle.ark_laws.proofs.Sent.{machine_paced, line_sends, line_paced}
 use Rattle.ark_laws.proofs.Texts.{sent_letter, text_sent, delivered_letters, text_delivered}
+use Rattle.ark_laws.proofs.Turns.{each_turn, quiet_not_delivered}
 
 -- Frames that go out.
 
@@ -82,10 +84,9 @@ card_is : (o : Option (List ℕ)) → is_some o ≡ true → o ≡ Some (unwrap_
 card_is None h = absurd (false≢true h)
 card_is (Some v) h = refl
 
-taken_delivered : (s : System) (frame : List ℕ) (own : Own) (o : Option LiveFilter) → StandsPaced s → s.plane.own ≡ Some own → find (λ f. takes own frame f) s.plane.filters ≡ o
-    → (b u : List ℕ) → (taken_turn s frame o).said ≡ said.Delivered b u → IsLetIn s b u frame
-taken_delivered s frame own None paced addressed is b u h = absurd cc
-taken_delivered s frame own (Some f) paced addressed is b u h =
+arrival_delivered : (s : System) (frame : List ℕ) (own : Own) (f : LiveFilter) → StandsPaced s → s.plane.own ≡ Some own → find (λ f. takes own frame f) s.plane.filters ≡ Some f
+    → (b u : List ℕ) → (arrival_turn s f.owner (arrive f.owner (machine_of s f.owner) (unwrap_or f.card []) frame)).said ≡ said.Delivered b u → IsLetIn s b u frame
+arrival_delivered s frame own f paced addressed is b u h =
     let a : List ℕ = f.owner in
     let v : List ℕ = unwrap_or f.card [] in
     let row = arrive_is a (machine_of s a) v frame in
@@ -99,27 +100,15 @@ taken_delivered s frame own (Some f) paced addressed is b u h =
       paced = subst (λ x. FrameWithin (rx_pace_at (machine_of s x) u) s.now frame) (sym d.0) (subst (λ x. FrameWithin (rx_pace_at (machine_of s a) x) s.now frame) (sym d.1) d.2);
     }
 
-wire_delivered : (s : System) (frame : List ℕ) (o : Option Own) → StandsPaced s → s.plane.own ≡ o → (b u : List ℕ) → (wire_turn s frame o).said ≡ said.Delivered b u → IsLetIn s b u frame
-wire_delivered s frame None paced is b u h = absurd cc
-wire_delivered s frame (Some own) paced is b u h = taken_delivered s frame own (find (λ f. takes own frame f) s.plane.filters) paced is refl b u h
-
-nic_quiet : (s : System) (own : Own) (o : Option Own) (b u : List ℕ) → (nic_turn s own o).said ≡ said.Delivered b u → ⊥
-nic_quiet s own None b u h = cc
-nic_quiet s own (Some old) b u h = cc
-
-common_delivered : (s : System) (line : Line) → StandsPaced s → (b u : List ℕ) → (common_turn s line).said ≡ said.Delivered b u → IsDelivered s (Ok line) b u
-common_delivered s (w.tick n) paced b u h = absurd cc
-common_delivered s (w.nic own) paced b u h = absurd (nic_quiet s own s.plane.own b u h)
-common_delivered s (w.wire frame) paced b u h = wire_delivered s frame s.plane.own paced refl b u h
-common_delivered s _ paced b u h = absurd cc
-
 -- a frame that is delivered is let in
 pub line_delivered : (s : System) (line : Line) (ends : List Ended) (memory : Bool) → StandsPaced s → (b u : List ℕ) → (line_turn s line ends memory).said ≡ said.Delivered b u → IsDelivered s (Ok line) b u
-line_delivered s line ends memory paced b u = by (owner line)
-  where
-    by : (o : Option (List ℕ)) → (owned_turn s line ends memory o).said ≡ said.Delivered b u → IsDelivered s (Ok line) b u
-    by None h = common_delivered s line paced b u h
-    by (Some a) h = absurd ((row_is (machine_of s a) line (recorded s.plane line ends memory)).undelivered b u h)
+line_delivered s line ends memory paced b u = each_turn (λ t. t.said ≡ said.Delivered b u → IsDelivered s (Ok line) b u) s line ends memory (record {
+  own = λ a is h. absurd ((row_is (machine_of s a) line (recorded s.plane line ends memory)).undelivered b u h);
+  ticks = λ n is h. absurd cc;
+  given = λ own is h. absurd cc;
+  arrives = λ frame own f is addressed found h. subst (λ (x : Line). IsDelivered s (Ok x) b u) (sym is) (arrival_delivered s frame own f paced addressed found b u h);
+  quiet = λ reply q h. absurd (quiet_not_delivered reply b u q h);
+})
 
 -- The program's turns.
 

@@ -7,7 +7,6 @@ use Rattle.ark_base.specs.Conditions.{Conditions, early, late, when, when_some}
 use Rattle.ark_base.specs.declared.refusal.Refusal.{Refusal}
 use Rattle.ark_base.specs.declared.refusal.Refusal.TheVariants as r
 use Rattle.ark_base.specs.declared.kind.Kind.{Kind}
-use Rattle.ark_packet.specs.declared.own.Own.{Own}
 use Rattle.ark_table.specs.Slots.{Slot}
 use Rattle.ark_script.specs.Line as w
 use Rattle.ark_script.specs.Line.{Line}
@@ -17,13 +16,14 @@ use Rattle.ark_machine.specs.Objects.{is_vsa}
 use Rattle.ark_machine.specs.Machine.{Machine, object_at, is_full, count_of}
 use Rattle.ark_machine.specs.Areas.{max_areas}
 use Rattle.ark_machine.specs.Row.{Row, Given, Ended, answer, unless_refused}
-use Rattle.ark_machine.specs.Plane.{Plane, LiveFilter, Change, makes, grows, drops, is_granted, max_slots, lowest, is_slot_of, slot_of, blocks_at, asked, asked_blocks, recorded}
+use Rattle.ark_machine.specs.Plane.{Plane, Change, makes, grows, drops, is_granted, max_slots, lowest, is_slot_of, slot_of, blocks_at, asked, asked_blocks, recorded}
 use Rattle.ark_machine.specs.Granting.{changed, failed_change, change_of, with_granted, after_refusal, plane_after}
 use Rattle.ark_machine.specs.Step.{step}
-use Rattle.ark_machine.specs.System.{System, machine_of, owner, takes, nic_turn, taken_turn, wire_turn, common_turn, owned_turn, line_turn}
+use Rattle.ark_machine.specs.System.{System, machine_of, line_turn}
 use Rattle.ark_machine.specs.Grants.{has_block, SlotsApart, GrantsApart}
 use Rattle.ark_laws.proofs.Listed.{same_bytes, bytes_eq-same}
 use Rattle.ark_machine.proofs.Grants.{or_false, clash, lowest_free, has_of, makes_apart, grows_apart, dropped_apart}
+use Rattle.ark_laws.proofs.Turns.{each_turn}
 
 -- The changes of a plane.
 
@@ -114,30 +114,14 @@ has_room p m _ ends memory h = tt
 
 -- Lines.
 
-nic_apart : (s : System) (own : Own) (o : Option Own) → GrantsApart s.plane → GrantsApart (nic_turn s own o).after.plane
-nic_apart s own None h = h
-nic_apart s own (Some old) h = h
-
-taken_apart : (s : System) (frame : List ℕ) (o : Option LiveFilter) → GrantsApart s.plane → GrantsApart (taken_turn s frame o).after.plane
-taken_apart s frame None h = h
-taken_apart s frame (Some f) h = h
-
-wire_apart : (s : System) (frame : List ℕ) (o : Option Own) → GrantsApart s.plane → GrantsApart (wire_turn s frame o).after.plane
-wire_apart s frame None h = h
-wire_apart s frame (Some own) h = taken_apart s frame (find (λ f. takes own frame f) s.plane.filters) h
-
-common_apart : (s : System) (line : Line) → GrantsApart s.plane → GrantsApart (common_turn s line).after.plane
-common_apart s (w.tick n) h = h
-common_apart s (w.nic own) h = nic_apart s own s.plane.own h
-common_apart s (w.wire frame) h = wire_apart s frame s.plane.own h
-common_apart s _ h = h
-
 pub line_apart : (s : System) (line : Line) (ends : List Ended) (memory : Bool) → GrantsApart s.plane → GrantsApart (line_turn s line ends memory).after.plane
-line_apart s line ends memory h = by (owner line)
-  where
-    by : (o : Option (List ℕ)) → GrantsApart (owned_turn s line ends memory o).after.plane
-    by None = common_apart s line h
-    by (Some a) = plane_apart s.plane (machine_of s a) line (step (machine_of s a) line (recorded s.plane line ends memory)).said h (has_room s.plane (machine_of s a) line ends memory)
+line_apart s line ends memory h = each_turn (λ t. GrantsApart t.after.plane) s line ends memory (record {
+  own = λ a is. plane_apart s.plane (machine_of s a) line (step (machine_of s a) line (recorded s.plane line ends memory)).said h (has_room s.plane (machine_of s a) line ends memory);
+  ticks = λ n is. h;
+  given = λ own is. h;
+  arrives = λ frame own f is addressed found. h;
+  quiet = λ reply q. h;
+})
 
 -- Areas of two applications.
 

@@ -51,3 +51,6 @@ pub mod TableFailed
 pub mod Texts
 pub mod Told
 pub mod Touching
+pub mod Turns
+mod Walk
+mod RowWalk

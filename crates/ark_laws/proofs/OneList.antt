@@ -5,18 +5,17 @@ use Rattle.std.specs.List.{AllByRecursion}
 use Rattle.ark_base.specs.declared.kind.Kind.{Kind}
 use Rattle.ark_base.specs.declared.kind.Kind.TheVariants as kind
 use Rattle.ark_media.specs.Journal.{Event}
-use Rattle.ark_packet.specs.declared.own.Own.{Own}
 use Rattle.ark_filters.specs.declared.filter.Filter.{Filter}
 use Rattle.ark_table.specs.Slots.{Slot}
 use Rattle.ark_script.specs.Line as w
 use Rattle.ark_script.specs.Line.{Line}
 use Rattle.ark_machine.specs.Machine.{Machine, Held, vnic_at, unmade}
-use Rattle.ark_machine.specs.Plane.{LiveFilter, recorded}
+use Rattle.ark_machine.specs.Plane.{recorded}
 use Rattle.ark_machine.specs.Network.{arrive}
 use Rattle.ark_machine.specs.Step.{step}
 use Rattle.ark_machine.specs.Follow.{PerformsFor, ends_of}
 use Rattle.ark_machine.specs.Start.{stored_area, view, with_slot, with_stored, all_stored, start_system}
-use Rattle.ark_machine.specs.System.{System, listed_machine, machine_of, owner, takes, arrival_turn, nic_turn, taken_turn, wire_turn, tick_turn, common_turn, owned_turn, line_turn, fresh_system}
+use Rattle.ark_machine.specs.System.{System, listed_machine, machine_of, owner, arrival_turn, tick_turn, owned_turn, line_turn, fresh_system}
 use Rattle.ark_machine.specs.Filters.{as_assigned, held_at, FiltersAgree}
 use Rattle.ark_laws.proofs.Listed.{unmade_at, unlisted_machine, ticked_machine, set_here, set_there}
 use Rattle.ark_laws.proofs.Privacy.{own_machine}
@@ -24,12 +23,9 @@ use Rattle.ark_laws.proofs.SeenMoves.{arrive_sees}
 use Rattle.ark_laws.proofs.Keeping.{keeps_of, kept, changes_list, plane_filters}
 use Rattle.ark_laws.proofs.Agreeing.{row_keeps, filter_agrees, use_agrees}
 use Rattle.ark_laws.proofs.Dropping.{drop_kept, drop_calls}
+use Rattle.ark_laws.proofs.Turns.{each_turn}
 
 -- Lines of no application.
-
-nic_agrees : (s : System) (own : Own) (o : Option Own) → FiltersAgree s → FiltersAgree (nic_turn s own o).after
-nic_agrees s own None h = record { same = h.same; once = h.once; cards = h.cards }
-nic_agrees s own (Some old) h = h
 
 arrival_agrees : (s : System) (a v frame : List ℕ) → FiltersAgree s → FiltersAgree (arrival_turn s a (arrive a (machine_of s a) v frame)).after
 arrival_agrees s a v frame h =
@@ -38,14 +34,6 @@ arrival_agrees s a v frame h =
     (set_here s.machines s.now a n (λ lacks. inr (subst (λ m. (arrive a m v frame).machine ≡ unmade_at s.now) (sym (unlisted_machine s.machines s.now a lacks)) refl)))
     (λ b apart. set_there s.machines s.now b a n apart) refl (keeps_of (arrive_sees a (machine_of s a) v frame)) h
 
-taken_agrees : (s : System) (frame : List ℕ) (o : Option LiveFilter) → FiltersAgree s → FiltersAgree (taken_turn s frame o).after
-taken_agrees s frame None h = h
-taken_agrees s frame (Some f) h = arrival_agrees s f.owner (unwrap_or f.card []) frame h
-
-wire_agrees : (s : System) (frame : List ℕ) (o : Option Own) → FiltersAgree s → FiltersAgree (wire_turn s frame o).after
-wire_agrees s frame None h = h
-wire_agrees s frame (Some own) h = taken_agrees s frame (find (λ f. takes own frame f) s.plane.filters) h
-
 tick_agrees : (s : System) (n : ℕ) → FiltersAgree s → FiltersAgree (tick_turn s n).after
 tick_agrees s n h = record {
   same = λ a l. h.same a l ∙ ap (λ m. held_at m l) (sym (ticked_machine s.machines s.now n a));
@@ -53,24 +41,20 @@ tick_agrees s n h = record {
   cards = λ a l v rule. subst (λ m. held_at m l ≡ Some (rule, Some v) → is_some (vnic_at m v) ≡ true) (sym (ticked_machine s.machines s.now n a)) (h.cards a l v rule);
 }
 
-common_agrees : (s : System) (line : Line) → FiltersAgree s → FiltersAgree (common_turn s line).after
-common_agrees s (w.tick n) h = tick_agrees s n h
-common_agrees s (w.nic own) h = nic_agrees s own s.plane.own h
-common_agrees s (w.wire frame) h = wire_agrees s frame s.plane.own h
-common_agrees s _ h = h
-
 -- Lines of an application.
 
 plain_agrees : (s : System) (line : Line) (es : List Event) (memory : Bool) → changes_list line ≡ false → FiltersAgree s → FiltersAgree (line_turn s line (ends_of es) memory).after
-plain_agrees s line es memory plain h = by (owner line)
-  where
-    by : (o : Option (List ℕ)) → FiltersAgree (owned_turn s line (ends_of es) memory o).after
-    by None = common_agrees s line h
-    by (Some a) =
-        let n : Machine = (step (machine_of s a) line (recorded s.plane line (ends_of es) memory)).machine in
-        kept s (owned_turn s line (ends_of es) memory (Some a)).after a n (own_machine s a line (recorded s.plane line (ends_of es) memory)) (λ b apart. set_there s.machines s.now b a n apart)
-        (plane_filters s.plane (machine_of s a) line (step (machine_of s a) line (recorded s.plane line (ends_of es) memory)).said plain)
-        (row_keeps (machine_of s a) line (recorded s.plane line (ends_of es) memory) plain) h
+plain_agrees s line es memory plain h = each_turn (λ t. FiltersAgree t.after) s line (ends_of es) memory (record {
+  own = λ a is.
+      let n : Machine = (step (machine_of s a) line (recorded s.plane line (ends_of es) memory)).machine in
+      kept s (owned_turn s line (ends_of es) memory (Some a)).after a n (own_machine s a line (recorded s.plane line (ends_of es) memory)) (λ b apart. set_there s.machines s.now b a n apart)
+      (plane_filters s.plane (machine_of s a) line (step (machine_of s a) line (recorded s.plane line (ends_of es) memory)).said plain)
+      (row_keeps (machine_of s a) line (recorded s.plane line (ends_of es) memory) plain) h;
+  ticks = λ n is. tick_agrees s n h;
+  given = λ own is. record { same = h.same; once = h.once; cards = h.cards };
+  arrives = λ frame own f is addressed found. arrival_agrees s f.owner (unwrap_or f.card []) frame h;
+  quiet = λ reply q. h;
+})
 
 pub line_agrees : (s : System) (line : Line) (es : List Event) (memory : Bool) → FiltersAgree s → PerformsFor s line (line_turn s line (ends_of es) memory).calls es (owner line)
     → FiltersAgree (line_turn s line (ends_of es) memory).after

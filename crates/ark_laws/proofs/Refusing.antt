@@ -1,25 +1,24 @@
 -- What a refused line leaves.
 use Rattle.std.proofs.Common.{◌≡◌, ℕ, Bool, true, false, List, [], ◌||◌, ◌&&◌, refl, sym, ◌∙◌, ap, subst}
 use Rattle.std.proofs.lemmas.Bool.{false≢true}
-use Rattle.std.specs.Prelude.{Option, Some, None, find, unwrap_or}
+use Rattle.std.specs.Prelude.{Option, Some, None, unwrap_or}
 use Rattle.std.specs.Option.{option_or}
 use Rattle.ark_base.specs.Conditions.{Conditions, early, late, first}
 use Rattle.ark_base.specs.declared.refusal.Refusal.{Refusal}
 use Rattle.ark_base.specs.declared.refusal.Refusal.TheVariants as r
-use Rattle.ark_packet.specs.declared.own.Own.{Own}
-use Rattle.ark_script.specs.Line as w
 use Rattle.ark_script.specs.Line.{Line}
 use Rattle.ark_script.specs.declared.said.Said.TheVariants as said
 use Rattle.ark_machine.specs.Machine.{Machine}
 use Rattle.ark_machine.specs.Row.{Row, Given, Ended, answer, unless_refused}
-use Rattle.ark_machine.specs.Plane.{Plane, LiveFilter, Change, recorded}
+use Rattle.ark_machine.specs.Plane.{Plane, Change, recorded}
 use Rattle.ark_machine.specs.Granting.{after_refusal, change_of}
 use Rattle.ark_machine.specs.Step.{step}
-use Rattle.ark_machine.specs.System.{System, Turn, machine_of, owner, takes, own_turn, nic_turn, taken_turn, wire_turn, common_turn, owned_turn, line_turn}
+use Rattle.ark_machine.specs.System.{System, Turn, machine_of, own_turn, line_turn}
 use Rattle.ark_machine.specs.Refused.{is_told_late, is_of_sending, reaps_first}
 use Rattle.ark_laws.proofs.Answering.{may_begin}
 use Rattle.ark_laws.proofs.Rows.{row_is, arrive_is}
 use Rattle.ark_laws.proofs.Listed.{set_same}
+use Rattle.ark_laws.proofs.Turns.{each_turn}
 
 -- the system is as it was, and no device was called
 abbrev pub IsSpared : System → Turn → Type 0
@@ -47,32 +46,16 @@ own_spared s a line g x h spare =
     subst (λ row. IsSpared s (own_turn s a line row)) (sym ((row_is m line g).refused x h spare))
     (same_system s _ _ (after_early s.plane x (change_of s.plane m line) (not_late line x spare)) (set_same s.machines s.now a), refl)
 
-nic_spared : (s : System) (own : Own) (o : Option Own) (x : Refusal) → (nic_turn s own o).said ≡ said.Refused x → IsSpared s (nic_turn s own o)
-nic_spared s own None x h = absurd cc
-nic_spared s own (Some old) x h = (refl, refl)
-
-taken_spared : (s : System) (frame : List ℕ) (o : Option LiveFilter) (x : Refusal) → (taken_turn s frame o).said ≡ said.Refused x → IsSpared s (taken_turn s frame o)
-taken_spared s frame None x h = (refl, refl)
-taken_spared s frame (Some f) x h = absurd ((arrive_is f.owner (machine_of s f.owner) (unwrap_or f.card []) frame).unrefused x h)
-
-wire_spared : (s : System) (frame : List ℕ) (o : Option Own) (x : Refusal) → (wire_turn s frame o).said ≡ said.Refused x → IsSpared s (wire_turn s frame o)
-wire_spared s frame None x h = (refl, refl)
-wire_spared s frame (Some own) x h = taken_spared s frame (find (λ f. takes own frame f) s.plane.filters) x h
-
-pub common_spared : (s : System) (line : Line) (x : Refusal) → (common_turn s line).said ≡ said.Refused x → IsSpared s (common_turn s line)
-common_spared s (w.tick n) x h = absurd cc
-common_spared s (w.nic own) x h = nic_spared s own s.plane.own x h
-common_spared s (w.wire frame) x h = wire_spared s frame s.plane.own x h
-common_spared s _ x h = (refl, refl)
-
 -- a line that is refused at once leaves the system as it was
 pub refused_spared : (s : System) (line : Line) (ends : List Ended) (memory : Bool) (x : Refusal) → (line_turn s line ends memory).said ≡ said.Refused x → may_begin line x ≡ false
     → IsSpared s (line_turn s line ends memory)
-refused_spared s line ends memory x h spare = by (owner line) h
-  where
-    by : (o : Option (List ℕ)) → (owned_turn s line ends memory o).said ≡ said.Refused x → IsSpared s (owned_turn s line ends memory o)
-    by None e = common_spared s line x e
-    by (Some a) e = own_spared s a line (recorded s.plane line ends memory) x e spare
+refused_spared s line ends memory x h spare = each_turn (λ t. t.said ≡ said.Refused x → IsSpared s t) s line ends memory (record {
+  own = λ a is e. own_spared s a line (recorded s.plane line ends memory) x e spare;
+  ticks = λ n is e. absurd cc;
+  given = λ own is e. absurd cc;
+  arrives = λ frame own f is addressed found e. absurd ((arrive_is f.owner (machine_of s f.owner) (unwrap_or f.card []) frame).unrefused x e);
+  quiet = λ reply q e. (refl, refl);
+}) h
 
 -- The refusal that is chosen.
 

@@ -25,9 +25,11 @@ use Rattle.ark_machine.specs.Step.{step}
 use Rattle.ark_machine.specs.Sending.{KeepsWith, rx_pace_at, FrameWithin}
 use Rattle.ark_machine.specs.Paced.{IsPacedAt, MachinePacedAt}
 use Rattle.ark_laws.proofs.Paced.{VnicPaced, passed_paced, new_paced, object_paced, each_paced, without_paced, vnic_at_paced, vsic_paced, vnic_paced, log_paced, buffer_paced, raw_paced, rung_paced}
-use Rattle.ark_laws.proofs.Steady.{is_plain, Leads, RowSteady, behind, polled_steady, settling_steady, next_call_steady}
+use Rattle.ark_laws.proofs.Steady.{Leads, RowSteady, behind, polled_steady, settling_steady, next_call_steady, leads_walk}
+use Rattle.ark_laws.proofs.Walk.{is_plain}
 use Rattle.ark_laws.proofs.Answering.{plain_not_sent, plain_not_refused, plain_not_delivered, of_answer, of_made, IsRow}
-use Rattle.ark_laws.proofs.Leading.{synced_leads, unless_leads, area_paced, lets_go_paced, assigned_leads, pace_of_paced, with_pace_leads, with_door_leads, new_buffer_leads, block_written_leads, reap_steady, oldest_steady, socket_card_leads, pulled_leads, give_steady, opened_leads, with_opened_leads}
+use Rattle.ark_laws.proofs.Leading.{synced_leads, unless_leads, area_paced, lets_go_paced, assigned_leads, pace_of_paced, with_pace_leads, new_buffer_leads, reap_steady, oldest_steady, give_steady, leads_rows}
+use Rattle.ark_laws.proofs.RowWalk.{watch_goes, block_goes, socket_card_goes, pulled_goes, opened_goes}
 use Rattle.ark_laws.proofs.SendRows.{sendto_row, IsTxOf, card_is, dev_row, quiet_row, IsMove}
 
 -- the row of every line
@@ -47,7 +49,7 @@ row_is m (w.assign a x1 x2) g = of_made (w.assign a x1 x2) m g.own _ _ refl (inl
 row_is m (w.rate a x1 x2 x3) g = of_made (w.rate a x1 x2 x3) m g.own _ _ refl (inl refl) refl (λ t h. new_paced t m x1 _ h tt)
 row_is m (w.pace a x1 x2 x3) g = of_made (w.pace a x1 x2 x3) m g.own _ _ refl (inl refl) refl (with_pace_leads m x1 x3 (pace_of m x2) (λ t. pace_of_paced t m x2))
 row_is m (w.door a x1) g = of_made (w.door a x1) m g.own _ _ refl (inl refl) refl (λ t h. new_paced t m x1 _ h tt)
-row_is m (w.watch a x1 x2 x3) g = of_made (w.watch a x1 x2 x3) m g.own _ _ refl (inl refl) refl (with_door_leads m x1 x3 x2)
+row_is m (w.watch a x1 x2 x3) g = of_made (w.watch a x1 x2 x3) m g.own _ _ refl (inl refl) refl (watch_goes Leads leads_rows m x1 x3 x2)
 row_is m (w.drop a x) g = of_made (w.drop a x) m g.own _ _ refl (inr refl) refl
     (synced_leads m _ _ (λ t h. each_paced t (lets_go x (serial_at m x)) (without m x) (lets_go_paced x (serial_at m x) t) (without_paced t m x h)))
 row_is m (w.buf a x1 x2) g = of_made (w.buf a x1 x2) m g.own _ _ refl (inl refl) refl (new_buffer_leads m x1 x2 _)
@@ -56,32 +58,32 @@ row_is m (w.show a x1 x2 x3) g = of_made (w.show a x1 x2 x3) m g.own _ _ refl (i
 row_is m (w.copy a x1 x2 x3) g = of_made (w.copy a x1 x2 x3) m g.own _ _ refl (inl refl) refl (λ t h. buffer_paced t m x2 _ h)
 row_is m (w.free a x1) g = of_made (w.free a x1) m g.own _ _ refl (inl refl) refl (λ t h. without_paced t m x1 h)
 row_is m (w.peek a x1 x2) g = of_made (w.peek a x1 x2) m g.own _ _ refl (inr refl) refl (λ t h. h)
-row_is m (w.poke a x1 x2 x3) g = of_made (w.poke a x1 x2 x3) m g.own _ _ refl (inr refl) refl (block_written_leads m x1 x2 (padded x3) g.ended)
+row_is m (w.poke a x1 x2 x3) g = of_made (w.poke a x1 x2 x3) m g.own _ _ refl (inr refl) refl (block_goes Leads leads_rows m x1 x2 (padded x3) g.ended)
 row_is m (w.get a x1 x2 x3 x4 x5) g = of_made (w.get a x1 x2 x3 x4 x5) m g.own _ _ refl (inl refl) refl (λ t h. vsic_paced t m x1 _ (λ y q. q) h)
 row_is m (w.put a x1 x2 x3 x4 x5) g = of_made (w.put a x1 x2 x3 x4 x5) m g.own _ _ refl (inl refl) refl (λ t h. vsic_paced t m x1 _ (λ y q. q) h)
 row_is m (w.flush a x1) g = of_made (w.flush a x1) m g.own _ _ refl (inl refl) refl (λ t h. vsic_paced t m x1 _ (λ y q. q) h)
-row_is m (w.reap a x1) g = of_made (w.reap a x1) m g.own _ _ refl (inl refl) (reap_steady m x1 (unreaped_at m x1)).plain (reap_steady m x1 (unreaped_at m x1)).paced
+row_is m (w.reap a x1) g = of_made (w.reap a x1) m g.own _ _ refl (inl refl) (reap_steady m x1 (unreaped_at m x1)).plain (reap_steady m x1 (unreaped_at m x1)).goes
 row_is m (w.post a x1 x2) g = of_made (w.post a x1 x2) m g.own _ _ refl (inl refl) refl (λ t h. vnic_paced t m x1 _ (λ y q. q) h)
 row_is m (w.send a x1 x2 x3) g = of_made (w.send a x1 x2 x3) m g.own _ _ refl (inl refl) refl (λ t h. vnic_paced t m x1 _ (λ y q. q) h)
-row_is m (w.take a x1 x2) g = of_made (w.take a x1 x2) m g.own _ _ refl (inl refl) (oldest_steady x2 m x1).plain (oldest_steady x2 m x1).paced
-row_is m (w.sock a x1 x2 x3) g = of_made (w.sock a x1 x2 x3) m g.own _ _ refl (inl refl) refl (λ t h. new_paced t (with_socket_card m x2) x1 _ (socket_card_leads m x2 t h) tt)
+row_is m (w.take a x1 x2) g = of_made (w.take a x1 x2) m g.own _ _ refl (inl refl) (oldest_steady x2 m x1).plain (oldest_steady x2 m x1).goes
+row_is m (w.sock a x1 x2 x3) g = of_made (w.sock a x1 x2 x3) m g.own _ _ refl (inl refl) refl (λ t h. new_paced t (with_socket_card m x2) x1 _ (socket_card_goes Leads leads_rows m x2 t h) tt)
 row_is m (w.sendto a x1 x2 x3 x4) g = sendto_row a m g.own x1 x2 x3 x4 _ g refl refl
 row_is m (w.recv a x1) g =
     let k : Machine = pulled m (card_at m x1) g.own in
-    let s : RowSteady m (give_oldest k x1 (datagrams_at k x1)) = behind (pulled_leads m (card_at m x1) g.own) (give_steady k x1 (datagrams_at k x1)) in
-    of_made (w.recv a x1) m g.own _ _ refl (inl refl) s.plain s.paced
+    let s : RowSteady m (give_oldest k x1 (datagrams_at k x1)) = behind m k _ _ (pulled_goes Leads leads_rows m (card_at m x1) g.own) (give_steady k x1 (datagrams_at k x1)) in
+    of_made (w.recv a x1) m g.own _ _ refl (inl refl) s.plain s.goes
 row_is m (w.look a x1) g = of_made (w.look a x1) m g.own _ _ refl (inl refl) refl (λ t h. object_paced t m x1 _ h tt)
-row_is m (w.log a x1 x2) g = of_made (w.log a x1 x2) m g.own _ _ refl (inr refl) refl (opened_leads m x1 x2 g)
-row_is m (w.queue a x1 x2) g = of_made (w.queue a x1 x2) m g.own _ _ refl (inr refl) refl (opened_leads m x1 x2 g)
-row_is m (w.append a x1 x2) g = of_made (w.append a x1 x2) m g.own _ _ refl (inl refl) refl (with_opened_leads m x1 _)
-row_is m (w.push a x1 x2) g = of_made (w.push a x1 x2) m g.own _ _ refl (inl refl) refl (with_opened_leads m x1 _)
-row_is m (w.trim a x1 x2) g = of_made (w.trim a x1 x2) m g.own _ _ refl (inl refl) refl (with_opened_leads m x1 _)
-row_is m (w.pop a x1) g = of_made (w.pop a x1) m g.own _ _ refl (inl refl) refl (with_opened_leads m x1 _)
+row_is m (w.log a x1 x2) g = of_made (w.log a x1 x2) m g.own _ _ refl (inr refl) refl (opened_goes Leads leads_rows m x1 x2 g)
+row_is m (w.queue a x1 x2) g = of_made (w.queue a x1 x2) m g.own _ _ refl (inr refl) refl (opened_goes Leads leads_rows m x1 x2 g)
+row_is m (w.append a x1 x2) g = of_made (w.append a x1 x2) m g.own _ _ refl (inl refl) refl (leads_walk.log m x1 _)
+row_is m (w.push a x1 x2) g = of_made (w.push a x1 x2) m g.own _ _ refl (inl refl) refl (leads_walk.log m x1 _)
+row_is m (w.trim a x1 x2) g = of_made (w.trim a x1 x2) m g.own _ _ refl (inl refl) refl (leads_walk.log m x1 _)
+row_is m (w.pop a x1) g = of_made (w.pop a x1) m g.own _ _ refl (inl refl) refl (leads_walk.log m x1 _)
 row_is m (w.walk a x1 x2) g = of_made (w.walk a x1 x2) m g.own _ _ refl (inr refl) refl (λ t h. h)
-row_is m (w.poll a x1) g = of_made (w.poll a x1) m g.own _ _ refl (inl refl) (polled_steady m x1).plain (polled_steady m x1).paced
+row_is m (w.poll a x1) g = of_made (w.poll a x1) m g.own _ _ refl (inl refl) (polled_steady m x1).plain (polled_steady m x1).goes
 row_is m (w.settle a x1) g =
     let s : RowSteady m (settling g.ended x1 (next_call m x1)) = settling_steady m g.ended x1 (next_call m x1) (next_call_steady m x1) in
-    of_made (w.settle a x1) m g.own _ _ refl (inl refl) s.plain s.paced
+    of_made (w.settle a x1) m g.own _ _ refl (inl refl) s.plain s.goes
 row_is m (w.close a x1) g = of_made (w.close a x1) m g.own _ _ refl (inl refl) refl (λ t h. vsic_paced t (with_log m x1 closing) (card_of m x1) _ (λ y q. q) (log_paced t m x1 closing h))
 row_is m (w.dev a x1) g =
     let s : IsMove m g.own x1 (card_moves m x1 g (vnic_at m x1)) = card_is m x1 g (vnic_at m x1) (λ t h. vnic_at_paced t m x1 h) in

@@ -1,11 +1,10 @@
 -- Each live filter of a run is one that a line can give.
 use Rattle.std.proofs.Common.{ℕ, Bool, true, false, not, List, map, cond}
-use Rattle.std.specs.Prelude.{Option, Some, None, find, filter as select}
+use Rattle.std.specs.Prelude.{Option, Some, None, filter as select}
 use Rattle.std.specs.List.{All}
 use Rattle.std.proofs.lemmas.List.Elements.{All-push, All-map, All-filter, All-weaker}
 use Rattle.ark_base.specs.declared.refusal.Refusal.{Refusal}
 use Rattle.ark_base.specs.declared.refusal.Refusal.TheVariants as r
-use Rattle.ark_packet.specs.declared.own.Own.{Own}
 use Rattle.ark_filters.specs.Rule.{IsRule}
 use Rattle.ark_script.specs.Line as w
 use Rattle.ark_script.specs.Line.{Line}
@@ -17,8 +16,9 @@ use Rattle.ark_machine.specs.Row.{Ended}
 use Rattle.ark_machine.specs.Plane.{Plane, LiveFilter, Change, makes, grows, drops, recorded}
 use Rattle.ark_machine.specs.Granting.{is_filter_of, is_on, assigned, changed, failed_change, change_of, with_granted, after_refusal, plane_after}
 use Rattle.ark_machine.specs.Step.{step}
-use Rattle.ark_machine.specs.System.{System, machine_of, owner, takes, nic_turn, taken_turn, wire_turn, common_turn, owned_turn, line_turn}
+use Rattle.ark_machine.specs.System.{System, machine_of, line_turn}
 use Rattle.ark_machine.specs.Filters.{HasRules}
+use Rattle.ark_laws.proofs.Turns.{each_turn}
 
 abbrev Ruled : LiveFilter → Type 0
 Ruled f = IsRule f.rule
@@ -63,27 +63,11 @@ plane_rules p m line said.Ok is h = granted_rules (changed p (change_of p m line
 plane_rules p m line (said.Refused x) is h = refused_rules p x (change_of p m line) h
 plane_rules p m line _ is h = h
 
-nic_rules : (s : System) (own : Own) (o : Option Own) → HasRules s.plane → HasRules (nic_turn s own o).after.plane
-nic_rules s own None h = h
-nic_rules s own (Some old) h = h
-
-taken_rules : (s : System) (frame : List ℕ) (o : Option LiveFilter) → HasRules s.plane → HasRules (taken_turn s frame o).after.plane
-taken_rules s frame None h = h
-taken_rules s frame (Some f) h = h
-
-wire_rules : (s : System) (frame : List ℕ) (o : Option Own) → HasRules s.plane → HasRules (wire_turn s frame o).after.plane
-wire_rules s frame None h = h
-wire_rules s frame (Some own) h = taken_rules s frame (find (λ f. takes own frame f) s.plane.filters) h
-
-common_rules : (s : System) (line : Line) → HasRules s.plane → HasRules (common_turn s line).after.plane
-common_rules s (w.tick n) h = h
-common_rules s (w.nic own) h = nic_rules s own s.plane.own h
-common_rules s (w.wire frame) h = wire_rules s frame s.plane.own h
-common_rules s _ h = h
-
 pub line_rules : (s : System) (line : Line) (ends : List Ended) (memory : Bool) → InRange line → HasRules s.plane → HasRules (line_turn s line ends memory).after.plane
-line_rules s line ends memory is h = by (owner line)
-  where
-    by : (o : Option (List ℕ)) → HasRules (owned_turn s line ends memory o).after.plane
-    by None = common_rules s line h
-    by (Some a) = plane_rules s.plane (machine_of s a) line (step (machine_of s a) line (recorded s.plane line ends memory)).said is h
+line_rules s line ends memory is h = each_turn (λ t. HasRules t.after.plane) s line ends memory (record {
+  own = λ a by. plane_rules s.plane (machine_of s a) line (step (machine_of s a) line (recorded s.plane line ends memory)).said is h;
+  ticks = λ n by. h;
+  given = λ own by. h;
+  arrives = λ frame own f by addressed found. h;
+  quiet = λ reply q. h;
+})

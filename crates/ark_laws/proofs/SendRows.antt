@@ -1,5 +1,5 @@
 -- The rows of the words that send: `sendto` and `dev`.
-use Rattle.std.proofs.Common.{◌≡◌, inr, ℕ, Bool, true, false, not, List, [], ◌∷◌, ◌&&◌, ◌||◌, take, refl, sym, ◌∙◌, ap, subst, cond}
+use Rattle.std.proofs.Common.{◌≡◌, inr, ℕ, Bool, true, false, not, List, [], ◌∷◌, ◌&&◌, ◌||◌, take, refl, sym, ◌∙◌, subst, cond}
 use Rattle.std.proofs.lemmas.Bool.{false≢true}
 use Rattle.std.specs.Prelude.{Option, Some, None, IsTrue, is_none}
 use Rattle.ark_base.specs.Conditions.{Conditions, early, late, when}
@@ -23,10 +23,11 @@ use Rattle.ark_machine.specs.Devices.{card_moves}
 use Rattle.ark_machine.specs.Refused.{is_told_late, is_of_sending}
 use Rattle.ark_machine.specs.Paced.{IsPacedAt, MachinePacedAt}
 use Rattle.ark_laws.proofs.Paced.{VnicPaced, passed_paced, vnic_paced, rung_paced}
-use Rattle.ark_laws.proofs.Early.{some_refusal, same_refusal, early_not_told, told_not_sending}
+use Rattle.ark_laws.proofs.Early.{some_refusal, same_refusal, told_not_sending}
 use Rattle.ark_laws.proofs.Steady.{Leads, move_steady}
-use Rattle.ark_laws.proofs.Answering.{plain_not_sent, plain_not_refused, plain_not_delivered, needs_application, IsRow}
-use Rattle.ark_laws.proofs.Leading.{sent_reaped_leads, posted_leads}
+use Rattle.ark_laws.proofs.Answering.{plain_not_sent, plain_not_refused, plain_not_delivered, needs_application, IsRow, early_row}
+use Rattle.ark_laws.proofs.Leading.{posted_leads, leads_rows}
+use Rattle.ark_laws.proofs.RowWalk.{sent_reaped_goes}
 
 -- `sendto`: reaped first, and then refused or posted
 
@@ -56,14 +57,7 @@ sendto_row a m own k ip port payload c g asks none_late =
 
     by : (first : Option Refusal) (full lacks : Bool) → early c ≡ first
         → IsRow (w.sendto a k ip port payload) m own (unless_refused first (late c) m (unless_refused (when full r.RingFull (when lacks r.NoBuffer None)) None n row))
-    by (Some x) full lacks is = record {
-      sent = λ h. absurd cc;
-      undelivered = λ b u h. absurd cc;
-      refused = λ y h no. ap (λ z. says m z) h;
-      told = λ y h late_one. absurd (early_not_told c x is (subst (λ z. is_told_late z ≡ true) (sym (same_refusal x y h)) late_one));
-      paced = λ t h. h;
-      unmade = λ no. inr refl;
-    }
+    by (Some x) full lacks is = early_row (w.sendto a k ip port payload) m own c x is
     by None full lacks is = rw none_late (then (when full r.RingFull (when lacks r.NoBuffer None)) refl)
       where
         then : (next : Option Refusal) → when full r.RingFull (when lacks r.NoBuffer None) ≡ next → IsRow (w.sendto a k ip port payload) m own (unless_refused next None n row)
@@ -72,7 +66,7 @@ sendto_row a m own k ip port payload c g asks none_late =
           undelivered = λ b u h. absurd cc;
           told = λ y h late_one. absurd (told_not_sending y late_one (subst (λ z. is_of_sending z ≡ true) (same_refusal x y h) (of_sending full lacks x also)));
           refused = λ y h no. absurd (sending_leaves y (subst (λ z. is_of_sending z ≡ true) (same_refusal x y h) (of_sending full lacks x also)) no);
-          paced = sent_reaped_leads m k;
+          paced = sent_reaped_goes Leads leads_rows m k;
           unmade = λ no. absurd (needs_application c (asks ∙ rw no refl) is);
         }
         then None also = record {
@@ -80,7 +74,7 @@ sendto_row a m own k ip port payload c g asks none_late =
           undelivered = λ b u h. absurd cc;
           refused = λ y h no. absurd cc;
           told = λ y h late_one. absurd cc;
-          paced = λ t h. posted_leads n (card_at n k) (framed n k g.own ip port payload) (room_for n (frame_frames payload)) t (sent_reaped_leads m k t h);
+          paced = λ t h. posted_leads n (card_at n k) (framed n k g.own ip port payload) (room_for n (frame_frames payload)) t (sent_reaped_goes Leads leads_rows m k t h);
           unmade = λ no. absurd (needs_application c (asks ∙ rw no refl) is);
         }
 
@@ -134,7 +128,7 @@ tx_is m v x own (p ∷ ps) of = frame_is m v x own p.0 p.1 ps (take p.1 (bytes_i
 pub card_is : (m : Machine) (v : List ℕ) (g : Given) (o : Option Vnic) → ((t : ℕ) → MachinePacedAt t m → VnicPaced t o) → IsMove m g.own v (card_moves m v g o)
 card_is m v g None of =
     let s = move_steady m v (first_end g.ended) in
-    record { sent = λ h. absurd (plain_not_sent (move m v (first_end g.ended)).said s.plain h); undelivered = λ b u h. plain_not_delivered (move m v (first_end g.ended)).said b u s.plain h; unrefused = λ y h. plain_not_refused (move m v (first_end g.ended)).said y s.plain h; paced = s.paced }
+    record { sent = λ h. absurd (plain_not_sent (move m v (first_end g.ended)).said s.plain h); undelivered = λ b u h. plain_not_delivered (move m v (first_end g.ended)).said b u s.plain h; unrefused = λ y h. plain_not_refused (move m v (first_end g.ended)).said y s.plain h; paced = s.goes }
 card_is m v g (Some x) of = tx_is m v x g.own x.tx.posted (λ t h. (of t h).1)
 
 pub dev_row : (a v : List ℕ) (m : Machine) (own : Option Own) (c : Conditions) (row : Row) → c.no_application ≡ not m.made → late c ≡ None
@@ -144,14 +138,7 @@ unfolding answer
 dev_row a v m own c row asks none_late sent undelivered unrefused lead = by (early c) refl
   where
     by : (first : Option Refusal) → early c ≡ first → IsRow (w.dev a v) m own (unless_refused first (late c) m row)
-    by (Some x) is = record {
-      sent = λ h. absurd cc;
-      undelivered = λ b u h. absurd cc;
-      refused = λ y h no. ap (λ z. says m z) h;
-      told = λ y h late_one. absurd (early_not_told c x is (subst (λ z. is_told_late z ≡ true) (sym (same_refusal x y h)) late_one));
-      paced = λ t h. h;
-      unmade = λ no. inr refl;
-    }
+    by (Some x) is = early_row (w.dev a v) m own c x is
     by None is = rw none_late (record {
       sent = sent;
       undelivered = undelivered;

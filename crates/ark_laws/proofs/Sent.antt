@@ -4,10 +4,8 @@ use Rattle.std.specs.Prelude.{Option, Some, None, Ok, Err, IsTrue, option_map, f
 use Rattle.std.specs.List.{AllByRecursion}
 use Rattle.ark_base.specs.declared.kind.Kind.{Kind}
 use Rattle.ark_base.specs.declared.kind.Kind.TheVariants as kind
-use Rattle.ark_base.specs.declared.refusal.Refusal.{Refusal}
 use Rattle.ark_base.specs.declared.refusal.Refusal.TheVariants as r
 use Rattle.ark_media.specs.Journal.{Event, device_events}
-use Rattle.ark_packet.specs.declared.own.Own.{Own}
 use Rattle.ark_table.specs.Slots.{Slot}
 use Rattle.ark_script.specs.Line as w
 use Rattle.ark_script.specs.Line.{Line}
@@ -18,9 +16,9 @@ use Rattle.ark_machine.specs.Objects.{Object, Paced}
 use Rattle.ark_machine.specs.Machine.{Machine, Held, unmade}
 use Rattle.ark_machine.specs.Row.{Ended}
 use Rattle.ark_machine.specs.Network.{is_let_out}
-use Rattle.ark_machine.specs.Plane.{LiveFilter, recorded}
+use Rattle.ark_machine.specs.Plane.{recorded}
 use Rattle.ark_machine.specs.Step.{step, ticked}
-use Rattle.ark_machine.specs.System.{System, Turn, listed_machine, machine_of, set_machine, owner, takes, quiet_turn, own_turn, nic_turn, taken_turn, wire_turn, common_turn, owned_turn, line_turn}
+use Rattle.ark_machine.specs.System.{System, Turn, listed_machine, machine_of, set_machine, owner, quiet_turn, own_turn, nic_turn, line_turn, tick_turn}
 use Rattle.ark_machine.specs.Start.{view, stored_area, with_slot, with_stored, all_stored, start_system}
 use Rattle.ark_machine.specs.Built.{turn, is_built, so_far}
 use Rattle.ark_machine.specs.Replies.{turn_for, has_lacked}
@@ -28,9 +26,10 @@ use Rattle.ark_machine.specs.Follow.{ends_of}
 use Rattle.ark_machine.specs.Sending.{IsLetOut, KeepsRate, KeepsRates, HeldKeeps, ListedKeeps, AllKeep}
 use Rattle.ark_machine.specs.Paced.{IsPacedAt, ArePacedAt, HeldPacedAt, MachinePacedAt, ListedPacedAt, StandsPaced}
 use Rattle.ark_laws.proofs.Paced.{later_held, new_paced}
-use Rattle.ark_laws.proofs.Steady.{is_plain}
+use Rattle.ark_laws.proofs.Walk.{is_plain}
 use Rattle.ark_laws.proofs.Answering.{MaySend, plain_not_sent}
 use Rattle.ark_laws.proofs.Rows.{row_is, arrive_is}
+use Rattle.ark_laws.proofs.Turns.{each_turn, quiet_not_sent}
 
 -- Systems.
 
@@ -68,9 +67,6 @@ record IsMild (s : System) (line : Line) (t : Turn) : Type 0 where
 plain_mild : (s : System) (line : Line) (t : Turn) → is_plain t.said ≡ true → (StandsPaced s → StandsPaced t.after) → IsMild s line t
 plain_mild s line t plain rates = record { sent = λ h. absurd (plain_not_sent t.said plain h); rates = rates }
 
-refused_mild : (s : System) (line : Line) (x : Refusal) → IsMild s line (quiet_turn s (said.Refused x))
-refused_mild s line x = record { sent = λ h. absurd cc; rates = λ k. k }
-
 -- the card is of the application whose line it is
 let_out_by : (s : System) (a : List ℕ) (line : Line) (frame : List ℕ) → owner line ≡ Some a → MaySend (machine_of s a) s.plane.own line frame → IsLetOut s (Ok line) frame
 let_out_by s a (w.dev b v) frame is h = subst (λ c. IsTrue (is_let_out (machine_of s c) v s.plane.own frame)) (sym (same_owner b a is)) h
@@ -88,32 +84,16 @@ own_mild s a line ends memory is =
       rates = λ k. set_paced s.now s.machines a _ k (row.paced s.now (listed_paced s.now s.machines a k));
     }
 
-nic_mild : (s : System) (own : Own) (o : Option Own) → IsMild s (w.nic own) (nic_turn s own o)
-nic_mild s own None = plain_mild s (w.nic own) (nic_turn s own None) refl (λ k. k)
-nic_mild s own (Some old) = refused_mild s (w.nic own) r.NameTaken
-
-taken_mild : (s : System) (frame : List ℕ) (o : Option LiveFilter) → IsMild s (w.wire frame) (taken_turn s frame o)
-taken_mild s frame None = plain_mild s (w.wire frame) (taken_turn s frame None) refl (λ k. k)
-taken_mild s frame (Some f) =
-    let row = arrive_is f.owner (machine_of s f.owner) (unwrap_or f.card []) frame in
-    record { sent = λ h. absurd (row.unsent h); rates = λ k. set_paced s.now s.machines f.owner _ k (row.paced s.now (listed_paced s.now s.machines f.owner k)) }
-
-wire_mild : (s : System) (frame : List ℕ) (o : Option Own) → IsMild s (w.wire frame) (wire_turn s frame o)
-wire_mild s frame None = refused_mild s (w.wire frame) r.NoNic
-wire_mild s frame (Some own) = taken_mild s frame (find (λ f. takes own frame f) s.plane.filters)
-
-common_mild : (s : System) (line : Line) → IsMild s line (common_turn s line)
-common_mild s (w.tick n) = plain_mild s (w.tick n) (common_turn s (w.tick n)) refl (λ k. ticks_paced s.now n s.machines k)
-common_mild s (w.nic own) = nic_mild s own s.plane.own
-common_mild s (w.wire frame) = wire_mild s frame s.plane.own
-common_mild s line = plain_mild s line (common_turn s line) refl (λ k. k)
-
 line_mild : (s : System) (line : Line) (ends : List Ended) (memory : Bool) → IsMild s line (line_turn s line ends memory)
-line_mild s line ends memory = by (owner line) refl
-  where
-    by : (o : Option (List ℕ)) → owner line ≡ o → IsMild s line (owned_turn s line ends memory o)
-    by None is = common_mild s line
-    by (Some a) is = own_mild s a line ends memory is
+line_mild s line ends memory = each_turn (λ t. IsMild s line t) s line ends memory (record {
+  own = λ a is. own_mild s a line ends memory is;
+  ticks = λ n is. plain_mild s line (tick_turn s n) refl (λ k. ticks_paced s.now n s.machines k);
+  given = λ own is. plain_mild s line (nic_turn s own None) refl (λ k. k);
+  arrives = λ frame own f is addressed found.
+      let row = arrive_is f.owner (machine_of s f.owner) (unwrap_or f.card []) frame in
+      record { sent = λ h. absurd (row.unsent h); rates = λ k. set_paced s.now s.machines f.owner _ k (row.paced s.now (listed_paced s.now s.machines f.owner k)) };
+  quiet = λ reply q. record { sent = λ h. absurd (quiet_not_sent reply q h); rates = λ k. k };
+})
 
 -- a frame goes out only by a move of a card, and a filter lets it out
 pub line_sends : (s : System) (line : Line) (ends : List Ended) (memory : Bool) → (line_turn s line ends memory).said ≡ said.Sent → IsLetOut s (Ok line) (line_turn s line ends memory).bytes

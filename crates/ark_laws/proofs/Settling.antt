@@ -221,7 +221,7 @@ after_fits now l v e m k rest h card same lead next =
     let there : card_of k l ≡ v = on.card ∙ card in
     let goes : Goes now v l k (settle_move k l e).machine (settle_move k l e).calls = subst (λ u. Goes now u l k (settle_move k l e).machine (settle_move k l e).calls) there (settle_goes now l k e (lead now h).0) in
     subst (λ p. FitsCalls now p ((settle_move k l e).calls ++ rest)) (on.pace ∙ added_none (pace_at m v))
-    (more_fits now v l k (settle_move k l e).machine (settle_move k l e).calls rest goes (next ((settle_move_steady k l e).paced now (lead now h)) (goes.card ∙ there)))
+    (more_fits now v l k (settle_move k l e).machine (settle_move k l e).calls rest goes (next ((settle_move_steady k l e).goes now (lead now h)) (goes.card ∙ there)))
 
 settling_fits : (now : ℕ) (l v : List ℕ) (es : List Ended) (m : Machine) (n : Next) → MachinePacedAt now m → card_of m l ≡ v → NextSame m n → NextSteady m n → StopsQuiet n
     → FitsCalls now (pace_at m v) (settling es l n).calls

@@ -1,11 +1,10 @@
 -- Once a change of the table has failed, that stays so, and no area is granted, grows or is dropped.
 use Rattle.std.proofs.Common.{◌≡◌, ℕ, Bool, true, ◌&&◌, List, refl, ◌∙◌, ap}
-use Rattle.std.specs.Prelude.{Option, Some, None, find, is_some}
+use Rattle.std.specs.Prelude.{Option, Some, None, is_some}
 use Rattle.ark_base.specs.Conditions.{Conditions, first}
 use Rattle.ark_base.specs.declared.kind.Kind.{Kind}
 use Rattle.ark_base.specs.declared.refusal.Refusal.{Refusal}
 use Rattle.ark_base.specs.declared.refusal.Refusal.TheVariants as r
-use Rattle.ark_packet.specs.declared.own.Own.{Own}
 use Rattle.ark_table.specs.Slots.{Slot}
 use Rattle.ark_script.specs.Line as w
 use Rattle.ark_script.specs.Line.{Line}
@@ -14,12 +13,13 @@ use Rattle.ark_script.specs.declared.said.Said.TheVariants as said
 use Rattle.ark_machine.specs.Objects.{is_vsa}
 use Rattle.ark_machine.specs.Machine.{Machine, unmade, object_at, is_so}
 use Rattle.ark_machine.specs.Row.{Row, Given, Ended, answer}
-use Rattle.ark_machine.specs.Plane.{Plane, LiveFilter, Change, makes, grows, drops, slot_of, recorded}
+use Rattle.ark_machine.specs.Plane.{Plane, Change, makes, grows, drops, slot_of, recorded}
 use Rattle.ark_machine.specs.Granting.{changed, with_granted, after_refusal, change_of, plane_after}
 use Rattle.ark_machine.specs.Step.{step}
-use Rattle.ark_machine.specs.System.{System, machine_of, owner, takes, nic_turn, taken_turn, wire_turn, common_turn, owned_turn, line_turn}
+use Rattle.ark_machine.specs.System.{System, machine_of, line_turn}
 use Rattle.ark_laws.proofs.Ranks.{some_first}
 use Rattle.ark_laws.proofs.Refusing.{chosen_first}
+use Rattle.ark_laws.proofs.Turns.{each_turn}
 
 -- It stays so.
 
@@ -48,30 +48,14 @@ after_failed p m line said.Ok h = granted_failed (changed p (change_of p m line)
 after_failed p m line (said.Refused x) h = refused_failed p x (change_of p m line) h
 after_failed p m line _ h = h
 
-nic_failed : (s : System) (own : Own) (o : Option Own) → s.plane.failed ≡ true → (nic_turn s own o).after.plane.failed ≡ true
-nic_failed s own None h = after_failed s.plane unmade (w.nic own) said.Ok h
-nic_failed s own (Some old) h = h
-
-taken_failed : (s : System) (frame : List ℕ) (o : Option LiveFilter) → s.plane.failed ≡ true → (taken_turn s frame o).after.plane.failed ≡ true
-taken_failed s frame None h = h
-taken_failed s frame (Some f) h = h
-
-wire_failed : (s : System) (frame : List ℕ) (o : Option Own) → s.plane.failed ≡ true → (wire_turn s frame o).after.plane.failed ≡ true
-wire_failed s frame None h = h
-wire_failed s frame (Some own) h = taken_failed s frame (find (λ f. takes own frame f) s.plane.filters) h
-
-common_failed : (s : System) (line : Line) → s.plane.failed ≡ true → (common_turn s line).after.plane.failed ≡ true
-common_failed s (w.tick n) h = h
-common_failed s (w.nic own) h = nic_failed s own s.plane.own h
-common_failed s (w.wire frame) h = wire_failed s frame s.plane.own h
-common_failed s _ h = h
-
 pub stays_failed : (s : System) (line : Line) (ends : List Ended) (memory : Bool) → s.plane.failed ≡ true → (line_turn s line ends memory).after.plane.failed ≡ true
-stays_failed s line ends memory h = by (owner line)
-  where
-    by : (o : Option (List ℕ)) → (owned_turn s line ends memory o).after.plane.failed ≡ true
-    by None = common_failed s line h
-    by (Some a) = after_failed s.plane (machine_of s a) line (step (machine_of s a) line (recorded s.plane line ends memory)).said h
+stays_failed s line ends memory h = each_turn (λ t. t.after.plane.failed ≡ true) s line ends memory (record {
+  own = λ a is. after_failed s.plane (machine_of s a) line (step (machine_of s a) line (recorded s.plane line ends memory)).said h;
+  ticks = λ n is. h;
+  given = λ own is. after_failed s.plane unmade (w.nic own) said.Ok h;
+  arrives = λ frame own f is addressed found. h;
+  quiet = λ reply q. h;
+})
 
 -- No change is made.
 

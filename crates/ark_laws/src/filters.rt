@@ -20,20 +20,27 @@ ghost use Rattle.ark_machine.specs.Filters.{IsFirstSharing, HasRules, without_fi
 /// bytes passes both its filter and a live one, two receive filters, whatever the addresses of this end. The refusal names the
 /// earliest such. Each live filter of a run is one that a line can give: none is live at its start, and each line keeps it.
 pub fn overlap_laws()
-    ensures refused { (s : System) (own : Own) (a f b g : List ℕ) (rule : Filter) (ends : List Ended) (memory : Bool)
-        → IsOwn own → InRange (w.filter a f rule) → HasRules s.plane
-        → ((line_turn s (w.filter a f rule) ends memory).said ≡ said.Refused (r.Overlap b g))
-        ↔ (((line_turn (without_filters s) (w.filter a f rule) [] false).said ≡ said.Ok) × IsFirstSharing own rule s.plane.filters b g) }
+    ensures refused { (s : System) (own : Own) (a f b g : List ℕ) (rule : Filter)
+        (ends : List Ended) (memory : Bool) →
+        IsOwn own → InRange (w.filter a f rule) → HasRules s.plane →
+        ((line_turn s (w.filter a f rule) ends memory).said ≡ said.Refused (r.Overlap b g)) ↔
+        (((line_turn (without_filters s) (w.filter a f rule) [] false).said ≡ said.Ok) ×
+        IsFirstSharing own rule s.plane.filters b g) }
     ensures fresh { (size : ℕ) → HasRules (fresh_system size).plane }
-    ensures stored { (image : List (List ℕ)) (slots : List Slot) → HasRules (start_system image slots).plane }
-    ensures kept { (s : System) (line : Line) (ends : List Ended) (memory : Bool) → InRange line → HasRules s.plane → HasRules (line_turn s line ends memory).after.plane }
+    ensures stored { (image : List (List ℕ)) (slots : List Slot) →
+        HasRules (start_system image slots).plane }
+    ensures kept { (s : System) (line : Line) (ends : List Ended) (memory : Bool) →
+        InRange line → HasRules s.plane → HasRules (line_turn s line ends memory).after.plane }
 {}
 
 /// One list of filters: the plane lists just those that the machines hold, each once, with its rule and the card that it is
 /// assigned to. It is so at the start of a run, on a fresh device or a stored one, and after each line.
 pub fn list_laws()
     ensures fresh { (size : ℕ) → FiltersAgree (fresh_system size) }
-    ensures stored { (image : List (List ℕ)) (slots : List Slot) → FiltersAgree (start_system image slots) }
-    ensures kept { (s : System) (line : Line) (es : List Event) (memory : Bool) → FiltersAgree s
-        → PerformsFor s line (line_turn s line (ends_of es) memory).calls es (owner line) → FiltersAgree (line_turn s line (ends_of es) memory).after }
+    ensures stored { (image : List (List ℕ)) (slots : List Slot) →
+        FiltersAgree (start_system image slots) }
+    ensures kept { (s : System) (line : Line) (es : List Event) (memory : Bool) →
+        FiltersAgree s →
+        PerformsFor s line (line_turn s line (ends_of es) memory).calls es (owner line) →
+        FiltersAgree (line_turn s line (ends_of es) memory).after }
 {}

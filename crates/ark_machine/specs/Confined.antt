@@ -1,7 +1,8 @@
 -- Which blocks a line may touch and which frames it may send, by the grants that are held before it.
-use Rattle.std.specs.Prelude.{◌≡◌, ◌⊎◌, ℕ, Bool, true, false, List, [], ◌∷◌, ◌++◌, length, drop, if◌then◌else◌, is_some, option_map, unwrap_or, Ok, Err, Contains, IsTrue}
+use Rattle.std.specs.Prelude.{◌≡◌, ◌⊎◌, ℕ, Bool, true, ◌&&◌, List, [], ◌∷◌, ◌++◌, length, drop, if◌then◌else◌, is_some, option_map, unwrap_or, Ok, Err, Contains, IsTrue}
 use Rattle.std.specs.List.{flat_map}
 use Rattle.ark_media.specs.Journal.{Event, Read, Write, Sync, Out, has_succeeded, device_events, output_of}
+use Rattle.ark_script.specs.Attributes.{attributes}
 use Rattle.ark_script.specs.Line as w
 use Rattle.ark_script.specs.Line.{Line}
 use Rattle.ark_script.specs.Lines.{Meaning, Says, FirstSay}
@@ -50,16 +51,16 @@ writable s (w.grow a l n) = slots_for s.plane a (w.grow a l n) ++ asked_blocks s
 writable s (w.drop a x) = slots_for s.plane a (w.drop a x)
 writable s _ = []
 
--- whether it may sync: a card that moves is a storage card, what grows is a raw area, and what is dropped has a slot
+-- what is there to be synced: a card that moves is a storage card, what grows is a raw area, and what is dropped has a slot
+abbrev pub is_synced : System → Line → Bool
+is_synced s (w.dev a v) = is_some (vsic_at (machine_of s a) v)
+is_synced s (w.grow a l n) = is_some (raw_at (machine_of s a) l)
+is_synced s (w.drop a x) = is_some (slot_of s.plane a x)
+is_synced s _ = true
+
+-- whether it may sync
 abbrev pub may_sync : System → Line → Bool
-may_sync s (w.log a l v) = true
-may_sync s (w.queue a l v) = true
-may_sync s (w.settle a l) = true
-may_sync s (w.dev a v) = is_some (vsic_at (machine_of s a) v)
-may_sync s (w.vsa a l n k) = true
-may_sync s (w.grow a l n) = is_some (raw_at (machine_of s a) l)
-may_sync s (w.drop a x) = is_some (slot_of s.plane a x)
-may_sync s _ = false
+may_sync s line = (attributes line).may_sync && is_synced s line
 
 abbrev pub IsAllowed : System → Line → Event → Type 0
 IsAllowed s line (Read n ok) = Contains (readable s line) n

@@ -2,7 +2,7 @@
 use Rattle.std.specs.Prelude.{Bool, true, false, ◌&&◌, ◌||◌, List, map, ℕ}
 use Rattle.ark_base.specs.declared.refusal.Refusal.{Refusal}
 use Rattle.ark_base.specs.declared.refusal.Refusal.TheVariants as r
-use Rattle.ark_script.specs.Line as w
+use Rattle.ark_script.specs.Attributes.{attributes}
 use Rattle.ark_script.specs.Line.{Line}
 use Rattle.ark_machine.specs.Machine.{Machine}
 
@@ -19,8 +19,7 @@ is_of_sending r.NoBuffer = true
 is_of_sending _ = false
 
 abbrev pub reaps_first : Line → Bool
-reaps_first (w.sendto a k ip port payload) = true
-reaps_first _ = false
+reaps_first line = (attributes line).reaps_first
 
 -- a device call failed
 abbrev pub is_fault : Refusal → Bool
@@ -33,34 +32,19 @@ may_leave line x = is_fault x || (reaps_first line && is_of_sending x)
 
 -- the line gives its application an area, more blocks, or an open log
 abbrev pub is_gain : Line → Bool
-is_gain (w.vsa a s n k) = true
-is_gain (w.grow a s n) = true
-is_gain (w.log a s v) = true
-is_gain (w.queue a s v) = true
-is_gain _ = false
+is_gain line = (attributes line).gains
 
 -- the line calls the device, and is refused where a call fails
 abbrev pub may_fault : Line → Bool
-may_fault (w.vsa a s n k) = true
-may_fault (w.grow a s n) = true
-may_fault (w.drop a x) = true
-may_fault (w.peek a s off) = true
-may_fault (w.poke a s off bytes) = true
-may_fault (w.log a s v) = true
-may_fault (w.queue a s v) = true
-may_fault (w.walk a s n) = true
-may_fault _ = false
+may_fault line = (attributes line).may_fault
 
 -- the line gives a label up
 abbrev pub gives_up : Line → Bool
-gives_up (w.drop a x) = true
-gives_up _ = false
+gives_up line = (attributes line).gives_up
 
 -- the line reads the device and changes nothing
 abbrev pub is_look : Line → Bool
-is_look (w.peek a s off) = true
-is_look (w.walk a s n) = true
-is_look _ = false
+is_look line = (attributes line).looks
 
 -- the labels that are held
 abbrev pub labels : Machine → List (List ℕ)

@@ -1,8 +1,9 @@
 -- Each reply of a run is that of the machines, given what the plane recorded.
 use Rattle.std.specs.Prelude.{◌≡◌, ◌⊎◌, ℕ, Bool, true, false, List, [], ◌∷◌, ◌++◌, length, drop, bytes_eq, Ok, Err, IsTrue}
+use Rattle.std.specs.List.{list_any}
 use Rattle.ark_base.specs.declared.refusal.Refusal.TheVariants as r
 use Rattle.ark_media.specs.Journal.{Event, output_of, device_events}
-use Rattle.ark_script.specs.Line as w
+use Rattle.ark_script.specs.Attributes.{Ask, attributes, no_memory}
 use Rattle.ark_script.specs.Line.{Line}
 use Rattle.ark_script.specs.Lines.{Meaning, Says, FirstSay}
 use Rattle.ark_script.specs.Text.{text}
@@ -15,16 +16,14 @@ use Rattle.ark_machine.specs.Follow.{Performs, ends_of}
 abbrev pub has_lacked : List Event → Bool
 has_lacked part = bytes_eq (output_of part) (text (said.Refused r.NoMemory) [])
 
--- which words may find no memory
+-- whether it is memory that may be wanting
+abbrev pub is_memory : Ask → Bool
+is_memory no_memory = true
+is_memory _ = false
+
+-- the words that ask for it may find none
 abbrev pub may_lack : Line → Bool
-may_lack (w.app a frames) = true
-may_lack (w.vsic a v size) = true
-may_lack (w.vnic a v rx tx) = true
-may_lack (w.filter a f rule) = true
-may_lack (w.sock a k v port) = true
-may_lack (w.log a s v) = true
-may_lack (w.queue a s v) = true
-may_lack _ = false
+may_lack line = list_any is_memory (attributes line).asks
 
 abbrev pub MayLack : Meaning → Bool → Type 0
 MayLack (Ok line) true = IsTrue (may_lack line)

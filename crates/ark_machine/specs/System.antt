@@ -3,6 +3,7 @@ use Rattle.std.specs.Prelude.{ℕ, ◌+◌, Bool, ◌&&◌, List, [], ◌∷◌,
 use Rattle.ark_base.specs.declared.refusal.Refusal.TheVariants as r
 use Rattle.ark_packet.specs.declared.own.Own.{Own}
 use Rattle.ark_filters.specs.In.{is_in}
+use Rattle.ark_script.specs.Attributes.{attributes}
 use Rattle.ark_script.specs.Line as w
 use Rattle.ark_script.specs.Line.{Line}
 use Rattle.ark_script.specs.declared.said.Said.{Said}
@@ -39,52 +40,7 @@ set_machine (p ∷ ps) a m = if bytes_eq a p.0 then (p.0, m) ∷ ps else p ∷ s
 
 -- the application whose line it is
 abbrev pub owner : Line → Option (List ℕ)
-owner (w.app a x1) = Some a
-owner (w.vsic a x1 x2) = Some a
-owner (w.vnic a x1 x2 x3) = Some a
-owner (w.vsa a x1 x2 x3) = Some a
-owner (w.grow a x1 x2) = Some a
-owner (w.bind a x1 x2) = Some a
-owner (w.unbind a x1 x2) = Some a
-owner (w.filter a x1 x2) = Some a
-owner (w.assign a x1 x2) = Some a
-owner (w.rate a x1 x2 x3) = Some a
-owner (w.pace a x1 x2 x3) = Some a
-owner (w.door a x1) = Some a
-owner (w.watch a x1 x2 x3) = Some a
-owner (w.drop a x1) = Some a
-owner (w.buf a x1 x2) = Some a
-owner (w.fill a x1 x2 x3) = Some a
-owner (w.show a x1 x2 x3) = Some a
-owner (w.copy a x1 x2 x3) = Some a
-owner (w.free a x1) = Some a
-owner (w.peek a x1 x2) = Some a
-owner (w.poke a x1 x2 x3) = Some a
-owner (w.get a x1 x2 x3 x4 x5) = Some a
-owner (w.put a x1 x2 x3 x4 x5) = Some a
-owner (w.flush a x1) = Some a
-owner (w.reap a x1) = Some a
-owner (w.post a x1 x2) = Some a
-owner (w.send a x1 x2 x3) = Some a
-owner (w.take a x1 x2) = Some a
-owner (w.sock a x1 x2 x3) = Some a
-owner (w.sendto a x1 x2 x3 x4) = Some a
-owner (w.recv a x1) = Some a
-owner (w.look a x1) = Some a
-owner (w.log a x1 x2) = Some a
-owner (w.queue a x1 x2) = Some a
-owner (w.append a x1 x2) = Some a
-owner (w.push a x1 x2) = Some a
-owner (w.trim a x1 x2) = Some a
-owner (w.pop a x1) = Some a
-owner (w.walk a x1 x2) = Some a
-owner (w.poll a x1) = Some a
-owner (w.settle a x1) = Some a
-owner (w.close a x1) = Some a
-owner (w.dev a x1) = Some a
-owner (w.nic own) = None
-owner (w.wire frame) = None
-owner (w.tick n) = None
+owner line = (attributes line).owner
 
 -- what one line does: its reply with its bytes, its device calls, and the system after it
 pub record Turn : Type 0 where

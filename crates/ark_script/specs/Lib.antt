@@ -1,4 +1,5 @@
 pub mod Arguments
+pub mod Attributes
 pub mod Form
 pub mod Lending
 pub mod Line

@@ -27,12 +27,7 @@ use Rattle.ark_laws.proofs.Ranks.{first_least, least_first}
 use Rattle.ark_laws.proofs.Labels.{sendto_refused}
 use Rattle.ark_laws.proofs.TableFailed.{stays_failed, no_new_area, no_more_blocks, no_drop}
 use Rattle.ark_laws.proofs.Leaving.{fault_after, new_fails, more_fails, drop_fails}
-
-abbrev a : List ℕ
-a = codes "a"
-
-abbrev s : List ℕ
-s = codes "s"
+use Rattle.ark_worked.proofs.Labels.{a, s, k}
 
 abbrev turned : System → Line → List Event → Turn
 turned t line es = line_turn t line (ends_of es) false
@@ -127,9 +122,6 @@ pub pokes-leaves : (turned granted (w.poke a s 1 (7 ∷ [])) unwritten).after �
 pokes-leaves = fault_after granted a (w.poke a s 1 (7 ∷ [])) (ends_of unwritten) false refl pokes-refused
 
 -- A datagram for which the ring has no place, as the one before it is not sent yet.
-
-abbrev k : List ℕ
-k = codes "k"
 
 abbrev sends : Line
 sends = w.sendto a k (10 ∷ 0 ∷ 0 ∷ 2 ∷ []) 5 (1 ∷ [])

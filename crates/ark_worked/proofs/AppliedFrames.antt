@@ -17,12 +17,7 @@ use Rattle.ark_worked.proofs.Sending.{paced, sends}
 use Rattle.ark_laws.proofs.Sent.{line_sends}
 use Rattle.ark_laws.proofs.FramesKept.{fresh_there, line_there}
 use Rattle.ark_laws.proofs.Letting.{let_out_by_filter, sent_counted, sent_exactly}
-
-abbrev a : List ℕ
-a = codes "a"
-
-abbrev n : List ℕ
-n = codes "n"
+use Rattle.ark_worked.proofs.Labels.{a, n}
 
 -- a frame of 200 bytes waits on a card with a burst of 300
 abbrev before : System

@@ -18,18 +18,7 @@ use Rattle.ark_machine.specs.Start.{start_system}
 use Rattle.ark_machine.specs.Told.{outputs_to}
 use Rattle.ark_worked.proofs.Scripts.{area}
 use Rattle.ark_laws.proofs.Told.{outputs_alike, start_outputs_alike}
-
-abbrev a : List ℕ
-a = codes "a"
-
-abbrev b : List ℕ
-b = codes "b"
-
-abbrev s : List ℕ
-s = codes "s"
-
-abbrev t : List ℕ
-t = codes "t"
+use Rattle.ark_worked.proofs.Labels.{a, b, s, t}
 
 abbrev line : List ℕ → List ℕ
 line words = words ++ 10 ∷ []

@@ -26,18 +26,7 @@ use Rattle.ark_laws.proofs.Granted.{line_apart}
 use Rattle.ark_laws.proofs.Confining.{line_confined, confined_of}
 use Rattle.ark_laws.proofs.OthersLeft.{others_whole, others_torn}
 use Rattle.ark_laws.proofs.Told.{start_alike}
-
-abbrev a : List ℕ
-a = codes "a"
-
-abbrev b : List ℕ
-b = codes "b"
-
-abbrev s : List ℕ
-s = codes "s"
-
-abbrev t : List ℕ
-t = codes "t"
+use Rattle.ark_worked.proofs.Labels.{a, b, s, t}
 
 -- a run from its bytes is confined
 pub run_confined : Confined (fresh_system 200) (lines_of script) whole (Out (line (codes "fault source") []) ∷ [])

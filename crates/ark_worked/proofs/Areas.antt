@@ -13,15 +13,7 @@ use Rattle.ark_machine.specs.Step.{step}
 use Rattle.ark_machine.specs.System.{fresh_system}
 use Rattle.ark_worked.proofs.Playing.{Played, replies, performed}
 use Rattle.ark_worked.proofs.Scripts.{quiet, app, area, granting, dropping, zeroed}
-
-abbrev a : List ℕ
-a = codes "a"
-
-abbrev b : List ℕ
-b = codes "b"
-
-abbrev s : List ℕ
-s = codes "s"
+use Rattle.ark_worked.proofs.Labels.{a, b, s, t, e, x}
 
 -- one application's blocks are its own
 abbrev own_blocks : List Played
@@ -44,9 +36,6 @@ own_blocks-replies = refl
 pub own_blocks-performed : performed (fresh_system 200) own_blocks ≡ true
 unfolding step answer
 own_blocks-performed = refl
-
-abbrev t : List ℕ
-t = codes "t"
 
 -- the smallest device has one block of data
 abbrev smallest : List Played
@@ -85,12 +74,6 @@ takes k = (w.vsa (owner k) (label k) 1 kind.Raw, granting (area (k + 1) (owner k
 
 abbrev drops : ℕ → Played
 drops k = (w.drop (owner (2 * k + 1)) (label (2 * k + 1)), dropping (2 * k + 2))
-
-abbrev e : List ℕ
-e = codes "e"
-
-abbrev x : List ℕ
-x = codes "x"
 
 -- sixteen single blocks
 abbrev singles : Slot

@@ -13,30 +13,7 @@ use Rattle.ark_machine.specs.Step.{step}
 use Rattle.ark_machine.specs.System.{fresh_system}
 use Rattle.ark_worked.proofs.Playing.{Played, replies, performed}
 use Rattle.ark_worked.proofs.Scripts.{quiet, app, area, granting, dropping, slot_written, zeroed}
-
-abbrev a : List ℕ
-a = codes "a"
-
-abbrev b : List ℕ
-b = codes "b"
-
-abbrev s : List ℕ
-s = codes "s"
-
-abbrev t : List ℕ
-t = codes "t"
-
-abbrev v : List ℕ
-v = codes "v"
-
-abbrev m : List ℕ
-m = codes "m"
-
-abbrev n : List ℕ
-n = codes "n"
-
-abbrev o : List ℕ
-o = codes "o"
+use Rattle.ark_worked.proofs.Labels.{a, b, s, t, v, m, n, o, d}
 
 -- a ring of two: full until a finished descriptor is reaped, and a buffer is lent until then
 abbrev ring_of_two : List Played
@@ -99,9 +76,6 @@ dropped_between-replies = refl
 pub dropped_between-performed : performed (fresh_system 200) dropped_between ≡ true
 unfolding step answer
 dropped_between-performed = refl
-
-abbrev d : List ℕ
-d = codes "d"
 
 -- an area grows behind another; a doorbell counts what ended since the last look
 abbrev grown_and_watched : List Played

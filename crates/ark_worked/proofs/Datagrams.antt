@@ -16,24 +16,7 @@ use Rattle.ark_machine.specs.System.{fresh_system}
 use Rattle.ark_worked.proofs.Playing.{Played, replies}
 use Rattle.ark_worked.proofs.Scripts.{quiet, app}
 use Rattle.ark_worked.proofs.Rules.{own_at, all_services, rule}
-
-abbrev a : List ℕ
-a = codes "a"
-
-abbrev f : List ℕ
-f = codes "f"
-
-abbrev j : List ℕ
-j = codes "j"
-
-abbrev k : List ℕ
-k = codes "k"
-
-abbrev n : List ℕ
-n = codes "n"
-
-abbrev ok : List ℕ
-ok = codes "ok"
+use Rattle.ark_worked.proofs.Labels.{a, f, j, k, n, ok}
 
 abbrev nothing : List ℕ
 nothing = codes "ok nothing"

@@ -15,39 +15,7 @@ use Rattle.ark_machine.specs.System.{fresh_system}
 use Rattle.ark_worked.proofs.Playing.{Played, replies, performed}
 use Rattle.ark_worked.proofs.Scripts.{quiet, app, area, granting, dropping}
 use Rattle.ark_worked.proofs.Rules.{own_at, all_services, rule}
-
-abbrev a : List ℕ
-a = codes "a"
-
-abbrev d : List ℕ
-d = codes "d"
-
-abbrev f : List ℕ
-f = codes "f"
-
-abbrev k : List ℕ
-k = codes "k"
-
-abbrev m : List ℕ
-m = codes "m"
-
-abbrev n : List ℕ
-n = codes "n"
-
-abbrev r : List ℕ
-r = codes "r"
-
-abbrev s : List ℕ
-s = codes "s"
-
-abbrev t : List ℕ
-t = codes "t"
-
-abbrev v : List ℕ
-v = codes "v"
-
-abbrev ok : List ℕ
-ok = codes "ok"
+use Rattle.ark_worked.proofs.Labels.{a, d, f, k, m, n, r, s, t, v, ok}
 
 abbrev drops : List ℕ → Played
 drops x = quiet (w.drop a x)

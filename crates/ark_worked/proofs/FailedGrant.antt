@@ -17,12 +17,7 @@ use Rattle.ark_worked.proofs.Scripts.{app, area, zeroed}
 use Rattle.ark_worked.proofs.Areas.{failed_grant}
 use Rattle.ark_worked.proofs.Images.{history}
 use Rattle.ark_worked.proofs.Stops.{single}
-
-abbrev a : List ℕ
-a = codes "a"
-
-abbrev s : List ℕ
-s = codes "s"
+use Rattle.ark_worked.proofs.Labels.{a, s}
 
 abbrev base : List (List ℕ)
 base = replicate 200 zero_block

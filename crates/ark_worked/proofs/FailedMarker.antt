@@ -19,15 +19,7 @@ use Rattle.ark_worked.proofs.Scripts.{quiet}
 use Rattle.ark_worked.proofs.Logs.{with_log, opened, h_entry}
 use Rattle.ark_worked.proofs.Images.{history}
 use Rattle.ark_worked.proofs.Stops.{base, log_slot, recovers_log}
-
-abbrev a : List ℕ
-a = codes "a"
-
-abbrev l : List ℕ
-l = codes "l"
-
-abbrev v : List ℕ
-v = codes "v"
+use Rattle.ark_worked.proofs.Labels.{a, l, v}
 
 abbrev plain : List Played
 plain =

@@ -13,33 +13,7 @@ use Rattle.ark_machine.specs.System.{fresh_system}
 use Rattle.ark_worked.proofs.Playing.{Played, replies, performed}
 use Rattle.ark_worked.proofs.Scripts.{quiet, app}
 use Rattle.ark_worked.proofs.Rules.{own_at, all_services, rule}
-
-abbrev a : List ℕ
-a = codes "a"
-
-abbrev d : List ℕ
-d = codes "d"
-
-abbrev f : List ℕ
-f = codes "f"
-
-abbrev m : List ℕ
-m = codes "m"
-
-abbrev n : List ℕ
-n = codes "n"
-
-abbrev o : List ℕ
-o = codes "o"
-
-abbrev r : List ℕ
-r = codes "r"
-
-abbrev t : List ℕ
-t = codes "t"
-
-abbrev ok : List ℕ
-ok = codes "ok"
+use Rattle.ark_worked.proofs.Labels.{a, d, f, m, n, o, r, t, ok}
 
 -- a network card with a filter either way for all frames, and three buffers
 abbrev carded : List Played

@@ -17,6 +17,7 @@ use Rattle.ark_worked.proofs.Playing.{Played, replies, performed}
 use Rattle.ark_worked.proofs.Scripts.{quiet, app, area, opening}
 use Rattle.ark_worked.proofs.Logs.{pushed_and_popped}
 use Rattle.ark_worked.proofs.Areas.{table_failed}
+use Rattle.ark_worked.proofs.Labels.{a, q, v}
 
 -- a new device of so many blocks, and all that was done to it
 abbrev pub history : ℕ → List Played → List Event
@@ -25,15 +26,6 @@ history n script = Write 0 (superblock n) true true ∷ Sync true ∷ flat_map (
 -- the image that stands after a run on a new device
 abbrev pub image_after : ℕ → List Played → List (List ℕ)
 image_after n script = current (replicate n zero_block) (onto (history n script) [])
-
-abbrev a : List ℕ
-a = codes "a"
-
-abbrev q : List ℕ
-q = codes "q"
-
-abbrev v : List ℕ
-v = codes "v"
 
 abbrev queue_slot : Slot
 queue_slot = area 1 a q kind.Queue 129 8

@@ -37,30 +37,7 @@ use Rattle.ark_laws.proofs.Told.{outputs_private}
 use Rattle.ark_laws.proofs.Damaged.{refused_unchanged}
 use Rattle.ark_laws.proofs.Faults.{gain_refused}
 use Rattle.ark_machine.proofs.Runs.{each_more}
-
-abbrev a : List ℕ
-a = codes "a"
-
-abbrev b : List ℕ
-b = codes "b"
-
-abbrev v : List ℕ
-v = codes "v"
-
-abbrev f : List ℕ
-f = codes "f"
-
-abbrev q : List ℕ
-q = codes "q"
-
-abbrev m : List ℕ
-m = codes "m"
-
-abbrev n : List ℕ
-n = codes "n"
-
-abbrev s : List ℕ
-s = codes "s"
+use Rattle.ark_worked.proofs.Labels.{a, b, v, f, q, m, n, s}
 
 abbrev own : Own
 own = record { mac = 2 ∷ 0 ∷ 0 ∷ 0 ∷ 0 ∷ 1 ∷ []; ip = 10 ∷ 0 ∷ 0 ∷ 1 ∷ []; gateway = 2 ∷ 0 ∷ 0 ∷ 0 ∷ 0 ∷ 2 ∷ [] }

@@ -10,6 +10,7 @@ pub mod FailedGrant
 pub mod FailedMarker
 pub mod Frames
 pub mod Images
+pub mod Labels
 pub mod Lawful
 pub mod Limits
 pub mod Logs

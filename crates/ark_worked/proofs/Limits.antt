@@ -13,12 +13,7 @@ use Rattle.ark_machine.specs.System.{fresh_system}
 use Rattle.ark_worked.proofs.Playing.{Played, replies, performed}
 use Rattle.ark_worked.proofs.Scripts.{quiet, app, area, granting, opening_empty}
 use Rattle.ark_worked.proofs.Rules.{own_at, all_services, rule}
-
-abbrev ok : List ℕ
-ok = codes "ok"
-
-abbrev n : List ℕ
-n = codes "n"
+use Rattle.ark_worked.proofs.Labels.{ok, n}
 
 abbrev to : ℕ → List ℕ
 to last = range_with_len 1 last

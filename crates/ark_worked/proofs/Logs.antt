@@ -14,15 +14,7 @@ use Rattle.ark_machine.specs.Step.{step}
 use Rattle.ark_machine.specs.System.{fresh_system}
 use Rattle.ark_worked.proofs.Playing.{Played, replies, performed}
 use Rattle.ark_worked.proofs.Scripts.{quiet, app, area, granting, opening, appending}
-
-abbrev a : List ℕ
-a = codes "a"
-
-abbrev l : List ℕ
-l = codes "l"
-
-abbrev v : List ℕ
-v = codes "v"
+use Rattle.ark_worked.proofs.Labels.{a, l, v, q}
 
 -- a log or queue of so many blocks, from 129 on, and a card
 abbrev pub with_log : Kind → ℕ → List Played
@@ -111,9 +103,6 @@ unfolding step answer
 wrapped-performed = refl
 
 -- a queue gives its entries in turn, a pushed one already while it waits
-abbrev q : List ℕ
-q = codes "q"
-
 abbrev hi : List ℕ
 hi = 104 ∷ 105 ∷ []
 

@@ -11,12 +11,7 @@ use Rattle.ark_machine.specs.System.{fresh_system}
 use Rattle.ark_worked.proofs.Playing.{Played, replies, performed}
 use Rattle.ark_worked.proofs.Scripts.{quiet, appending}
 use Rattle.ark_worked.proofs.Logs.{with_log, opened, zeros, appending_two}
-
-abbrev a : List ℕ
-a = codes "a"
-
-abbrev l : List ℕ
-l = codes "l"
+use Rattle.ark_worked.proofs.Labels.{a, l}
 
 abbrev empty_entry : List ℕ
 empty_entry = entry_bytes 1 1 []

@@ -19,15 +19,7 @@ use Rattle.ark_laws.proofs.Flushing.{flushed_may}
 use Rattle.ark_laws.proofs.Synced.{synced_line}
 use Rattle.ark_worked.proofs.Playing.{Played, played, performed}
 use Rattle.ark_worked.proofs.Scripts.{quiet, app, area, granting}
-
-abbrev a : List ℕ
-a = codes "a"
-
-abbrev s : List ℕ
-s = codes "s"
-
-abbrev v : List ℕ
-v = codes "v"
+use Rattle.ark_worked.proofs.Labels.{a, s, v, t}
 
 abbrev written : List ℕ
 written = padded (10 ∷ 255 ∷ [])
@@ -103,9 +95,6 @@ unfolding step answer
 flushed-raw = flushed_may posted a v s (ends_of (Sync true ∷ [])) false (raw_written 1 written false fresh) refl refl refl
 
 -- another area is granted behind the write: its first sync is of the whole device
-abbrev t : List ℕ
-t = codes "t"
-
 abbrev after_poke : System
 after_poke = played (fresh_system 200) (poked false false)
 

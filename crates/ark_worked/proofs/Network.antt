@@ -18,21 +18,10 @@ use Rattle.ark_machine.specs.System.{fresh_system}
 use Rattle.ark_worked.proofs.Playing.{Played, replies, performed}
 use Rattle.ark_worked.proofs.Scripts.{quiet, app, area, granting, opening_empty, appending}
 use Rattle.ark_worked.proofs.Rules.{own_at, between, rule}
+use Rattle.ark_worked.proofs.Labels.{db, n, l, j}
 
 abbrev web : List ℕ
 web = codes "web"
-
-abbrev db : List ℕ
-db = codes "db"
-
-abbrev n : List ℕ
-n = codes "n"
-
-abbrev l : List ℕ
-l = codes "l"
-
-abbrev j : List ℕ
-j = codes "j"
 
 abbrev gateway : List ℕ
 gateway = 10 ∷ 0 ∷ 0 ∷ 2 ∷ []

@@ -13,18 +13,7 @@ use Rattle.ark_machine.specs.System.{fresh_system}
 use Rattle.ark_worked.proofs.Playing.{Played, replies, performed}
 use Rattle.ark_worked.proofs.Scripts.{quiet, app}
 use Rattle.ark_worked.proofs.Rules.{own_at, one_peer, between, rule, rule_from}
-
-abbrev a : List ℕ
-a = codes "a"
-
-abbrev f : List ℕ
-f = codes "f"
-
-abbrev g : List ℕ
-g = codes "g"
-
-abbrev h : List ℕ
-h = codes "h"
+use Rattle.ark_worked.proofs.Labels.{a, f, g, h, n}
 
 -- Receive filters share no frame: ports beside ports, a type that holds them, another protocol, another direction.
 abbrev overlaps : List Played
@@ -57,9 +46,6 @@ unfolding step answer
 overlaps-performed = refl
 
 -- Two applications receive at one port, each from its own peer.
-
-abbrev n : List ℕ
-n = codes "n"
 
 abbrev here : List ℕ
 here = 10 ∷ 0 ∷ 0 ∷ 1 ∷ []

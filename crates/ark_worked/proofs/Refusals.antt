@@ -15,33 +15,10 @@ use Rattle.ark_machine.specs.System.{fresh_system}
 use Rattle.ark_worked.proofs.Playing.{Played, replies, words_said}
 use Rattle.ark_worked.proofs.Scripts.{quiet, app, area, granting, numbered, reply_after}
 use Rattle.ark_worked.proofs.Rules.{own_at}
-
-abbrev a : List ℕ
-a = codes "a"
-
-abbrev d : List ℕ
-d = codes "d"
-
-abbrev f : List ℕ
-f = codes "f"
-
-abbrev k : List ℕ
-k = codes "k"
-
-abbrev n : List ℕ
-n = codes "n"
-
-abbrev s : List ℕ
-s = codes "s"
-
-abbrev v : List ℕ
-v = codes "v"
+use Rattle.ark_worked.proofs.Labels.{a, d, f, k, n, s, v, ok}
 
 abbrev given_nic : Played
 given_nic = quiet (w.nic (own_at (10 ∷ 0 ∷ 0 ∷ 1 ∷ [])))
-
-abbrev ok : List ℕ
-ok = codes "ok"
 
 -- Refusals at sight.
 

@@ -17,33 +17,7 @@ use Rattle.ark_machine.specs.System.{System, fresh_system}
 use Rattle.ark_worked.proofs.Playing.{Played, replies, performed}
 use Rattle.ark_worked.proofs.Scripts.{quiet, app, area, granting, dropping, zeroed, opening_empty, failed_read, numbered, reply_after}
 use Rattle.ark_worked.proofs.Rules.{own_at, between, rule}
-
-abbrev a : List ℕ
-a = codes "a"
-
-abbrev f : List ℕ
-f = codes "f"
-
-abbrev g : List ℕ
-g = codes "g"
-
-abbrev k : List ℕ
-k = codes "k"
-
-abbrev l : List ℕ
-l = codes "l"
-
-abbrev n : List ℕ
-n = codes "n"
-
-abbrev s : List ℕ
-s = codes "s"
-
-abbrev v : List ℕ
-v = codes "v"
-
-abbrev ok : List ℕ
-ok = codes "ok"
+use Rattle.ark_worked.proofs.Labels.{a, f, g, k, l, n, s, v, ok}
 
 abbrev given_nic : Played
 given_nic = quiet (w.nic (own_at (10 ∷ 0 ∷ 0 ∷ 1 ∷ [])))

@@ -17,21 +17,7 @@ use Rattle.ark_machine.specs.Step.{step}
 use Rattle.ark_machine.specs.System.{System, fresh_system}
 use Rattle.ark_worked.proofs.Playing.{Played, replies, performed}
 use Rattle.ark_worked.proofs.Scripts.{quiet, area, granting, dropping, opening_empty, appending, failed_read, reply_after}
-
-abbrev a : List ℕ
-a = codes "a"
-
-abbrev l : List ℕ
-l = codes "l"
-
-abbrev m : List ℕ
-m = codes "m"
-
-abbrev v : List ℕ
-v = codes "v"
-
-abbrev ok : List ℕ
-ok = codes "ok"
+use Rattle.ark_worked.proofs.Labels.{a, l, m, v, ok}
 
 -- a log of so many blocks from block 129 on, open on a card
 abbrev opened : ℕ → ℕ → List Played

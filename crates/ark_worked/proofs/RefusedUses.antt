@@ -14,36 +14,7 @@ use Rattle.ark_machine.specs.System.{fresh_system, machine_of}
 use Rattle.ark_worked.proofs.Playing.{Played, replies, performed, played}
 use Rattle.ark_worked.proofs.Scripts.{quiet, app, area, granting, zeroed, opening_empty}
 use Rattle.ark_worked.proofs.Rules.{own_at}
-
-abbrev a : List ℕ
-a = codes "a"
-
-abbrev k : List ℕ
-k = codes "k"
-
-abbrev l : List ℕ
-l = codes "l"
-
-abbrev m : List ℕ
-m = codes "m"
-
-abbrev n : List ℕ
-n = codes "n"
-
-abbrev o : List ℕ
-o = codes "o"
-
-abbrev s : List ℕ
-s = codes "s"
-
-abbrev u : List ℕ
-u = codes "u"
-
-abbrev v : List ℕ
-v = codes "v"
-
-abbrev ok : List ℕ
-ok = codes "ok"
+use Rattle.ark_worked.proofs.Labels.{a, k, l, m, n, o, s, u, v, ok}
 
 abbrev given_nic : Played
 given_nic = quiet (w.nic (own_at (10 ∷ 0 ∷ 0 ∷ 1 ∷ [])))

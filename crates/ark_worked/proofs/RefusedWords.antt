@@ -13,33 +13,7 @@ use Rattle.ark_machine.specs.System.{fresh_system}
 use Rattle.ark_worked.proofs.Playing.{Played, replies, performed}
 use Rattle.ark_worked.proofs.Scripts.{quiet, app, area, granting, opening_empty}
 use Rattle.ark_worked.proofs.Rules.{own_at, all_services, rule}
-
-abbrev a : List ℕ
-a = codes "a"
-
-abbrev f : List ℕ
-f = codes "f"
-
-abbrev l : List ℕ
-l = codes "l"
-
-abbrev m : List ℕ
-m = codes "m"
-
-abbrev n : List ℕ
-n = codes "n"
-
-abbrev s : List ℕ
-s = codes "s"
-
-abbrev u : List ℕ
-u = codes "u"
-
-abbrev v : List ℕ
-v = codes "v"
-
-abbrev x : List ℕ
-x = codes "x"
+use Rattle.ark_worked.proofs.Labels.{a, f, l, m, n, s, u, v, x}
 
 abbrev given_nic : Played
 given_nic = quiet (w.nic (own_at (10 ∷ 0 ∷ 0 ∷ 1 ∷ [])))

@@ -13,15 +13,7 @@ use Rattle.ark_worked.proofs.Playing.{Played, replies, performed}
 use Rattle.ark_worked.proofs.Scripts.{quiet, app, opening}
 use Rattle.ark_worked.proofs.Logs.{header}
 use Rattle.ark_worked.proofs.Stops.{appended, acknowledged, with_entry, without_entry, log_slot}
-
-abbrev a : List ℕ
-a = codes "a"
-
-abbrev l : List ℕ
-l = codes "l"
-
-abbrev v : List ℕ
-v = codes "v"
+use Rattle.ark_worked.proofs.Labels.{a, l, v}
 
 pub appended-replies : replies (fresh_system 200) appended ≡ codes "ok" ∷ codes "ok" ∷ codes "ok" ∷ codes "ok 1 0" ∷ codes "ok 1" ∷ []
 unfolding step answer digits

@@ -19,15 +19,7 @@ use Rattle.ark_worked.proofs.Playing.{played}
 use Rattle.ark_worked.proofs.Scripts.{quiet, area, zeroed}
 use Rattle.ark_worked.proofs.Images.{history}
 use Rattle.ark_worked.proofs.Stops.{base, log_slot, reused, single, recovers_log}
-
-abbrev a : List ℕ
-a = codes "a"
-
-abbrev l : List ℕ
-l = codes "l"
-
-abbrev v : List ℕ
-v = codes "v"
+use Rattle.ark_worked.proofs.Labels.{a, l, v}
 
 abbrev no_entries : Found
 no_entries = found (record { first = 1; payloads = [] })

@@ -20,12 +20,7 @@ use Rattle.ark_machine.specs.Stopped.{RunRecovers}
 use Rattle.ark_worked.proofs.Scripts.{app, area, granting}
 use Rattle.ark_worked.proofs.Images.{image_after}
 use Rattle.ark_worked.proofs.Stops.{single}
-
-abbrev a : List ℕ
-a = codes "a"
-
-abbrev r : List ℕ
-r = codes "r"
+use Rattle.ark_worked.proofs.Labels.{a, r}
 
 -- A run on an area that is stored: a stop within the second of two pokes, neither of which is synced.
 

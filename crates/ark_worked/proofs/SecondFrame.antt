@@ -17,12 +17,7 @@ use Rattle.ark_machine.specs.Confined.{IsPartConfined}
 use Rattle.ark_worked.proofs.Playing.{played}
 use Rattle.ark_worked.proofs.Scripts.{quiet}
 use Rattle.ark_worked.proofs.Lawful.{two_posted, frame}
-
-abbrev a : List ℕ
-a = codes "a"
-
-abbrev v : List ℕ
-v = codes "v"
+use Rattle.ark_worked.proofs.Labels.{a, v}
 
 -- one frame of 15 bytes went out, at 20 bytes of a burst
 abbrev once : System

@@ -13,12 +13,7 @@ use Rattle.ark_machine.specs.System.{fresh_system}
 use Rattle.ark_worked.proofs.Playing.{Played, replies, performed}
 use Rattle.ark_worked.proofs.Scripts.{quiet, app}
 use Rattle.ark_worked.proofs.Rules.{own_at, all_services, rule}
-
-abbrev a : List ℕ
-a = codes "a"
-
-abbrev n : List ℕ
-n = codes "n"
+use Rattle.ark_worked.proofs.Labels.{a, n}
 
 -- a buffer that begins with the head of a frame to the gateway
 abbrev framed : List ℕ → List Played

@@ -14,6 +14,7 @@ use Rattle.ark_machine.specs.Built.{turn}
 use Rattle.ark_machine.specs.Follow.{ends_of}
 use Rattle.ark_worked.proofs.Playing.{Played, words_said, performs_for}
 use Rattle.ark_worked.proofs.Scripts.{quiet, app}
+use Rattle.ark_worked.proofs.Labels.{a, b, s}
 
 abbrev turned : System → Played → Turn
 turned s p = turn s (Ok p.0) (ends_of p.1) false
@@ -25,15 +26,6 @@ replies s (p ∷ ps) = words_said (turned s p) ∷ replies (turned s p).after ps
 abbrev performed : System → List Played → Bool
 performed s [] = true
 performed s (p ∷ ps) = performs_for s p.0 (turned s p) p.1 (owner p.0) && performed (turned s p).after ps
-
-abbrev a : List ℕ
-a = codes "a"
-
-abbrev b : List ℕ
-b = codes "b"
-
-abbrev s : List ℕ
-s = codes "s"
 
 abbrev own_blocks : List Played
 own_blocks =

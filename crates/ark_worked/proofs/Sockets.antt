@@ -12,15 +12,7 @@ use Rattle.ark_machine.specs.System.{fresh_system}
 use Rattle.ark_worked.proofs.Playing.{Played, replies, performed}
 use Rattle.ark_worked.proofs.Scripts.{quiet, app}
 use Rattle.ark_worked.proofs.Rules.{own_at, between, rule}
-
-abbrev a : List ℕ
-a = codes "a"
-
-abbrev n : List ℕ
-n = codes "n"
-
-abbrev k : List ℕ
-k = codes "k"
+use Rattle.ark_worked.proofs.Labels.{a, n, k}
 
 -- A frame of 129 bytes, with these flags and this header checksum: 87 zeros from port 5000 of 192.168.0.1 to port 100 of
 -- 192.168.0.199, with no checksum of their own.

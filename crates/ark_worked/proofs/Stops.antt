@@ -21,12 +21,7 @@ use Rattle.ark_worked.proofs.Playing.{Played, played, replies, performed}
 use Rattle.ark_worked.proofs.Scripts.{quiet, app, area, granting, dropping}
 use Rattle.ark_worked.proofs.Logs.{with_log, opened}
 use Rattle.ark_worked.proofs.Images.{history}
-
-abbrev a : List ℕ
-a = codes "a"
-
-abbrev l : List ℕ
-l = codes "l"
+use Rattle.ark_worked.proofs.Labels.{a, l, r, b, v}
 
 abbrev pub base : List (List ℕ)
 base = replicate 200 zero_block
@@ -118,12 +113,6 @@ only_with image left n lt = left.each n lt
 
 -- An old entry's bytes in blocks that are granted anew: no stop shows it in the new log.
 
-abbrev r : List ℕ
-r = codes "r"
-
-abbrev b : List ℕ
-b = codes "b"
-
 abbrev pub reused : List Played
 reused =
     app b
@@ -143,9 +132,6 @@ pub nothing_found : (image : List (List ℕ)) → MayLeave Whole base (onto (his
 nothing_found image left = ap (λ x. found_of kind.Log x) (zero_again image left)
 
 -- The replies of this script.
-
-abbrev v : List ℕ
-v = codes "v"
 
 abbrev reused_log : List Played
 reused_log = reused ++ (quiet (w.vsic a v 2) ∷ (w.log a l v, Sync true ∷ Write 129 (header_bytes kind.Log 1 0 0 0) true true ∷ Sync true ∷ []) ∷ [])

@@ -12,33 +12,7 @@ use Rattle.ark_machine.specs.Step.{step}
 use Rattle.ark_machine.specs.System.{fresh_system}
 use Rattle.ark_worked.proofs.Playing.{Played, replies, performed}
 use Rattle.ark_worked.proofs.Scripts.{quiet, app, area, granting, opening_empty}
-
-abbrev a : List ℕ
-a = codes "a"
-
-abbrev d : List ℕ
-d = codes "d"
-
-abbrev l : List ℕ
-l = codes "l"
-
-abbrev m : List ℕ
-m = codes "m"
-
-abbrev n : List ℕ
-n = codes "n"
-
-abbrev r : List ℕ
-r = codes "r"
-
-abbrev s : List ℕ
-s = codes "s"
-
-abbrev v : List ℕ
-v = codes "v"
-
-abbrev ok : List ℕ
-ok = codes "ok"
+use Rattle.ark_worked.proofs.Labels.{a, d, l, m, n, r, s, v, ok}
 
 -- Buffers: a copy onto itself changes nothing, and one to another takes the front alone.
 abbrev copies : List Played

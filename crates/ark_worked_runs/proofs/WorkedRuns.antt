@@ -23,7 +23,7 @@ use Rattle.ark_cli.specs.Words.{IsRun}
 use Rattle.ark_cli.specs.Line.{limit}
 use Rattle.ark_cli.specs.Opening.{SinceMake, IsOpening}
 use Rattle.ark_cli.specs.Cut.{CutReplies}
-use Rattle.ark_cli.proofs.Cutting.{cut_confined_of}
+use Rattle.ark_cli.proofs.CutReplies.{cut_confined_of}
 use Rattle.ark_cli.specs.Ending.{RecoversAtFronts, PutsLine, Closes, HasRun, Ends, IsClosed, Does, runs}
 
 abbrev pub line : List ℕ → List ℕ

@@ -2,9 +2,9 @@ use Rattle.std.proofs.Common.{subst}
 use Rattle.std.specs.Prelude.{map, string_bytes}
 use Rattle.ark_base.specs.declared.status.Status.{Status}
 use Rattle.ark_cli.specs.Ending.{IsCause}
-use Rattle.ark_cli.proofs.Closing.{does, undamaged, cause_closed, usage_only, usage_where}
-use Rattle.ark_cli.proofs.Completing.{complete}
-use Rattle.ark_cli.proofs.Unfailed.{no_fault}
+use Rattle.ark_cli.proofs.ClosingLines.{does, undamaged, cause_closed, usage_only, usage_where}
+use Rattle.ark_cli.proofs.Completeness.{complete}
+use Rattle.ark_cli.proofs.NoneFailed.{no_fault}
 use Rattle.ark_cli.proofs.command.arrakis.Goals as goal
 
 pub close-requires : goal.close-requires

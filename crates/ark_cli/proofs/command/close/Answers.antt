@@ -1,6 +1,6 @@
 use Rattle.std.proofs.Common.{inl, inr}
-use Rattle.ark_cli.proofs.Closing.{closes_none}
-use Rattle.ark_cli.proofs.Unfailed.{none_failed}
+use Rattle.ark_cli.proofs.ClosingLines.{closes_none}
+use Rattle.ark_cli.proofs.NoneFailed.{none_failed}
 use Rattle.ark_cli.proofs.command.close.Goals as goal
 
 pub returns-in-Done : goal.returns-in-Done

@@ -1,8 +1,8 @@
 use Rattle.std.proofs.Common.{true, ◌∙◌, subst}
 use Rattle.ark_media.specs.Calls.{Makes}
 use Rattle.ark_table.specs.Superblock.{format_calls}
-use Rattle.ark_cli.proofs.Opened.{ready_line, since_make, opens_ready, opens_unshown}
-use Rattle.ark_cli.proofs.Unfailed.{unfailed_then, unfailed_made, unfailed_kept, unfailed_put}
+use Rattle.ark_cli.proofs.Openings.{ready_line, since_make, opens_ready, opens_unshown}
+use Rattle.ark_cli.proofs.NoneFailed.{unfailed_then, unfailed_made, unfailed_kept, unfailed_put}
 use Rattle.ark_cli.proofs.opening.open_new.Goals as goal
 
 pub returns-in-Ok-put-clause-opens : goal.returns-in-Ok-put-clause-opens

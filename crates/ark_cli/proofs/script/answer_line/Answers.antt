@@ -4,12 +4,12 @@ use Rattle.std.proofs.lemmas.Result.{on_ok_weaker}
 use Rattle.ark_media.specs.Journal.{Out}
 use Rattle.ark_media.specs.Calls.{Puts}
 use Rattle.ark_media.proofs.Composing.{goes_kept, goes_put, goes_then}
-use Rattle.ark_cli.proofs.Answering.{answer}
-use Rattle.ark_cli.proofs.Unfailed.{unfailed_then, unfailed_kept, unfailed_put}
+use Rattle.ark_cli.proofs.PutLines.{line_put}
+use Rattle.ark_cli.proofs.NoneFailed.{unfailed_then, unfailed_kept, unfailed_put}
 use Rattle.ark_cli.proofs.script.answer_line.Goals as goal
 
-pub returns-clause-answers : goal.returns-clause-answers
-returns-clause-answers g c =
+pub returns-clause-puts : goal.returns-clause-puts
+returns-clause-puts g c =
     let served = c.serve_line.ensures.serves in
     let w0 = c.args.world.now in
     let w1 = c.serve_line.new.disk in
@@ -21,7 +21,7 @@ returns-clause-answers g c =
     record {
       events = _;
       goes = goes_then served.events (Out puts.part ∷ []) [] [] (g.W.Disk.told w0) (g.W.Disk.told w1) (g.W.Disk.told w2) (g.W.Outside.beside w0) (g.W.Outside.beside w1) (g.W.Outside.beside w2) first then;
-      does = λ whole e. answer c.args.host.now whole served.events (g.W.Disk.told w1) (g.W.Disk.told w2) c.serve_line.new.host _ _ (served.does whole e) (is_ok c.put.result) c.serve_line.ensures.said puts;
+      does = λ whole e. line_put c.args.host.now whole served.events (g.W.Disk.told w1) (g.W.Disk.told w2) c.serve_line.new.host _ _ (served.does whole e) (is_ok c.put.result) c.serve_line.ensures.said puts;
     }
 
 pub returns-clause-unfailed : goal.returns-clause-unfailed

@@ -3,12 +3,12 @@ use Rattle.std.proofs.lemmas.Grind.{common_steps}
 use Rattle.std.specs.Prelude.{is_ok}
 use Rattle.ark_cli.specs.Line.{kept}
 use Rattle.ark_cli.proofs.Kept.{kept_more, kept_empty}
-use Rattle.ark_cli.proofs.Feeding.{feeds_ended, none_of_length}
+use Rattle.ark_cli.proofs.FedLines.{feeds_ended, none_of_length}
 use Rattle.ark_cli.proofs.script.end_line.Goals as goal
 
 pub returns-then-is_empty-clause-feeds : goal.returns-then-is_empty-clause-feeds
 returns-then-is_empty-clause-feeds g c =
-    let a = c.answer_line.ensures.answers in
+    let a = c.answer_line.ensures.puts in
     let none : length c.bytes.result.now ≡ 0 = grind (arith, common_steps, c.if-is_empty.true, c.if-is_empty.ensures, c.is_empty.ensures) in
     let empty = sym c.bytes.ensures.same ∙ none_of_length c.bytes.result.now none in
     record {
@@ -22,7 +22,7 @@ returns-then-is_empty-clause-feeds g c =
 
 pub returns-clause-feeds : goal.returns-clause-feeds
 returns-clause-feeds g c =
-    let a = c.answer_line-answered.ensures.answers in
+    let a = c.answer_line-answered.ensures.puts in
     record {
       events = a.events;
       goes = a.goes;

@@ -4,9 +4,9 @@ use Rattle.std.proofs.lemmas.List.{take_all, take_rest, take-append-drop}
 use Rattle.std.proofs.Math.Seq.{take-add}
 use Rattle.ark_media.proofs.Composing.{goes_none, goes_then}
 use Rattle.ark_host.specs.Inside.{IsInside}
-use Rattle.ark_cli.specs.Session.{Feeds}
-use Rattle.ark_cli.proofs.Feeding.{feeds_none, feeds_then}
-use Rattle.ark_cli.proofs.Unfailed.{none_failed, unfailed_then}
+use Rattle.ark_cli.specs.Session.{FeedsMore}
+use Rattle.ark_cli.proofs.FedLines.{feeds_none, feeds_then}
+use Rattle.ark_cli.proofs.NoneFailed.{none_failed, unfailed_then}
 use Rattle.ark_cli.proofs.script.run_bytes.Goals as goal
 
 pub loop-at-init : goal.loop-at-init
@@ -41,9 +41,9 @@ returns-in_err-at-clause-feeds g c =
       goes = goes_then before.events now.events [] [] (g.W.Disk.told w0) (g.W.Disk.told w1) (g.W.Disk.told w2) (g.W.Outside.beside w0) (g.W.Outside.beside w1) (g.W.Outside.beside w2) before.goes now.goes;
       does = λ s fed added f.
           let first = before.does s fed added f in
-          subst (λ b. Feeds s fed b added (before.events ++ now.events) c.run_piece.new.host (g.W.Disk.told w2) c.run_piece.new.line false) (take-append-drop i bytes)
+          subst (λ b. FeedsMore s fed b added (before.events ++ now.events) c.run_piece.new.host (g.W.Disk.told w2) c.run_piece.new.line false) (take-append-drop i bytes)
           (feeds_then s fed added (take i bytes) (drop i bytes) before.events now.events c.loop-at.host c.run_piece.new.host (g.W.Disk.told w1) (g.W.Disk.told w2) c.loop-at.line c.run_piece.new.line false
-          first (subst (λ b. Feeds s (fed ++ take i bytes) b (added ++ before.events) now.events c.run_piece.new.host (g.W.Disk.told w2) c.run_piece.new.line false) (take_rest bytes i)
+          first (subst (λ b. FeedsMore s (fed ++ take i bytes) b (added ++ before.events) now.events c.run_piece.new.host (g.W.Disk.told w2) c.run_piece.new.line false) (take_rest bytes i)
           (now.does s (fed ++ take i bytes) (added ++ before.events) (first.done refl))));
     })
 
@@ -63,9 +63,9 @@ loop-at-preserved g c =
         goes = goes_then before.events now.events [] [] (g.W.Disk.told w0) (g.W.Disk.told w1) (g.W.Disk.told w2) (g.W.Outside.beside w0) (g.W.Outside.beside w1) (g.W.Outside.beside w2) before.goes now.goes;
         does = λ s fed added f.
             let first = before.does s fed added f in
-            subst (λ b. Feeds s fed b added (before.events ++ now.events) c.run_piece.new.host (g.W.Disk.told w2) c.run_piece.new.line true) (sym (take-add i n bytes))
+            subst (λ b. FeedsMore s fed b added (before.events ++ now.events) c.run_piece.new.host (g.W.Disk.told w2) c.run_piece.new.line true) (sym (take-add i n bytes))
             (feeds_then s fed added (take i bytes) (take n (drop i bytes)) before.events now.events c.loop-at.host c.run_piece.new.host (g.W.Disk.told w1) (g.W.Disk.told w2) c.loop-at.line c.run_piece.new.line true
-            first (subst (λ b. Feeds s (fed ++ take i bytes) (take n b) (added ++ before.events) now.events c.run_piece.new.host (g.W.Disk.told w2) c.run_piece.new.line true) (take_rest bytes i)
+            first (subst (λ b. FeedsMore s (fed ++ take i bytes) (take n b) (added ++ before.events) now.events c.run_piece.new.host (g.W.Disk.told w2) c.run_piece.new.line true) (take_rest bytes i)
             (now.does s (fed ++ take i bytes) (added ++ before.events) (first.done refl))));
       };
       unfailed = unfailed_then (g.W.Outside.beside w0) (g.W.Outside.beside w1) (g.W.Outside.beside w2) c.loop-at.invariant.unfailed c.in_ok-at.ensures.unfailed;
@@ -83,7 +83,7 @@ returns-clause-feeds g c =
       events = before.events;
       goes = before.goes;
       does = λ s fed added f.
-          subst (λ b. Feeds s fed b added before.events c.loop-at.host (g.W.Disk.told c.loop-at.world) c.loop-at.line true)
+          subst (λ b. FeedsMore s fed b added before.events c.loop-at.host (g.W.Disk.told c.loop-at.world) c.loop-at.line true)
           (take_all c.loop-at.at bytes (search rules)) (before.does s fed added f);
     }
 

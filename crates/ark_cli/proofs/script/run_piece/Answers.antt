@@ -2,10 +2,10 @@ use Rattle.std.proofs.Common.{◌≡◌, ◌+◌, ◌∷◌, ◌++◌, [], lengt
 use Rattle.std.proofs.lemmas.List.{take_all, take-append-drop}
 use Rattle.ark_media.proofs.Composing.{goes_none}
 use Rattle.ark_cli.specs.Line.{kept}
-use Rattle.ark_cli.specs.Session.{Feeds}
-use Rattle.ark_cli.proofs.Feeding.{feeds_bytes, feeds_cut}
-use Rattle.ark_cli.proofs.Piecing.{clean_before, clean_all, front_ended}
-use Rattle.ark_cli.proofs.Unfailed.{none_failed}
+use Rattle.ark_cli.specs.Session.{FeedsMore}
+use Rattle.ark_cli.proofs.FedLines.{feeds_bytes, feeds_cut}
+use Rattle.ark_cli.proofs.FirstNewline.{clean_before, clean_all, front_ended}
+use Rattle.ark_cli.proofs.NoneFailed.{none_failed}
 use Rattle.ark_cli.proofs.script.run_piece.Goals as goal
 
 pub end_line-requires-clause-clean : goal.end_line-requires-clause-clean
@@ -22,7 +22,7 @@ returns-in-Err-clause-feeds g c =
       goes = now.goes;
       does = λ s fed added f.
           let front = front_ended bytes k c.in-Some.ensures.0.high c.in-Some.ensures.1 in
-          subst (λ b. Feeds s fed b added now.events c.end_line.new.host told c.end_line.new.line false) (ap (λ b. b ++ drop (k + 1) bytes) (sym front) ∙ take-append-drop (k + 1) bytes)
+          subst (λ b. FeedsMore s fed b added now.events c.end_line.new.host told c.end_line.new.line false) (ap (λ b. b ++ drop (k + 1) bytes) (sym front) ∙ take-append-drop (k + 1) bytes)
           (feeds_cut s fed added (take k bytes ++ 10 ∷ []) (drop (k + 1) bytes) now.events c.end_line.new.host told c.end_line.new.line (now.does s fed added f));
     }
 
@@ -36,8 +36,8 @@ returns-in-None-clause-feeds g c =
       goes = goes_none told told beside beside refl refl;
       does = λ s fed added f.
           let all : take (length bytes) bytes ≡ bytes = take_all (length bytes) bytes (omega arith) in
-          subst (λ b. Feeds s fed b added [] c.args.host.now told c.extend.new.self true) (sym all)
-          (subst (λ l. Feeds s fed bytes added [] c.args.host.now told l true) (sym c.extend.ensures)
+          subst (λ b. FeedsMore s fed b added [] c.args.host.now told c.extend.new.self true) (sym all)
+          (subst (λ l. FeedsMore s fed bytes added [] c.args.host.now told l true) (sym c.extend.ensures)
           (feeds_bytes s fed added c.args.host.now told c.args.line.now bytes f (clean_all bytes c.in-None.ensures)));
     }
 

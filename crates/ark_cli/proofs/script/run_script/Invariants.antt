@@ -1,12 +1,12 @@
 use Rattle.std.proofs.Common.{◌≤◌, ◌-◌}
 use Rattle.ark_host.specs.Inside.{IsInside}
 use Rattle.ark_host.specs.Time.{IsSound}
-use Rattle.ark_cli.specs.Session.{Going, NoneFailed}
+use Rattle.ark_cli.specs.Session.{FetchesSoFar, NoneFailed}
 use Rattle.ark_cli.proofs.script.run_script.Given as goal
 
 abbrev pub invariant-loop-count : goal.invariant-loop-count
 invariant-loop-count g l = record {
-  going : Going (g.W.Disk.told l.initial.world) (g.W.Disk.told l.world) (g.W.Outside.beside l.initial.world) (g.W.Outside.beside l.world) l.initial.host l.host l.initial.line l.line l.count;
+  going : FetchesSoFar (g.W.Disk.told l.initial.world) (g.W.Disk.told l.world) (g.W.Outside.beside l.initial.world) (g.W.Outside.beside l.world) l.initial.host l.host l.initial.line l.line l.count;
   few : l.count ≤ 1073741824;
   unfailed : NoneFailed (g.W.Outside.beside l.initial.world) (g.W.Outside.beside l.world);
   sound : IsSound l.host;

@@ -1,31 +1,31 @@
 use Rattle.std.proofs.Common.{length, arith, sym, subst}
 use Rattle.ark_host.specs.Inside.{IsInside}
-use Rattle.ark_cli.proofs.Turning.{turn_source, turn_ok, turn_sink}
-use Rattle.ark_cli.proofs.Unfailed.{unfailed_then, unfailed_fetched}
+use Rattle.ark_cli.proofs.Fetches.{fetch_failed, fetches_fed, fetches_cut}
+use Rattle.ark_cli.proofs.NoneFailed.{unfailed_then, unfailed_fetched}
 use Rattle.ark_cli.proofs.script.turn.Goals as goal
 
-pub returns-in-Err-clause-turns : goal.returns-in-Err-clause-turns
-returns-in-Err-clause-turns g c =
+pub returns-in-Err-clause-fetches : goal.returns-in-Err-clause-fetches
+returns-in-Err-clause-fetches g c =
     let w0 = c.args.world.now in
     let w1 = c.fetch.new.self in
-    turn_source (length c.args.chunk.now) (g.W.Disk.told w0) (g.W.Disk.told w1) (g.W.Outside.beside w0) (g.W.Outside.beside w1) c.args.host.now c.args.line.now
+    fetch_failed (length c.args.chunk.now) (g.W.Disk.told w0) (g.W.Disk.told w1) (g.W.Outside.beside w0) (g.W.Outside.beside w1) c.args.host.now c.args.line.now
     c.in-Err.ensures.none c.fetch.ensures.rests c.fetch.ensures.keeps c.fetch.ensures.cause.later
 
-pub returns-in-Ok-run_bytes-clause-turns : goal.returns-in-Ok-run_bytes-clause-turns
-returns-in-Ok-run_bytes-clause-turns g c =
+pub returns-in-Ok-run_bytes-clause-fetches : goal.returns-in-Ok-run_bytes-clause-fetches
+returns-in-Ok-run_bytes-clause-fetches g c =
     let w0 = c.args.world.now in
     let w1 = c.fetch.new.self in
     let w2 = c.run_bytes.new.world in
-    turn_ok (length c.args.chunk.now) (g.W.Disk.told w0) (g.W.Disk.told w1) (g.W.Disk.told w2) (g.W.Outside.beside w0) (g.W.Outside.beside w1) (g.W.Outside.beside w2)
+    fetches_fed (length c.args.chunk.now) (g.W.Disk.told w0) (g.W.Disk.told w1) (g.W.Disk.told w2) (g.W.Outside.beside w0) (g.W.Outside.beside w1) (g.W.Outside.beside w2)
     c.args.host.now c.run_bytes.new.host c.args.line.now c.run_bytes.new.line c.in-Ok.count c.fetch.new.out (omega (arith, c.fetch.auto.out))
     c.in-Ok.ensures.bytes c.fetch.ensures.rests c.fetch.ensures.keeps c.fetch.ensures.cause.later c.in-Ok-run_bytes.ensures.feeds
 
-pub returns-in-Err-run_bytes-clause-turns : goal.returns-in-Err-run_bytes-clause-turns
-returns-in-Err-run_bytes-clause-turns g c =
+pub returns-in-Err-run_bytes-clause-fetches : goal.returns-in-Err-run_bytes-clause-fetches
+returns-in-Err-run_bytes-clause-fetches g c =
     let w0 = c.args.world.now in
     let w1 = c.fetch.new.self in
     let w2 = c.run_bytes.new.world in
-    turn_sink (length c.args.chunk.now) (g.W.Disk.told w0) (g.W.Disk.told w1) (g.W.Disk.told w2) (g.W.Outside.beside w0) (g.W.Outside.beside w1) (g.W.Outside.beside w2)
+    fetches_cut (length c.args.chunk.now) (g.W.Disk.told w0) (g.W.Disk.told w1) (g.W.Disk.told w2) (g.W.Outside.beside w0) (g.W.Outside.beside w1) (g.W.Outside.beside w2)
     c.args.host.now c.run_bytes.new.host c.args.line.now c.run_bytes.new.line c.in-Ok.count c.fetch.new.out (omega (arith, c.fetch.auto.out))
     c.in-Ok.ensures.bytes c.fetch.ensures.rests c.fetch.ensures.keeps c.fetch.ensures.cause.later c.in-Err-run_bytes.ensures.feeds
 

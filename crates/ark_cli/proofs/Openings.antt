@@ -14,7 +14,7 @@ use Rattle.ark_script.specs.declared.said.Said.TheVariants.{Ready}
 use Rattle.ark_script.proofs.Clean.{words_clean}
 use Rattle.ark_table.specs.Superblock.{format_calls}
 use Rattle.ark_cli.specs.Opening.{Asks, SinceMake, Opens}
-use Rattle.ark_cli.proofs.Answering.{cut_line, clean_goes_on, all_put}
+use Rattle.ark_cli.proofs.PutLines.{cut_line, clean_goes_on, all_put}
 
 same_history : (b c : List (List ℕ)) (j k : List Event) → b ≡ c → j ≡ k → ◌≡◌ {A = History} (record { base = b; journal = j }) (record { base = c; journal = k })
 same_history b c j k e f = ap (λ x. record { base = x; journal = j }) e ∙ ap (λ x. record { base = c; journal = x }) f

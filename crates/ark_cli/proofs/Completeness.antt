@@ -8,7 +8,7 @@ use Rattle.ark_cli.specs.Words.{IsRun}
 use Rattle.ark_cli.specs.Line.{limit}
 use Rattle.ark_cli.specs.Complete.{IsUntroubled, HasShortScript}
 use Rattle.ark_cli.specs.Ending.{IsClosed, Does, no_command, unread, no_memory, no_device, runs, IsCause}
-use Rattle.ark_cli.proofs.Closing.{usage_only}
+use Rattle.ark_cli.proofs.ClosingLines.{usage_only}
 
 -- more bytes than are run cannot be taken of a short script
 takes_few : (before after : Option Script) (bytes : List ℕ) → HasShortScript before after → Takes before after bytes → length bytes ≤ limit

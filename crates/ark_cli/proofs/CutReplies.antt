@@ -7,7 +7,7 @@ use Rattle.ark_machine.specs.System.{System}
 use Rattle.ark_machine.specs.Follow.{ends_of}
 use Rattle.ark_machine.specs.Replies.{system_after, EachAnswers, Begins}
 use Rattle.ark_machine.specs.Paced.{StandsPaced}
-use Rattle.ark_laws.proofs.Confining.{each_count, run_paced}
+use Rattle.ark_laws.proofs.Confining.{each_count, performs_confined, run_paced}
 use Rattle.ark_laws.proofs.FramesWithin.{sends_front, delivers_front}
 use Rattle.ark_cli.specs.Cut.{IsFront, IsCutConfined, Shows, ShowsConfined, CutReplies, CutConfined}
 
@@ -37,6 +37,7 @@ cut_replies_of s lines more ms whole part says count each begins shows =
 
 front_confined : (s : System) (m : Meaning) (part : List Event) → StandsPaced s → IsFront s m part → IsCutConfined s m part
 front_confined s m part paced f = record {
+  device = performs_confined s m (ends_of (device_events part)) f.lacked (device_events part) paced f.calls;
   sends = sends_front s m (ends_of (device_events part)) f.lacked (output_of part) f.more paced f.front;
   delivers = delivers_front s m (ends_of (device_events part)) f.lacked (output_of part) f.more paced f.front;
 }

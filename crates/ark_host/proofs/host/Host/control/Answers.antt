@@ -1,0 +1,61 @@
+use Rattle.std.proofs.Common.{[]}
+use Rattle.ark_host.proofs.Groups.{unbuilt_control}
+use Rattle.ark_host.proofs.Words.{app_answered, tick_answered, unbuilt_answered}
+use Rattle.ark_host.proofs.Lifting.{quiet_steps}
+use Rattle.ark_host.proofs.host.Host.control.Goals as goal
+
+pub returns-in-App-clause-answers : goal.returns-in-App-clause-answers
+returns-in-App-clause-answers g c =
+    let told = g.D.Disk.told c.args.disk.now in
+    let app = c.make_app-said in
+    record {
+      events = [];
+      goes_on = g.met.D.Disk.goes_none c.args.disk.now;
+      does = rw c.in-App.is (quiet_steps c.args.self.now app.new.self told _ _ _ _ c.say.ensures.said c.say.ensures.none
+          (λ s h st. app_answered app.new.self told.blocks h s c.in-App.name c.in-App.frames [] app.result [] (app.ensures.turned told.blocks h s st)));
+    }
+
+pub returns-in-Vsa-clause-answers : goal.returns-in-Vsa-clause-answers
+returns-in-Vsa-clause-answers g c =
+    let told = g.D.Disk.told c.args.disk.now in
+    let vsa = c.vsa-said in
+    record {
+      events = [];
+      goes_on = g.met.D.Disk.goes_none c.args.disk.now;
+      does = rw c.in-Vsa.is (quiet_steps c.args.self.now vsa.new.self told _ _ _ _ c.say-in-Vsa.ensures.said c.say-in-Vsa.ensures.none
+          (λ s h st. vsa.ensures.answers told.blocks h s st));
+    }
+
+pub returns-in-Tick-clause-answers : goal.returns-in-Tick-clause-answers
+returns-in-Tick-clause-answers g c =
+    let told = g.D.Disk.told c.args.disk.now in
+    let tick = c.tick-said in
+    record {
+      events = [];
+      goes_on = g.met.D.Disk.goes_none c.args.disk.now;
+      does = rw c.in-Tick.is (quiet_steps c.args.self.now tick.new.self told _ _ _ _ c.say-in-Tick.ensures.said c.say-in-Tick.ensures.none
+          (λ s h st. tick_answered tick.new.self told.blocks h s c.in-Tick.ticks tick.result [] (tick.ensures.turned told.blocks h s st)));
+    }
+
+pub returns-in_default-clause-answers : goal.returns-in_default-clause-answers
+returns-in_default-clause-answers g c =
+    let told = g.D.Disk.told c.args.disk.now in
+    record {
+      events = [];
+      goes_on = g.met.D.Disk.goes_none c.args.disk.now;
+      does = quiet_steps c.args.self.now c.args.self.now told _ _ _ _ c.say-in_default.ensures.said c.say-in_default.ensures.none
+          (λ s h st. unbuilt_answered c.args.self.now told.blocks h s c.args.step.now
+          (unbuilt_control c.args.step.now c.requires.group c.in_default.not-App c.in_default.not-Vsa c.in_default.not-Tick) st);
+    }
+
+pub vsa-said-requires-clause-some : goal.vsa-said-requires-clause-some
+vsa-said-requires-clause-some g c = (rw c.in-Vsa.is at c.requires.ranges).0
+
+pub returns-in-App-clause-inside : goal.returns-in-App-clause-inside
+returns-in-App-clause-inside g c = c.make_app-said.ensures.inside (g.D.Disk.told c.args.disk.now).blocks c.requires.inside
+
+pub returns-in-Vsa-clause-inside : goal.returns-in-Vsa-clause-inside
+returns-in-Vsa-clause-inside g c = c.vsa-said.ensures.inside (g.D.Disk.told c.args.disk.now).blocks c.requires.inside
+
+pub returns-in-Tick-clause-inside : goal.returns-in-Tick-clause-inside
+returns-in-Tick-clause-inside g c = c.tick-said.ensures.inside (g.D.Disk.told c.args.disk.now).blocks c.requires.inside
