@@ -4,4 +4,5 @@ pub mod Going
 pub mod Parts
 pub mod Stops
 pub mod StopLaws
+pub mod Standing
 pub mod Blocks

@@ -7,3 +7,10 @@ pub mod Pairing
 pub mod Tables
 pub mod Changing
 pub mod Fresh
+pub mod Standing
+pub mod Moments
+pub mod Decoding
+pub mod Beside
+pub mod Zeroing
+pub mod Places
+pub mod Growing

@@ -2,3 +2,9 @@ pub mod Superblock
 pub mod Area
 pub mod Slots
 pub mod Table
+pub mod Stated
+pub mod Read
+pub mod Plans
+pub mod Standing
+pub mod Loading
+pub mod Using
