@@ -1,13 +1,12 @@
-use Rattle.std.proofs.Common.{◌≡◌, ℕ, List, [], ◌∷◌, ◌++◌, length, take, drop, true, refl, ap}
-use Rattle.std.proofs.Math.Seq.{take-append_seam}
-use Rattle.std.proofs.lemmas.List.{drop-replicate}
-use Rattle.ark_base.specs.Name.{is_name, padded}
+-- Bytes that are read one by one as a name.
+use Rattle.std.proofs.Common.{◌≡◌, ℕ, suc, ◌+◌, ◌-◌, ◌<◌, List, [], ◌∷◌, ◌++◌, length, set, replicate, append_assoc, sym, ◌∙◌, arith}
+use Rattle.std.proofs.Math.Seq.{set-append_seam}
+use Rattle.std.proofs.lemmas.List.{length_push}
+use Rattle.ark_base.specs.Name.{padded}
 
-abbrev zeros : List ℕ
-zeros = 0 ∷ 0 ∷ 0 ∷ 0 ∷ 0 ∷ 0 ∷ 0 ∷ 0 ∷ 0 ∷ 0 ∷ 0 ∷ 0 ∷ 0 ∷ 0 ∷ 0 ∷ []
-
--- a name's bytes, put at the start of 15 zeros, keep the facts of a `Name`
-pub built : (t b : List ℕ) → b ≡ t → is_name t ≡ true
-    → let w = b ++ drop {A = ℕ} (length t) zeros in
-    (length t ≡ length (take (length t) w)) × (w ≡ padded (take (length t) w)) × (is_name (take (length t) w) ≡ true)
-built t b e h = rw (e, take-append_seam t (drop (length t) zeros)) (refl, ap (λ z. t ++ z) (drop-replicate (length t) 15 0), h)
+-- one byte more, in the place behind the others
+pub padded_more : (xs : List ℕ) (n b : ℕ) → length xs ≡ n → n < 15 → set (padded xs) n b ≡ padded (xs ++ b ∷ [])
+padded_more xs n b size room =
+    let free : 15 - length xs ≡ suc (15 - (length xs + 1)) = omega (arith, size) in
+    let more : length (xs ++ b ∷ []) ≡ length xs + 1 = length_push xs b in
+    rw (← size, free, more) (set-append_seam xs 0 (replicate (15 - (length xs + 1)) 0) b ∙ sym (append_assoc xs (b ∷ []) (replicate (15 - (length xs + 1)) 0)))

@@ -4,7 +4,6 @@ ghost use Rattle.std.specs.Cmp.Lexicographic.{pointwise, nat_list_eq_equiv};
 ghost use Rattle.std.specs.Cmp.{partial_equiv_from_equiv};
 ghost use Rattle.std.specs.Cmp.Rules.{hashing};
 ghost use Rattle.std.proofs.Common.{rules};
-ghost use Rattle.std.specs.List.{list_all};
 ghost use Rattle.ark_base.specs.Name as spec;
 
 use std::hash::{Hash, Hasher};
@@ -47,40 +46,28 @@ fn is_name_byte(b: u8) -> bool
     b.is_ascii_lowercase() || b.is_ascii_digit() || b == b'_'
 }
 
-fn are_name_bytes(text: &[u8]) -> bool
-    ensures { result ≡ list_all spec.is_name_byte text.now }
-{
-    text.iter().all(|b| is_name_byte(*b))
-}
-
-fn is_name(text: &[u8]) -> bool
-    ensures { result ≡ spec.is_name text.now }
-{
-    match text {
-        [] => false,
-        [first, rest @ ..] => {
-            first.is_ascii_lowercase() && rest.len() <= 14 && are_name_bytes(rest)
-        }
-    }
-}
-
 impl Name {
     /// The name that a text is, if it is one.
     pub fn read(text: &[u8]) -> Option<Name>
         ensures value { IfSome result (λ n. n ≡ text.now) }
         ensures found { IsSome result ↔ (spec.is_name text.now ≡ true) }
     {
-        if !is_name(text) {
+        let [first, rest @ ..] = text else {
             return None;
-        }
-        let len = text.len();
-        if len > 15 {
+        };
+        if !first.is_ascii_lowercase() || rest.len() > 14 {
             return None;
         }
         let mut bytes = [0; 15];
-        bytes[..len].copy_from_slice(text);
+        bytes[0] = *first;
+        for (at, b) in rest.iter().enumerate() {
+            if !is_name_byte(*b) {
+                return None;
+            }
+            bytes[at + 1] = *b;
+        }
         Some(Name {
-            len: len as u8,
+            len: text.len() as u8,
             bytes,
         })
     }

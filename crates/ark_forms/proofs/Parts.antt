@@ -1,8 +1,8 @@
 -- Parts of bytes between separators.
-use Rattle.std.proofs.Common.{◌≡◌, ℕ, ◌+◌, nat_eq, ltb, cond, Bool, true, false, List, [], ◌∷◌, length, take, drop, Some, None, refl, ap, inl, inr, ◌≤◌, arith}
+use Rattle.std.proofs.Common.{◌≡◌, ℕ, ◌+◌, ◌<◌, nat_eq, ltb, cond, Bool, true, false, List, [], ◌∷◌, length, get_or, take, drop, Some, None, refl, ap, inl, inr, ◌≤◌, arith}
 use Rattle.std.specs.List.{position, position_or_len, onto_first}
 use Rattle.std.specs.Prelude.{Option}
-use Rattle.std.proofs.lemmas.Bool.{cases_Bool, false_from_ne_true, le-ltb, lt-ltb, ltb-true, ltb-false}
+use Rattle.std.proofs.lemmas.Bool.{cases_Bool, eq-eqb, eqb-true, le-ltb, lt-ltb, ltb-true, ltb-false, ne_eqb}
 use Rattle.std.proofs.lemmas.List.Sums.{position_or_len_is}
 use Rattle.memchr.specs.Find.{IsFirstByte, is_byte}
 use Rattle.std.proofs.lemmas.List.Splits.{slice_split_first}
@@ -52,15 +52,23 @@ parts_first separator bytes at h =
     let parts = slice_split_first (λ b. nat_eq b separator) bytes 0 (ltb-true _ _ found.0) in
     rw (← found.1) parts
 
--- the first place of a byte, as a search finds it
-pub first_position : (byte : ℕ) (bytes : List ℕ) (r : Option ℕ) → IsFirstByte (is_byte byte) bytes r → r ≡ position (λ b. nat_eq b byte) bytes
-first_position byte bytes None h =
+-- the first place of a byte, where it stands
+pub found_position : (byte : ℕ) (bytes : List ℕ) (k : ℕ) → k < length bytes → ((j : ℕ) → j < k → get_or bytes j 0 ≡ byte → ⊥) → get_or bytes k 0 ≡ byte
+    → Some k ≡ position (λ b. nat_eq b byte) bytes
+found_position byte bytes k inside before here =
+    let at : position_or_len (λ b. nat_eq b byte) bytes ≡ k =
+    position_or_len_is (λ b. nat_eq b byte) bytes k 0 (omega arith) (λ j below. ne_eqb _ _ (before j below)) (λ in_it. eq-eqb _ _ here) in
+    rw (at, lt-ltb _ _ inside) refl
+
+-- and where it stands nowhere
+pub no_position : (byte : ℕ) (bytes : List ℕ) → ((j : ℕ) → j < length bytes → get_or bytes j 0 ≡ byte → ⊥) → None ≡ position (λ b. nat_eq b byte) bytes
+no_position byte bytes nowhere =
     let at : position_or_len (λ b. nat_eq b byte) bytes ≡ length bytes =
-    position_or_len_is (λ b. nat_eq b byte) bytes (length bytes) 0 (omega arith) (λ k below. false_from_ne_true _ (h k (omega arith) below)) (λ below. absurd (omega arith)) in
+    position_or_len_is (λ b. nat_eq b byte) bytes (length bytes) 0 (omega arith) (λ j below. ne_eqb _ _ (nowhere j below)) (λ in_it. absurd (omega arith)) in
     let outside : ltb (length bytes) (length bytes) ≡ false = le-ltb _ _ (omega arith) in
     rw (at, outside) refl
-first_position byte bytes (Some k) h =
-    let at : position_or_len (λ b. nat_eq b byte) bytes ≡ k =
-    position_or_len_is (λ b. nat_eq b byte) bytes k 0 (omega (arith, h.0.high)) (λ j below. false_from_ne_true _ (h.0.before j (omega arith) below)) (λ inside. h.1) in
-    let inside : ltb k (length bytes) ≡ true = lt-ltb _ _ h.0.high in
-    rw (at, inside) refl
+
+-- as a search finds it
+pub first_position : (byte : ℕ) (bytes : List ℕ) (r : Option ℕ) → IsFirstByte (is_byte byte) bytes r → r ≡ position (λ b. nat_eq b byte) bytes
+first_position byte bytes None h = no_position byte bytes (λ j below e. h j (omega arith) below (eq-eqb _ _ e))
+first_position byte bytes (Some k) h = found_position byte bytes k h.0.high (λ j below e. h.0.before j (omega arith) below (eq-eqb _ _ e)) (eqb-true _ _ h.1)

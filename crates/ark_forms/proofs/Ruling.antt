@@ -17,7 +17,7 @@ use Rattle.ark_filters.specs.declared.filter.Proto.{Proto}
 use Rattle.ark_filters.specs.declared.filter.Proto.TheVariants as proto
 use Rattle.ark_script.specs.Arguments.{IsHex, IsMac, AreOctets}
 use Rattle.ark_script.specs.Line.{digit, spelled}
-use Rattle.ark_script.specs.Lists.{EachIs, filled, no_peer, IsPeer, peers_are, ArePeers, ArePorts, IsService, services_are, AreServices}
+use Rattle.ark_script.specs.Lists.{EachIs, filled, no_peer, IsPeer, ArePeers, ArePorts, IsService, AreServices}
 use Rattle.ark_script.specs.Words.{parts_of}
 
 -- Octets.
