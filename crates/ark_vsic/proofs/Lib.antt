@@ -2,3 +2,4 @@ pub mod Fair
 pub mod Reading
 pub mod Stepping
 pub mod Owning
+pub mod Running

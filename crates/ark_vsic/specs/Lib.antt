@@ -2,4 +2,5 @@ pub mod Card
 pub mod Places
 pub mod Moves
 pub mod Own
+pub mod Runs
 pub mod Lending

@@ -8,5 +8,5 @@ mod place;
 mod vsic;
 
 pub use due::{Due, Moved};
-pub use laws::{due_laws, place_laws};
+pub use laws::{due_laws, place_laws, transfer_laws};
 pub use vsic::Vsic;
