@@ -4,6 +4,7 @@ pub mod Openings
 pub mod Going
 pub mod Parts
 pub mod Stops
+pub mod Standing
 pub mod Blocks
 pub mod Memory
 pub mod Plan

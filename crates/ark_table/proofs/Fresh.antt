@@ -35,9 +35,9 @@ all_none = refl
 formatted : ℕ → List (List ℕ)
 formatted n = set (replicate n zero_block) 0 (superblock n)
 
-fresh_table : (n : ℕ) → 130 ≤ n → n ≤ 1048576 → HasTable no_areas (formatted n)
+made_table : (n : ℕ) → 130 ≤ n → n ≤ 1048576 → HasTable no_areas (formatted n)
 unfolding formatted
-fresh_table n low high = record {
+made_table n low high = record {
   device = (λ i. nat_le 130 (long i) && (nat_le (long i) 1048576 && bytes_eq (first i) (superblock (long i))))
       ∙ (λ i. le-leb 130 n low i && (le-leb n 1048576 high i && (bytes_eq-Decides (superblock n) (superblock n)).1 refl i));
   size = counted;
@@ -65,7 +65,12 @@ no_slots = refl
 -- a formatted device has no slot in use
 pub fresh_is_empty : (n : ℕ) → 130 ≤ n → n ≤ 1048576 → slots_of (set (replicate n zero_block) 0 (superblock n)) ≡ Ok []
 unfolding formatted
-fresh_is_empty n low high = table_is_read no_areas (formatted n) (fresh_table n low high) ∙ ap (λ l. Ok l) no_slots
+fresh_is_empty n low high = table_is_read no_areas (formatted n) (made_table n low high) ∙ ap (λ l. Ok l) no_slots
+
+-- its table is empty
+pub fresh_table : (n : ℕ) → 130 ≤ n → n ≤ 1048576 → HasTable (replicate 128 None) (set (replicate n zero_block) 0 (superblock n))
+unfolding no_areas formatted
+fresh_table n low high = made_table n low high
 
 never : (x y b : Bool) → b ≡ false → (x && (y && b)) ≡ false
 never true true b is = is

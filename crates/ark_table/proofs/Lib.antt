@@ -7,3 +7,5 @@ pub mod Pairing
 pub mod Tables
 pub mod Changing
 pub mod Fresh
+pub mod Standing
+pub mod Moments

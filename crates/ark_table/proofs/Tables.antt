@@ -33,7 +33,7 @@ each_to size (b ∷ bs) (x ∷ t) says =
     (ap suc rest.0, first_and size b bs x t says.0 rest.1)
 
 module _ (image : List (List ℕ)) (device : is_device image ≡ true) where
-  big : 130 ≤ length image
+  pub big : 130 ≤ length image
   big = leb-true 130 (length image) (and_parts (nat_le 130 (length image)) _ device).0
 
   few : length image < 2 ^ 32

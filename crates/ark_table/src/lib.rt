@@ -4,5 +4,5 @@
 mod laws;
 mod superblock;
 
-pub use laws::{change_laws, fresh_laws, slot_laws, table_laws};
+pub use laws::{change_laws, changing_laws, fresh_laws, slot_laws, standing_laws, table_laws};
 pub use superblock::format;
