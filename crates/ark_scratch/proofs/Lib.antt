@@ -1,0 +1,22 @@
+pub mod Machines
+pub mod Lists
+pub mod Freeing
+pub mod Sharing
+pub mod Tabling
+pub mod Staying
+pub mod Standing
+pub mod Stood
+pub mod Setting
+pub mod Ticking
+pub mod Apps
+pub mod Placing
+pub mod Planned
+pub mod Granting
+pub mod Granted
+pub mod Own
+pub mod Lifting
+pub mod Words
+pub mod Fronts
+pub mod Recovering
+pub mod Beside
+mod InDevice

@@ -1,0 +1,4 @@
+pub mod Time
+pub mod Tabled
+pub mod Stands
+pub mod Inside

@@ -1,0 +1,6 @@
+//! Scratch.
+#![tactic(auto)]
+
+mod host;
+
+pub use host::{GrantTable, Host, law};
