@@ -10,5 +10,6 @@ mod spans;
 mod view;
 
 pub use free::{FreeMap, RUNS, TakeFault};
+pub use runs::is_apart_from_all;
 pub use spans::Spans;
 pub use view::VsaView;

@@ -43,7 +43,8 @@ fn are_apart(r: Span, s: Span) -> bool
     end(r) <= u64::from(s.start) || end(s) <= u64::from(r.start)
 }
 
-fn is_apart_from_all(run: Span, others: &[Span]) -> bool
+/// Whether the run shares no block with any of the others.
+pub fn is_apart_from_all(run: Span, others: &[Span]) -> bool
     ensures { result ≡ list_all (λ s. spec.are_apart run s) others.now }
 {
     others.iter().all(|s| are_apart(run, *s))

@@ -52,7 +52,7 @@ impl Spans {
     }
 
     /// The runs, in their order.
-    pub(crate) fn as_slice(&self) -> &[Span]
+    pub fn as_slice(&self) -> &[Span]
         ensures runs { result.now ≡ runs_of self.now }
         ensures blocks { blocks_of result.now ≡ self.now }
         ensures spans { spec.are_spans result.now ≡ true }

@@ -9,3 +9,4 @@ pub mod Changing
 pub mod Fresh
 pub mod Standing
 pub mod Moments
+pub mod Decoding

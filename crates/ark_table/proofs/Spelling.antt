@@ -19,7 +19,7 @@ use Rattle.ark_extents.proofs.Counting.{spans_from}
 use Rattle.ark_table.specs.Area.{Area, kind_number, kind_of, name_bytes, run_bytes, area_bytes, name_in, runs_in, area_in, is_data, count_of, least_blocks, is_area, is_free, is_used}
 use Rattle.ark_table.specs.Slots.{Slot, slot_at, area_of, slot_bytes, IsRight}
 
-name_short : (name : List ℕ) → is_name name ≡ true → length name ≤ 15
+pub name_short : (name : List ℕ) → is_name name ≡ true → length name ≤ 15
 name_short [] h = omega arith
 name_short (b ∷ bs) h =
     let p = and_parts (is_letter b) _ h in
@@ -27,7 +27,7 @@ name_short (b ∷ bs) h =
     let short : length bs ≤ 14 = leb-true (length bs) 14 q.0 in
     omega (arith, short)
 
-length-padded : (name : List ℕ) → length name ≤ 15 → length (padded name) ≡ 15
+pub length-padded : (name : List ℕ) → length name ≤ 15 → length (padded name) ≡ 15
 length-padded name short =
     let sum : length (padded name) ≡ length name + length (replicate (15 - length name) 0) = length-append name (replicate (15 - length name) 0) in
     let zeros : length (replicate (15 - length name) 0) ≡ 15 - length name = length-replicate {A = ℕ} (15 - length name) 0 in
@@ -101,7 +101,7 @@ area_read a app label fit = λ i. record { app = first i; label = second i; kind
     runs : runs_in (length a.runs) (drop 38 (area_bytes a)) ≡ a.runs
     runs = ap (λ t. runs_in (length a.runs) t) behind ∙ runs_read a.runs zeros fit
 
-count_is : (runs : List Span) → count_of runs ≡ length (blocks_of runs)
+pub count_is : (runs : List Span) → count_of runs ≡ length (blocks_of runs)
 count_is [] = refl
 count_is (run ∷ runs) = ap (λ n. run.len + n) (count_is runs) ∙ sym (length-blocks_of run runs)
 
@@ -164,7 +164,7 @@ is_read size s few right =
     ap (slot_at s.index) (area_again size s few right)
     ∙ (λ i. record { index = s.index; app = s.app; label = s.label; kind = s.kind; blocks = blocks_of-runs_of s.blocks i })
 
-runs_long : (runs : List Span) → length (flat_map run_bytes runs) ≡ 8 * length runs
+pub runs_long : (runs : List Span) → length (flat_map run_bytes runs) ≡ 8 * length runs
 runs_long [] = refl
 runs_long (run ∷ runs) = omega (arith, runs_long runs)
 

@@ -1,26 +1,16 @@
-ghost use Rattle.std.specs.Prelude.{◌≡◌, ◌≤◌, ◌+◌, ◌++◌, is_ok, length, take, drop};
+ghost use Rattle.std.specs.Prelude.{◌≡◌, ◌≤◌, is_ok};
 ghost use Rattle.ark_media.specs.Calls.{Went};
 ghost use Rattle.ark_table.specs.Superblock.{superblock, format_calls};
 
+use crate::bytes::put;
 use ark_media::{Disk, DiskFailed};
 use byteorder::{ByteOrder, NetworkEndian};
 
 // So many slots has a device's table.
 const SLOTS: u16 = 128;
 
-// Writes the bytes from a place on, and gives the place after them.
-fn put(block: &mut [u8], at: usize, bytes: &[u8]) -> usize
-    requires { at + length bytes.now ≤ length block.old }
-    ensures end { result ≡ at + length bytes.now }
-    ensures written { block.new ≡ take at block.old ++ (bytes.now ++ drop (at + length bytes.now) block.old) }
-{
-    let end = at + bytes.len();
-    block[at..end].copy_from_slice(bytes);
-    end
-}
-
 // The superblock of a device of so many blocks.
-fn superblock_of(blocks: u32) -> [u8; 512]
+pub(crate) fn superblock_of(blocks: u32) -> [u8; 512]
     ensures { result ≡ superblock blocks }
 {
     let mut block = [0u8; 512];
