@@ -1,6 +1,6 @@
 -- An area that is granted, or whose granting failed: what the host stands for after the device calls.
 use Rattle.std.proofs.Common.{◌≡◌, inl, inr, ⊎_elim, ℕ, ◌+◌, ◌-◌, ◌^◌, ◌<◌, ◌≤◌, Bool, true, false, not, cond, ◌&&◌, ◌||◌, List, [], ◌∷◌, ◌++◌, length, map, take, drop, replicate, get_or, set, nat_eq, nat_le, nat_lt, refl, sym, ◌∙◌, ap, subst, arith, bytes_eq, append-nil, Contains, get_or-set_same}
-use Rattle.std.specs.Prelude.{Option, Some, None, slice_get, find, unwrap_or, is_some, count_by, position}
+use Rattle.std.specs.Prelude.{Option, Some, None, Ok, slice_get, find, unwrap_or, is_some, count_by, position}
 use Rattle.std.specs.Option.{option_or}
 use Rattle.std.specs.Map.{lookup}
 use Rattle.std.proofs.lemmas.Bool.{false≢true}
@@ -40,6 +40,7 @@ use Rattle.ark_machine.specs.Granting.{new_slot}
 use Rattle.ark_machine.specs.Grants.{SlotFits, SlotsFit, SlotsAgree}
 use Rattle.ark_machine.specs.System.{System, machine_of}
 use Rattle.ark_machine.specs.Follow.{Follow, ends_of}
+use Rattle.ark_machine.specs.Recovers.{begun}
 use Rattle.ark_machine.proofs.Grants.{makes_apart, new_fits, free_index, lowest_free}
 use Rattle.ark_held.specs.After.{after}
 use Rattle.ark_held.specs.Areas.{MayStand, IsRaw}
@@ -70,7 +71,7 @@ use Rattle.ark_host.proofs.Tabling.{free_at, slot_there, table_more, table_size,
 use Rattle.ark_host.proofs.Standing.{slot_names, slot_based, slot_data}
 use Rattle.ark_host.proofs.Setting.{with_set, set_apps, set_now, set_here}
 use Rattle.ark_host.proofs.Apps.{held_there}
-use Rattle.ark_host.proofs.Granting.{full, refuses, few_slots, its_slot, done_row, fault_row}
+use Rattle.ark_host.proofs.Granting.{full, refuses, few_slots, its_slot, done_row, fault_row, vsa_begins}
 use Rattle.ark_host.proofs.Fronts.{its_own}
 use Rattle.ark_host.proofs.Placing.{names_set, set_at}
 use Rattle.ark_host.proofs.Planned.{ended_sync, made_fault, made_sync, grant_beside, grant_syncs, grant_follows}
@@ -117,7 +118,7 @@ module _ (host : Host) (size : ℕ) (past : History) (s : System) (a l : List �
   few : length s.plane.slots < max_slots
   few = few_slots host size past s a l n st h.holds.made open_one.0 open_one.1 i ok.slot
 
-  abbrev slot : Slot
+  abbrev pub slot : Slot
   slot = new_slot s.plane a l kind.Raw n
 
   slot_index : slot.index ≡ i
@@ -140,6 +141,10 @@ module _ (host : Host) (size : ℕ) (past : History) (s : System) (a l : List �
     fit = (fits, subst (λ (k : ℕ). SlotsFit k s.plane.slots) st.plane.size st.plane.apart.fit);
     apart = ((free_index s.plane max_slots refl few, λ k e. lowest_free s.plane n k e), st.plane.apart.apart);
   }
+
+  -- the change that the line begins
+  pub begins : begun s (Some (Ok line)) ≡ Some (makes slot)
+  begins = vsa_begins host size past s a l n st h.holds.made open_one.0 open_one.1 i ok.slot ok.settled ok.space compact
 
   unlabelled : value_at app.labels l ≡ None
   unlabelled = unlabelled_by app.labels app.areas (value_at app.labels l) (ok.room app there)

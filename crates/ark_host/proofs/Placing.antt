@@ -1,6 +1,6 @@
 -- An application in its place among all.
-use Rattle.std.proofs.Common.{◌≡◌, ℕ, Bool, true, false, cond, List, length, map, set, get_or, refl, sym, ◌∙◌, ap, bytes_eq}
-use Rattle.std.specs.Prelude.{Option, Some, position, unwrap_or}
+use Rattle.std.proofs.Common.{◌≡◌, ℕ, Bool, true, false, cond, List, [], ◌∷◌, length, map, set, get_or, refl, sym, ◌∙◌, ap, bytes_eq}
+use Rattle.std.specs.Prelude.{Option, Some, position, is_some, unwrap_or}
 use Rattle.std.proofs.lemmas.Bool.{false≢true}
 use Rattle.std.proofs.lemmas.List.Quantifiers.{position-Some}
 use Rattle.std.proofs.lemmas.Slice.Eq.{bytes_eq-Decides}
@@ -40,3 +40,11 @@ set_counted items a place app app1 at there b same = by_test (bytes_eq b a) (λ 
     let found : app_of items b ≡ Some app = ap (λ (k : List ℕ). app_of items k) ((bytes_eq-Decides b a).0 q) ∙ (first_found (λ x. bytes_eq a x.name) items place app at).1 ∙ ap (λ x. Some x) there in
     same ∙ sym (ap area_count found))
     (λ no q. refl) refl
+
+-- the application at the place of its name
+pub app_there : (items : List App) (a : List ℕ) (place : ℕ) → position (λ z. bytes_eq a z.name) items ≡ Some place → (app : App) × (get_or items place app ≡ app)
+app_there [] a place at = absurd (false≢true (ap is_some at))
+app_there (x ∷ xs) a place at =
+    let lt = (position-Some (λ z. bytes_eq a z.name) (x ∷ xs) place x at).0 in
+    let app = get_or (x ∷ xs) place x in
+    (app, ap (λ (o : Option App). unwrap_or o x) (sym (get_there (x ∷ xs) place app lt) ∙ get_there (x ∷ xs) place x lt))

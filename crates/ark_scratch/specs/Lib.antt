@@ -1,4 +1,0 @@
-pub mod Time
-pub mod Tabled
-pub mod Stands
-pub mod Inside

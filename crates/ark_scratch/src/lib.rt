@@ -1,6 +1,0 @@
-//! Scratch.
-#![tactic(auto)]
-
-mod host;
-
-pub use host::{GrantTable, Host, law};
