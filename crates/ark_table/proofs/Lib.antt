@@ -10,3 +10,7 @@ pub mod Fresh
 pub mod Standing
 pub mod Moments
 pub mod Decoding
+pub mod Beside
+pub mod Zeroing
+pub mod Places
+pub mod Growing

@@ -189,7 +189,7 @@ data_has size (run ∷ runs) kept n (inl has) =
     (omega (arith, has.0, leb-true 129 run.start here.0), omega (arith, has.1, leb-true (run.start + run.len) size here.1))
 data_has size (run ∷ runs) kept n (inr has) = data_has size runs (and_parts (is_data size run) (list_all (is_data size) runs) kept).1 n has
 
-area_inside : (size : ℕ) (a : Area) → is_area size a ≡ true → (n : ℕ) → Contains (blocks_of a.runs) n → (129 ≤ n) × (n < size)
+pub area_inside : (size : ℕ) (a : Area) → is_area size a ≡ true → (n : ℕ) → Contains (blocks_of a.runs) n → (129 ≤ n) × (n < size)
 area_inside size a kept n has =
     let one = and_parts (is_name a.app) _ kept in
     let two = and_parts (is_name a.label) _ one.1 in

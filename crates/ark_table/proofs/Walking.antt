@@ -5,17 +5,11 @@ use Rattle.std.proofs.lemmas.Bool.{and_parts, false≢true}
 use Rattle.std.proofs.lemmas.Slice.Eq.{bytes_eq-Decides}
 use Rattle.ark_table.specs.Area.{Area, area_in, area_bytes, is_area, is_free, is_used}
 use Rattle.ark_table.specs.Slots.{Slot, slot_at, Held, goes_with, with_area, with_used, with_block, held_after}
-use Rattle.ark_table.specs.Table.{Says, slots_in}
+use Rattle.ark_table.specs.Table.{Says, held_in, slots_in}
 use Rattle.ark_table.proofs.Spelling.{spelled_is_read}
 
 abbrev Table : Type 0
 Table = List (Option Area)
-
--- the areas in use, with the indices of their slots
-abbrev pub held_in : ℕ → List (Option Area) → List Held
-held_in i [] = []
-held_in i (None ∷ t) = held_in (i + 1) t
-held_in i (Some a ∷ t) = record { index = i; area = a } ∷ held_in (i + 1) t
 
 -- each block says its place of the table
 abbrev pub EachSays : ℕ → List (List ℕ) → List (Option Area) → Type 0

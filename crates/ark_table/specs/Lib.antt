@@ -6,3 +6,5 @@ pub mod Stated
 pub mod Read
 pub mod Plans
 pub mod Standing
+pub mod Loading
+pub mod Using

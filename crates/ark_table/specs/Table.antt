@@ -4,7 +4,7 @@ use Rattle.std.specs.Prelude.{◌≡◌, ◌<◌, ◌≤◌, ℕ, ◌+◌, List,
 use Rattle.ark_media.specs.Journal.{block}
 use Rattle.ark_extents.specs.Blocks.{blocks_of, AreApart}
 use Rattle.ark_table.specs.Area.{Area, area_bytes, is_area, is_free}
-use Rattle.ark_table.specs.Slots.{Slot, slot_at, is_device}
+use Rattle.ark_table.specs.Slots.{Slot, Held, slot_at, is_device}
 
 -- the block is that of a free slot, or the spelling of an area that keeps the rules by itself
 abbrev pub Says : ℕ → List ℕ → Option Area → Type 0
@@ -30,6 +30,12 @@ pub record HasTable (table : List (Option Area)) (image : List (List ℕ)) : Typ
   pub says : (i : ℕ) → i < 128 → Says (length image) (block image (i + 1)) (area_at table i)
   pub together : (i k : ℕ) (a b : Area) → (i ≡ k → ⊥) → area_at table i ≡ Some a → area_at table k ≡ Some b → Together a b
   pub few : (app : List ℕ) → count_by (is_of app) table ≤ 8
+
+-- the areas in use of a table whose first slot has this index, with their slots' indices
+abbrev pub held_in : ℕ → List (Option Area) → List Held
+held_in i [] = []
+held_in i (None ∷ table) = held_in (i + 1) table
+held_in i (Some a ∷ table) = record { index = i; area = a } ∷ held_in (i + 1) table
 
 -- the slots in use of a table whose first slot has this index
 abbrev pub slots_in : ℕ → List (Option Area) → List Slot

@@ -1,0 +1,44 @@
+-- How a table is read from its device. Ours: no standard fixes it.
+use Rattle.std.specs.Prelude.{◌≡◌, ◌≤◌, ℕ, zero, suc, ◌+◌, List, [], ◌∷◌, ◌++◌, Bool, true, false, not, ◌&&◌, Result, Ok, Err, Option, Some, None, OnOk}
+use Rattle.ark_media.specs.Journal.{Event}
+use Rattle.ark_media.specs.Calls.{Call, Reads, Went}
+use Rattle.ark_table.specs.declared.fault.LoadFault.{LoadFault}
+use Rattle.ark_table.specs.declared.fault.LoadFault.TheVariants.{DeviceFault, Damaged, Memory}
+use Rattle.ark_table.specs.declared.reading.Content.{Content}
+use Rattle.ark_table.specs.declared.reading.Content.TheVariants.{Free, Used, Broken}
+use Rattle.ark_table.specs.Area.{Area, area_in, is_free, is_used}
+use Rattle.ark_table.specs.Slots.{goes_with, share_no_block, is_same}
+use Rattle.ark_table.specs.Table.{Says, held_in}
+use Rattle.ark_table.specs.Stated.{stated}
+
+-- the blocks below n, in rising order
+abbrev pub read_calls : ℕ → List Call
+read_calls zero = []
+read_calls (suc n) = read_calls n ++ Reads n ∷ []
+
+-- whether no read failed
+abbrev pub is_read : {T : Type 0} → Result T LoadFault → Bool
+is_read (Ok table) = true
+is_read (Err DeviceFault) = false
+is_read (Err (Damaged bad)) = true
+is_read (Err Memory) = true
+
+-- So many blocks were read in turn, up to the first read that failed: all of the table where it was read, and none behind a
+-- damaged one.
+pub record HasRead {D T : Type 0} (goes : D → List Event → D → Type 0) (result : Result T LoadFault) (old new : D) : Type 0 where
+  pub count : ℕ
+  pub few : count ≤ 129
+  pub went : Went goes (read_calls count) (is_read result) old new
+  pub all : OnOk result (count ≡ 129)
+  pub stops : (bad : ℕ) → result ≡ Err (Damaged bad) → count ≤ bad + 1
+
+-- the area may stand beside this slot
+abbrev pub goes_beside : Area → Option Area → Bool
+goes_beside a None = true
+goes_beside a (Some b) = share_no_block a.runs b.runs && not (is_same a b)
+
+-- a block was read as that of the slot behind these, on a device of so many blocks
+abbrev pub IsNext : ℕ → List (Option Area) → List ℕ → Content → Type 0
+IsNext size before block Free = is_free block ≡ true
+IsNext size before block (Used slot) = Says size block (Some (stated slot)) × (goes_with (held_in 1 before) (stated slot) ≡ true)
+IsNext size before block Broken = (is_free block ≡ false) × (is_used size block ≡ true → goes_with (held_in 1 before) (area_in block) ≡ false)
