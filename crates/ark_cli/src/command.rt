@@ -1,9 +1,9 @@
-ghost use Rattle.std.specs.Prelude.{◌≡◌, ◌≤◌, ◌⊎◌, ℕ, List, [], length, map, string_bytes};
+ghost use Rattle.std.specs.Prelude.{◌≡◌, ◌≤◌, ◌⊎◌, ℕ, List, [], None, length, map, replicate, string_bytes};
 ghost use Rattle.ark_media.specs.Journal.{Event, History};
 ghost use Rattle.ark_media.specs.Calls.{Goes, Rose};
 ghost use Rattle.ark_machine.specs.System.{fresh_system};
-ghost use Rattle.ark_host.specs.Stands.{Stands, IsZero};
-ghost use Rattle.ark_extents.specs.Free.{free_at_first};
+ghost use Rattle.ark_table.specs.Standing.{IsTableOf};
+ghost use Rattle.ark_host.specs.Stands.{Stands};
 ghost use Rattle.ark_host.specs.Inside.{IsInside};
 ghost use Rattle.ark_host.specs.Time.{IsSound};
 ghost use Rattle.ark_cli.specs.Words.{IsRun};
@@ -33,7 +33,7 @@ fn run_with<W: Outside>(
 ) -> Status
     requires low { 130 ≤ blocks }
     requires high { blocks ≤ 1048576 }
-    requires host { (h : History) → length h.base ≡ blocks → IsZero h (free_at_first blocks) →
+    requires host { (h : History) → length h.base ≡ blocks → IsTableOf h (replicate 128 None) →
         Stands host.old blocks h (fresh_system blocks) }
     requires sound { IsSound host.old }
     requires inside { IsInside blocks host.old }

@@ -39,7 +39,7 @@ abbrev is_call : List Event → Bool
 is_call [] = false
 is_call (e ∷ es) = true
 
-not_silent : (e : Event) (es : List Event) → e ∷ es ≡ [] → ⊥
+pub not_silent : (e : Event) (es : List Event) → e ∷ es ≡ [] → ⊥
 not_silent e es h = false≢true (sym (ap is_call h))
 
 -- outputs write no block

@@ -3,24 +3,18 @@ use Rattle.std.proofs.Common.{◌≡◌, ◌≤◌, ℕ, Bool, true, false, List
 use Rattle.std.proofs.lemmas.Bool.{false≢true}
 use Rattle.std.specs.Prelude.{Option}
 use Rattle.ark_base.specs.declared.kind.Kind.{Kind}
-use Rattle.ark_media.specs.Journal.{Event}
-use Rattle.ark_media.specs.Calls.{Told}
 use Rattle.ark_script.specs.Attributes.{attributes}
 use Rattle.ark_script.specs.Form.{a_billion}
 use Rattle.ark_script.specs.Line as w
 use Rattle.ark_script.specs.Line.{Line, line_of}
-use Rattle.ark_script.specs.Lines.{Meaning}
 use Rattle.ark_script.specs.declared.group.Group.{Group}
 use Rattle.ark_script.specs.declared.group.Group.TheVariants as group
-use Rattle.ark_script.specs.declared.said.Said.{Said}
 use Rattle.ark_script.specs.declared.step.Hex.{Hex}
 use Rattle.ark_script.specs.declared.step.Step.{Step}
 use Rattle.ark_script.specs.declared.step.Step.TheVariants as step
 use Rattle.ark_machine.specs.Built.{is_built}
 use Rattle.ark_host.specs.declared.host.Host.{Host}
-use Rattle.ark_host.specs.Stands.{Steps}
 use Rattle.ark_host.specs.Time.{Counts, CountsLine}
-use Rattle.ark_host.proofs.Standing.{relined}
 
 -- a group that has a word that is built
 abbrev pub has_built : Group → Bool
@@ -86,11 +80,3 @@ all_memory _ about no_peek no_poke no_buf no_show no_fill no_copy no_free = refl
 -- a word's counts are those of a line
 pub counted : (old now : Host) (ticks most : ℕ) → ticks ≤ a_billion → most ≤ 1 → Counts old now ticks most → CountsLine old now
 counted old now ticks most few one c = (omega (arith, c.0, few), c.1, c.2, omega (arith, c.3, one))
-
--- the steps of a host whose lines were counted before
-pub relined_steps : (old now : Host) (n : ℕ) (told : Told) (m : Meaning) (es : List Event) (reply : Said) (shown : List ℕ)
-    → Steps (record old { lines = n }) now told m es reply shown → Steps old now told m es reply shown
-relined_steps old now n told m es reply shown steps = record {
-  devices = steps.devices;
-  answered = λ s h stood. steps.answered s h (record { is_told = stood.is_told; stands = relined old n told.blocks h s stood.stands });
-}

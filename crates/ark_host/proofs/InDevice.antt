@@ -1,5 +1,5 @@
 -- The blocks that are granted, and those that are free, lie on the device.
-use Rattle.std.proofs.Common.{◌≡◌, ℕ, zero, suc, ◌<◌, ◌-◌, List, [], ◌∷◌, length, take, drop, set, get_or, sym, subst, arith, All}
+use Rattle.std.proofs.Common.{◌≡◌, ℕ, zero, suc, ◌<◌, ◌≤◌, ◌-◌, List, [], ◌∷◌, length, take, drop, set, get_or, sym, subst, arith, All}
 use Rattle.std.specs.Prelude.{Option, Some, None, nat_eq}
 use Rattle.std.specs.Map.{lookup}
 use Rattle.std.proofs.lemmas.List.Elements.{All-append, All-drop, All-get_or, All-set, All-take}
@@ -27,8 +27,10 @@ module _ (size : ℕ) where
       omega (arith, at, near)
 
   -- of a fresh host
-  pub fresh_inside : (apps : List App) (free : List ℕ) → apps ≡ [] → free ≡ free_at_first size → AppsInside apps × Below free
-  fresh_inside apps free none all = (
+  pub fresh_inside : (apps : List App) (free : List ℕ) → 130 ≤ size → size ≤ 1048576 → apps ≡ [] → free ≡ free_at_first size → (130 ≤ size) × (size ≤ 1048576) × AppsInside apps × Below free
+  fresh_inside apps free low high none all = (
+    low,
+    high,
     subst (λ (xs : List App). AppsInside xs) (sym none) (λ k d lt. absurd (omega (arith, lt))),
     subst (λ (xs : List ℕ). Below xs) (sym all) fresh_below,
   )
@@ -43,10 +45,14 @@ module _ (size : ℕ) where
 
   -- of a host that granted the first of its free blocks
   pub granted_inside : (host : Host) (place : ℕ) (app app1 : App) (g blocks : ℕ) (area : Area) (rest : List ℕ) → place < length host.apps.items → get_or host.apps.items place app ≡ app → app1.areas ≡ with_area app.areas g area
-      → area.spans ≡ take blocks host.free → rest ≡ drop blocks host.free → IsInside size host → AppsInside (set host.apps.items place app1) × Below rest
+      → area.spans ≡ take blocks host.free → rest ≡ drop blocks host.free → IsInside size host → (130 ≤ size) × (size ≤ 1048576) × AppsInside (set host.apps.items place app1) × Below rest
   granted_inside host place app app1 g blocks area rest lt at areas taken left inside =
       let old : AreasInside size app.areas = subst (λ (x : App). AreasInside size x.areas) at
-      (All-get_or (λ x. AreasInside size x.areas) host.apps.items place app lt inside.0) in
+      (All-get_or (λ x. AreasInside size x.areas) host.apps.items place app lt inside.2) in
       let new : AreasInside size app1.areas = subst (λ (x : AreaList). AreasInside size x) (sym areas)
-      (with_inside app.areas g area (lookup (nat_eq g) app.areas) old (subst (λ (xs : List ℕ). Below xs) (sym taken) (All-take (λ n. n < size) blocks host.free inside.1))) in
-      (All-set (λ x. AreasInside size x.areas) host.apps.items place app1 new inside.0, subst (λ (xs : List ℕ). Below xs) (sym left) (All-drop (λ n. n < size) blocks host.free inside.1))
+      (with_inside app.areas g area (lookup (nat_eq g) app.areas) old (subst (λ (xs : List ℕ). Below xs) (sym taken) (All-take (λ n. n < size) blocks host.free inside.3))) in
+      (inside.0, inside.1, All-set (λ x. AreasInside size x.areas) host.apps.items place app1 new inside.2, subst (λ (xs : List ℕ). Below xs) (sym left) (All-drop (λ n. n < size) blocks host.free inside.3))
+
+  -- of a host that took its free blocks in vain
+  pub taken_inside : (host : Host) (blocks : ℕ) (rest : List ℕ) → rest ≡ drop blocks host.free → IsInside size host → (130 ≤ size) × (size ≤ 1048576) × AppsInside host.apps.items × Below rest
+  taken_inside host blocks rest left inside = (inside.0, inside.1, inside.2, subst (λ (xs : List ℕ). Below xs) (sym left) (All-drop (λ n. n < size) blocks host.free inside.3))

@@ -18,7 +18,7 @@ same_slot (s ∷ ss) t u n apart (inl a) (inr b) x y = absurd (false≢true (sym
 same_slot (s ∷ ss) t u n apart (inr a) (inl b) x y = absurd (false≢true (sym (apart.0.1 n (ap (λ (z : Slot). has_block z.blocks n) b ∙ y)) ∙ granted_in ss t n a x))
 same_slot (s ∷ ss) t u n apart (inr a) (inr b) x y = same_slot ss t u n apart.1 a b x y
 
-has : (blocks : List ℕ) (n : ℕ) → Contains blocks n → has_block blocks n ≡ true
+pub has : (blocks : List ℕ) (n : ℕ) → Contains blocks n → has_block blocks n ≡ true
 has blocks n c = any_in (λ b. b == n) blocks n (contains_in blocks n c) (eq_same n)
 
 -- two slots that share a block are the same

@@ -1,11 +1,11 @@
 -- What the host grants, and what it has left, lies on the device.
-use Rattle.std.specs.Prelude.{ℕ, ◌<◌, All}
+use Rattle.std.specs.Prelude.{ℕ, ◌<◌, ◌≤◌, All}
 use Rattle.ark_held.specs.Inside.{AreasInside}
 use Rattle.ark_host.specs.declared.host.Host.{Host}
 
--- a device of so many blocks has each block of the applications' areas, and each free one
+-- a device of so many blocks, as large as one may be, has each block of the applications' areas, and each free one
 abbrev pub IsInside : ℕ → Host → Type 0
-IsInside size host = All (λ app. AreasInside size app.areas) host.apps.items × All (λ n. n < size) host.free
+IsInside size host = (130 ≤ size) × (size ≤ 1048576) × All (λ app. AreasInside size app.areas) host.apps.items × All (λ n. n < size) host.free
 
 -- what lay on a device lies there still
 abbrev pub KeepsInside : Host → Host → Type 0

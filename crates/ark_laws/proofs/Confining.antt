@@ -19,7 +19,7 @@ use Rattle.ark_machine.specs.Sockets.{pulled, card_at, datagrams_at}
 use Rattle.ark_machine.specs.Plane.{recorded, asked_blocks, slot_of}
 use Rattle.ark_machine.specs.Step.{step}
 use Rattle.ark_machine.specs.System.{System, machine_of, owner, line_turn, quiet_turn}
-use Rattle.ark_machine.specs.Built.{turn, is_built, so_far, calls_so_far}
+use Rattle.ark_machine.specs.Built.{turn, is_built}
 use Rattle.ark_machine.specs.Follow.{Follow, ended, Performs, PerformsFor, ends_of, slots_for}
 use Rattle.ark_machine.specs.Replies.{turn_for, system_after, has_lacked, EachAnswers, Begins, Replies}
 use Rattle.ark_machine.specs.Confined.{AllAllowed, EndsAtFailure, IsConfined, EachConfined, BeginsConfined, Confined}
@@ -93,15 +93,6 @@ line_confined s (w.tick n) ends memory es h = by_none s (w.tick n) es h
 
 -- The composed run.
 
--- the calls that a line makes so far are those of its row, or none
-far_confined : (s : System) (line : Line) (ends : List Ended) (memory : Bool) (es : List Event) → PerformsFor s line (calls_so_far line (line_turn s line ends memory).calls) es (owner line) → AllAllowed s line es × EndsAtFailure es
-far_confined s (w.vsa a l n k) ends memory es h = by_calls s a (w.vsa a l n k) tt h
-far_confined s line ends memory es h = line_confined s line ends memory es h
-
-far_passes : (s : System) (line : Line) (ends : List Ended) (memory : Bool) (es : List Event) → StandsPaced s → PerformsFor s line (calls_so_far line (line_turn s line ends memory).calls) es (owner line) → PassesWithin s line es
-far_passes s (w.vsa a l n k) ends memory es paced h = tt
-far_passes s line ends memory es paced h = line_passes s line ends memory es paced h
-
 -- where no call is made
 none_done : (s : System) (line : Line) (es : List Event) (o : Option (List ℕ)) → PerformsFor s line [] es o → es ≡ []
 none_done s line es None f = f
@@ -114,8 +105,8 @@ pub performs_confined : (s : System) (m : Meaning) (ends : List Ended) (memory :
 performs_confined s (Err refusal) ends memory es paced h = h
 performs_confined s (Ok line) ends memory es paced h = by_built (is_built line) h
   where
-    by_built : (b : Bool) → PerformsFor s line (cond b (so_far line (line_turn s line ends memory)) (quiet_turn s (said.Refused r.UnknownWord))).calls es (owner line) → IsConfined s (Ok line) es
-    by_built true g = let touches = far_confined s line ends memory es g in (touches.0, touches.1, far_passes s line ends memory es paced g)
+    by_built : (b : Bool) → PerformsFor s line (cond b (line_turn s line ends memory) (quiet_turn s (said.Refused r.UnknownWord))).calls es (owner line) → IsConfined s (Ok line) es
+    by_built true g = let touches = line_confined s line ends memory es g in (touches.0, touches.1, line_passes s line ends memory es paced g)
     by_built false g = rw (none_done s line es (owner line) g) (tt, tt, none_within s line paced)
 
 confined_front : (s : System) (m : Meaning) (es more : List Event) → IsConfined s m (es ++ more) → IsConfined s m es

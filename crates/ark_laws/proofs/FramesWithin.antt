@@ -20,7 +20,7 @@ use Rattle.ark_machine.specs.Rates.{passed}
 use Rattle.ark_machine.specs.Plane.{LiveFilter, is_receive, recorded}
 use Rattle.ark_machine.specs.Network.{arrive}
 use Rattle.ark_machine.specs.System.{System, machine_of, takes, quiet_turn, line_turn, arrival_turn}
-use Rattle.ark_machine.specs.Built.{turn, is_built, so_far}
+use Rattle.ark_machine.specs.Built.{turn, is_built}
 use Rattle.ark_machine.specs.Follow.{ends_of}
 use Rattle.ark_machine.specs.Replies.{turn_for, has_lacked, Answers}
 use Rattle.ark_machine.specs.Sending.{KeepsWith, tx_pace_at, rx_pace_at, FrameWithin, IsLetOut, IsPacedOut, SendsWithin, SendsFront, IsLetIn, IsDelivered, DeliversWithin, DeliversFront}
@@ -117,9 +117,9 @@ turn_sends : (s : System) (m : Meaning) (ends : List Ended) (memory : Bool) → 
 turn_sends s (Err x) ends memory paced h = absurd cc
 turn_sends s (Ok line) ends memory paced h = by (is_built line) h
   where
-    by : (b : Bool) → (cond b (so_far line (line_turn s line ends memory)) (quiet_turn s (said.Refused r.UnknownWord))).said ≡ said.Sent
-        → IsLetOut s (Ok line) (cond b (so_far line (line_turn s line ends memory)) (quiet_turn s (said.Refused r.UnknownWord))).bytes
-        × IsPacedOut s (Ok line) (cond b (so_far line (line_turn s line ends memory)) (quiet_turn s (said.Refused r.UnknownWord))).bytes
+    by : (b : Bool) → (cond b (line_turn s line ends memory) (quiet_turn s (said.Refused r.UnknownWord))).said ≡ said.Sent
+        → IsLetOut s (Ok line) (cond b (line_turn s line ends memory) (quiet_turn s (said.Refused r.UnknownWord))).bytes
+        × IsPacedOut s (Ok line) (cond b (line_turn s line ends memory) (quiet_turn s (said.Refused r.UnknownWord))).bytes
     by true g = (line_sends s line ends memory g, line_paced_out s line ends memory paced g)
     by false g = absurd cc
 
@@ -127,7 +127,7 @@ turn_delivers : (s : System) (m : Meaning) (ends : List Ended) (memory : Bool) �
 turn_delivers s (Err x) ends memory paced b u h = absurd cc
 turn_delivers s (Ok line) ends memory paced b u h = by (is_built line) h
   where
-    by : (t : Bool) → (cond t (so_far line (line_turn s line ends memory)) (quiet_turn s (said.Refused r.UnknownWord))).said ≡ said.Delivered b u → IsDelivered s (Ok line) b u
+    by : (t : Bool) → (cond t (line_turn s line ends memory) (quiet_turn s (said.Refused r.UnknownWord))).said ≡ said.Delivered b u → IsDelivered s (Ok line) b u
     by true g = line_delivered s line ends memory paced b u g
     by false g = absurd cc
 

@@ -20,7 +20,7 @@ use Rattle.ark_machine.specs.Plane.{recorded}
 use Rattle.ark_machine.specs.Step.{step, ticked}
 use Rattle.ark_machine.specs.System.{System, Turn, listed_machine, machine_of, set_machine, owner, quiet_turn, own_turn, nic_turn, line_turn, tick_turn}
 use Rattle.ark_machine.specs.Start.{view, stored_area, with_slot, with_stored, all_stored, start_system}
-use Rattle.ark_machine.specs.Built.{turn, is_built, so_far}
+use Rattle.ark_machine.specs.Built.{turn, is_built}
 use Rattle.ark_machine.specs.Replies.{turn_for, has_lacked}
 use Rattle.ark_machine.specs.Follow.{ends_of}
 use Rattle.ark_machine.specs.Sending.{IsLetOut, KeepsRate, KeepsRates, HeldKeeps, ListedKeeps, AllKeep}
@@ -156,7 +156,7 @@ paced_keep s h = machines_keep s.now s.machines h
 pub turn_paced : (s : System) (m : Meaning) (ends : List Ended) (memory : Bool) → StandsPaced s → StandsPaced (turn s m ends memory).after
 turn_paced s (Err x) ends memory k = k
 turn_paced s (Ok line) ends memory k =
-    elim (is_built line) as (λ b. StandsPaced (cond b (so_far line (line_turn s line ends memory)) (quiet_turn s (said.Refused r.UnknownWord))).after) [ true ↦ line_paced s line ends memory k | false ↦ k ]
+    elim (is_built line) as (λ b. StandsPaced (cond b (line_turn s line ends memory) (quiet_turn s (said.Refused r.UnknownWord))).after) [ true ↦ line_paced s line ends memory k | false ↦ k ]
 
 pub rates_kept : (s : System) (m : Meaning) (part : List Event) → StandsPaced s → StandsPaced (turn_for s m part).after
 rates_kept s m part k = turn_paced s m (ends_of (device_events part)) (has_lacked part) k

@@ -13,7 +13,7 @@ use Rattle.ark_machine.specs.Machine.{Machine, unmade}
 use Rattle.ark_machine.specs.Control.{is_label}
 use Rattle.ark_machine.specs.System.{System, Turn, listed_machine, machine_of, line_turn, quiet_turn}
 use Rattle.ark_machine.specs.Start.{with_slot, with_stored, all_stored, start_system}
-use Rattle.ark_machine.specs.Built.{is_built, so_far}
+use Rattle.ark_machine.specs.Built.{is_built}
 use Rattle.ark_machine.specs.Follow.{ends_of}
 use Rattle.ark_machine.specs.Replies.{has_lacked, EachAnswers}
 use Rattle.ark_machine.specs.Private.{Play, play_turn, Reply, concerned, reply_of, replies_in, replies_to, inputs_of, private_replies}
@@ -35,7 +35,7 @@ outputs_told a s (Err x ∷ ms) (p ∷ ps) h = outputs_told a s ms ps h.1
 outputs_told a s (Ok line ∷ ms) (p ∷ ps) h = by (λ t k. outputs_told a t ms ps k) (is_built line) h.0.output h.1
   where
     whole : Bool → Turn
-    whole b = cond b (so_far line (line_turn s line (ends_of (device_events p)) (has_lacked p))) (quiet_turn s (said.Refused r.UnknownWord))
+    whole b = cond b (line_turn s line (ends_of (device_events p)) (has_lacked p)) (quiet_turn s (said.Refused r.UnknownWord))
 
     by : ((t : System) → EachAnswers t ms ps → outputs_to a t ms ps ≡ map text_of (replies_to a t (plays_of ms ps))) → (b : Bool) → output_of p ≡ text (whole b).said (whole b).bytes
         → EachAnswers (whole b).after ms ps

@@ -173,7 +173,7 @@ range_from ss i (suc n) h = by (has_index ss i) refl (λ lt. range_from ss (i + 
     by true e next = let f : from (i + 1) ss + 1 ≤ from i ss = from_fewer i ss e in let r = next (omega (arith, h, f)) in (omega (arith, r.0), omega (arith, r.1))
     by false e next = (omega arith, omega arith)
 
-free_range : (p : Plane) (m : ℕ) → max_slots ≡ m → length p.slots < m → (1 ≤ free_slot_from p.slots 1 m) × (free_slot_from p.slots 1 m ≤ m)
+pub free_range : (p : Plane) (m : ℕ) → max_slots ≡ m → length p.slots < m → (1 ≤ free_slot_from p.slots 1 m) × (free_slot_from p.slots 1 m ≤ m)
 free_range p m is h = let r = range_from p.slots 1 m (let f : from 1 p.slots ≤ length p.slots = from_all 1 p.slots in omega (arith, h, f)) in (r.0, omega (arith, r.1))
 
 -- Changes of the slots.
@@ -348,7 +348,7 @@ fit_found size q (s ∷ ss) t h is = by (q s) is (λ e. fit_found size q ss t h.
 
 -- Changes of a plane.
 
-new_fits : (p : Plane) (a s : List ℕ) (k : Kind) (n : ℕ) → length p.slots < max_slots → SlotFits p.size (new_slot p a s k n)
+pub new_fits : (p : Plane) (a s : List ℕ) (k : Kind) (n : ℕ) → length p.slots < max_slots → SlotFits p.size (new_slot p a s k n)
 new_fits p a s k n room =
     let r = free_range p max_slots refl room in
     record { index_low = r.0; index_high = r.1; data_part = λ b has. lowest_data p n b has; distinct = lowest_distinct p n }

@@ -122,7 +122,7 @@ all_fit size (run ∷ runs) few data_part =
     let end : run.start + run.len ≤ size = leb-true (run.start + run.len) size here.1 in
     (omega (arith, end, few), omega (arith, end, few), all_fit size runs few parts.1)
 
-keeps_rules : (size : ℕ) (s : Slot) → size < 2 ^ 32 → IsRight size s → is_area size (area_of s) ≡ true
+pub keeps_rules : (size : ℕ) (s : Slot) → size < 2 ^ 32 → IsRight size s → is_area size (area_of s) ≡ true
 keeps_rules size s few right =
     let some : 1 ≤ length s.blocks = at_least s.kind (length s.blocks) right.some in
     let spans : are_spans (runs_of s.blocks) ≡ true = spans_from s.blocks some right.distinct (λ n h. omega (arith, (right.data_part n h).1, few)) right.few_runs in

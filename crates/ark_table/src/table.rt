@@ -1,10 +1,10 @@
-ghost use Rattle.std.specs.Prelude.{◌≡◌, ◌≤◌, ◌<◌, ◌≢◌, ◌⊎◌, ◌↔◌, ℕ, Some, None, length, replicate, is_ok, IfOk, IfSome, OnOk, OnErr, MatchOption, not, is_some, count_by};
+ghost use Rattle.std.specs.Prelude.{◌≡◌, ◌≤◌, ◌<◌, ◌≢◌, ◌⊎◌, ◌↔◌, ℕ, Some, None, length, replicate, is_ok, IfOk, IfSome, OnOk, OnErr, MatchOption, not, is_some, count_by, All};
 ghost use Rattle.std.specs.List.{position};
 ghost use Rattle.ark_media.specs.Calls.{Went};
 ghost use Rattle.ark_table.specs.Area.{Area};
 ghost use Rattle.ark_table.specs.Table.{slots_in};
 ghost use Rattle.ark_table.specs.Plans.{create_calls, grant_calls, remove_calls};
-ghost use Rattle.ark_table.specs.Standing.{slot_in, with_slot, grown_area, CanCreate, CanGrow};
+ghost use Rattle.ark_table.specs.Standing.{slot_in, with_slot, grown_area, CanGrow};
 ghost use Rattle.ark_table.specs.Stated.{stated};
 ghost use Rattle.ark_table.specs.Using.{IsLeastFree, IsFull};
 
@@ -91,7 +91,10 @@ impl GrantTable {
     /// Grants slot `i`, which is free: writes zeros to the blocks, syncs, writes the slot, and syncs. It fails only where one of these
     /// calls fails, and makes none after it.
     pub fn create<D: Disk>(&mut self, disk: &mut D, i: u16, slot: Slot) -> Result<(), DiskFailed>
-        requires can { CanCreate (D.told disk.old).blocks self.old i (stated slot) }
+        requires low { 1 ≤ i }
+        requires high { i ≤ 128 }
+        requires inside { All (λ n. n < (D.told disk.old).blocks) slot.spans }
+        requires table { 129 ≤ (D.told disk.old).blocks }
         ensures went { Went D.goes (create_calls i (stated slot)) (is_ok result) disk.old disk.new }
         ensures granted { OnOk result (self.new ≡ with_slot self.old i (Some (stated slot))) }
         ensures kept { OnErr result (self.new ≡ self.old) }

@@ -4,7 +4,7 @@ use Rattle.std.specs.Prelude.{is_ok, OnOk, OnErr, MatchOption}
 use Rattle.std.proofs.lemmas.List.{take-append-drop}
 use Rattle.std.proofs.Math.Seq.{take-append_seam}
 use Rattle.ark_media.specs.Journal.{History}
-use Rattle.ark_media.specs.Calls.{IsHonest}
+use Rattle.ark_media.specs.Calls.{GivesBlock}
 use Rattle.ark_region.specs.Frames.{Piece, Space, Lies, Wrote, bytes_of, fitted, written}
 use Rattle.ark_region.proofs.Putting.{part_of}
 use Rattle.ark_vic.specs.declared.descriptor.Descriptor.{Descriptor}
@@ -43,7 +43,7 @@ module _ (old : Space) (b : Piece) (at n : ℕ) (after : Option History) (before
   by_result (Ok x) ok is got same = subst (λ o. LeavesBlock job.Read o (Some b) at after n old new) (sym is) got
   by_result (Err e) ok is got same = subst (λ o. LeavesBlock job.Read o (Some b) at after n old new) (sym is) same
 
-  got_by : {E : Type 0} (r : Result (Unit {0}) E) → length out ≡ 512 → Wrote old new b at out → OnOk r (IsHonest after n out) → OnOk r (Got after n b at old new)
+  got_by : {E : Type 0} (r : Result (Unit {0}) E) → length out ≡ 512 → Wrote old new b at out → OnOk r (GivesBlock after n out) → OnOk r (Got after n b at old new)
   got_by (Ok x) long wrote honest = record { bytes = out; whole = long; honest = honest; wrote = wrote }
   got_by (Err e) long wrote honest = tt
 
@@ -55,7 +55,7 @@ module _ (old : Space) (b : Piece) (at n : ℕ) (after : Option History) (before
 pub left_by_read : {E : Type 0} (old : Space) (d : Descriptor) (k n : ℕ) (after : Option History) (b : Piece) (before out : List ℕ) (r : Result (Unit {0}) E) (ok : Bool)
     → d.job ≡ job.Read → d.buf ≡ Some b → IsSound old.taken k d → ok ≡ is_ok r
     → before ≡ slice_range (bytes_of old b) (d.from + 512 * k) (d.from + 512 * k + 512) → length before ≡ 512 → length out ≡ 512
-    → Wrote old (new old b (d.from + 512 * k) n after before out) b (d.from + 512 * k) out → OnOk r (IsHonest after n out) → OnErr r (out ≡ before)
+    → Wrote old (new old b (d.from + 512 * k) n after before out) b (d.from + 512 * k) out → OnOk r (GivesBlock after n out) → OnErr r (out ≡ before)
     → LeavesBlock d.job ok d.buf (d.from + 512 * k) after n old (new old b (d.from + 512 * k) n after before out)
 left_by_read old d k n after b before out r ok reads is sound tells lent long size wrote honest same =
     let at = d.from + 512 * k in

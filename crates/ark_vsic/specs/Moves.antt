@@ -3,7 +3,7 @@ use Rattle.std.specs.Prelude.{◌≡◌, ◌≢◌, IfSome, ℕ, ◌+◌, ◌*�
 use Rattle.ark_base.specs.declared.kind.Outcome.{Outcome}
 use Rattle.ark_base.specs.declared.kind.Outcome.TheVariants as outcome
 use Rattle.ark_media.specs.Journal.{History}
-use Rattle.ark_media.specs.Calls.{Call, Reads, Writes, Syncs, IsHonest}
+use Rattle.ark_media.specs.Calls.{Call, Reads, Writes, Syncs, GivesBlock}
 use Rattle.ark_region.specs.Frames.{Piece, Space, bytes_of, Lies, Wrote}
 use Rattle.ark_vic.specs.Pace.{Pace, fill_at, filled}
 use Rattle.ark_vic.specs.Queue.{Queue, finished}
@@ -132,7 +132,7 @@ pace_after pace _ now = pace
 pub record Got (after : Option History) (n : ℕ) (b : Piece) (at : ℕ) (old new : Space) : Type 0 where
   pub bytes : List ℕ
   pub whole : length bytes ≡ 512
-  pub honest : IsHonest after n bytes
+  pub honest : GivesBlock after n bytes
   pub wrote : Wrote old new b at bytes
 
 -- only a read that succeeded leaves the region otherwise than it was

@@ -16,7 +16,7 @@ use Rattle.ark_machine.specs.Follow.{ended, goes_on}
 use Rattle.ark_machine.specs.Replies.{EachAnswers}
 use Rattle.ark_machine.specs.Start.{start_system}
 use Rattle.ark_machine.specs.Told.{outputs_to}
-use Rattle.ark_worked.proofs.Scripts.{area}
+use Rattle.ark_worked.proofs.Scripts.{area, granting}
 use Rattle.ark_laws.proofs.Told.{outputs_alike, start_outputs_alike}
 use Rattle.ark_worked.proofs.Labels.{a, b, s, t}
 
@@ -36,14 +36,14 @@ abbrev alone : List Meaning
 alone = Ok (w.app a None) ∷ Ok (w.vsa a s 2 kind.Raw) ∷ Ok (w.poke a s 1 (10 ∷ 255 ∷ [])) ∷ Ok (w.peek a s 1) ∷ []
 
 abbrev alone_parts : List (List Event)
-alone_parts = ok ∷ ok ∷ says (Write 130 content true true ∷ []) (codes "ok") ∷ says (Read 130 true ∷ []) (codes "ok 0aff") ∷ []
+alone_parts = ok ∷ says (granting (area 1 a s kind.Raw 129 2)) (codes "ok") ∷ says (Write 130 content true true ∷ []) (codes "ok") ∷ says (Read 130 true ∷ []) (codes "ok 0aff") ∷ []
 
 pub alone-answered : EachAnswers (fresh_system 200) alone alone_parts
 unfolding step answer encode_with digits
 alone-answered = (
   record { output = refl; calls = ended; memory = tt },
   (
-    record { output = refl; calls = ended; memory = tt },
+    record { output = refl; calls = goes_on (refl, refl, λ well. refl) refl refl (goes_on (refl, refl, λ well. refl) refl refl (goes_on tt refl refl (goes_on (refl, refl, λ well. refl) refl refl (goes_on tt refl refl ended)))); memory = tt },
     (record { output = refl; calls = goes_on (refl, refl, λ well. refl) refl refl ended; memory = tt }, (record { output = refl; calls = goes_on refl refl refl ended; memory = tt }, tt)),
   ),
 )
@@ -55,7 +55,8 @@ together =
 
 abbrev together_parts : List (List Event)
 together_parts =
-    ok ∷ ok ∷ ok ∷ ok ∷ says (Write 133 content true true ∷ []) (codes "ok") ∷ says (Read 130 true ∷ []) (codes "ok -") ∷ says (Read 133 true ∷ []) (codes "ok 0aff") ∷ []
+    ok ∷ ok ∷ says (granting (area 1 b t kind.Raw 129 3)) (codes "ok") ∷ says (granting (area 2 a s kind.Raw 132 2)) (codes "ok")
+    ∷ says (Write 133 content true true ∷ []) (codes "ok") ∷ says (Read 130 true ∷ []) (codes "ok -") ∷ says (Read 133 true ∷ []) (codes "ok 0aff") ∷ []
 
 pub together-answered : EachAnswers (fresh_system 200) together together_parts
 unfolding step answer encode_with digits
@@ -64,9 +65,9 @@ together-answered = (
   (
     record { output = refl; calls = ended; memory = tt },
     (
-      record { output = refl; calls = ended; memory = tt },
+      record { output = refl; calls = goes_on (refl, refl, λ well. refl) refl refl (goes_on (refl, refl, λ well. refl) refl refl (goes_on (refl, refl, λ well. refl) refl refl (goes_on tt refl refl (goes_on (refl, refl, λ well. refl) refl refl (goes_on tt refl refl ended))))); memory = tt },
       (
-        record { output = refl; calls = ended; memory = tt },
+        record { output = refl; calls = goes_on (refl, refl, λ well. refl) refl refl (goes_on (refl, refl, λ well. refl) refl refl (goes_on tt refl refl (goes_on (refl, refl, λ well. refl) refl refl (goes_on tt refl refl ended)))); memory = tt },
         (
           record { output = refl; calls = goes_on (refl, refl, λ well. refl) refl refl ended; memory = tt },
           (record { output = refl; calls = goes_on refl refl refl ended; memory = tt }, (record { output = refl; calls = goes_on refl refl refl ended; memory = tt }, tt)),

@@ -1,4 +1,4 @@
--- A worked script through the program's turns so far: a new area makes no device call.
+-- A worked script through the turns of the words that the program runs.
 use Rattle.std.proofs.Common.{◌≡◌, ℕ, Bool, true, false, ◌&&◌, List, [], ◌∷◌, codes, refl}
 use Rattle.std.specs.Fmt.{digits}
 use Rattle.std.specs.Prelude.{Ok}
@@ -13,7 +13,7 @@ use Rattle.ark_machine.specs.System.{System, Turn, owner, fresh_system}
 use Rattle.ark_machine.specs.Built.{turn}
 use Rattle.ark_machine.specs.Follow.{ends_of}
 use Rattle.ark_worked.proofs.Playing.{Played, words_said, performs_for}
-use Rattle.ark_worked.proofs.Scripts.{quiet, app}
+use Rattle.ark_worked.proofs.Scripts.{quiet, app, area, granting}
 use Rattle.ark_worked.proofs.Labels.{a, b, s}
 
 abbrev turned : System → Played → Turn
@@ -30,7 +30,7 @@ performed s (p ∷ ps) = performs_for s p.0 (turned s p) p.1 (owner p.0) && perf
 abbrev own_blocks : List Played
 own_blocks =
     app a
-    ∷ quiet (w.vsa a s 2 kind.Raw)
+    ∷ (w.vsa a s 2 kind.Raw, granting (area 1 a s kind.Raw 129 2))
     ∷ (w.poke a s 1 (10 ∷ 255 ∷ []), Write 130 (padded (10 ∷ 255 ∷ [])) true true ∷ [])
     ∷ (w.peek a s 1, Read 130 true ∷ [])
     ∷ (w.peek a s 0, Read 129 true ∷ [])

@@ -6,11 +6,13 @@ use Rattle.ark_base.specs.declared.status.Status.{Status}
 use Rattle.ark_base.specs.declared.status.Status.TheVariants.{Done, Source, Sink, Long}
 use Rattle.ark_base.specs.Status.{code_of}
 use Rattle.ark_media.specs.Journal.{Event, Write, Sync, Out, HasFailed, fresh, onto, output_of, device_events, has_succeeded}
-use Rattle.ark_media.specs.Calls.{Told, Beside, Script, Opening, making}
+use Rattle.ark_media.specs.Calls.{Told, Beside, Script, Opening, making, Makes}
 use Rattle.ark_media.specs.Parts.{parts, joined, IsWhole, IsUnfinished}
 use Rattle.ark_script.specs.Line as w
 use Rattle.ark_script.specs.Lines.{Meaning, Says, lines_of}
-use Rattle.ark_table.specs.Superblock.{superblock}
+use Rattle.ark_table.specs.Superblock.{superblock, format_calls}
+use Rattle.ark_table.specs.Standing.{IsTableOf}
+use Rattle.ark_table.proofs.Standing as tables
 use Rattle.ark_machine.specs.Row.{answer}
 use Rattle.ark_machine.specs.Step.{step}
 use Rattle.ark_machine.specs.System.{fresh_system}
@@ -18,7 +20,8 @@ use Rattle.ark_machine.specs.Follow.{ended}
 use Rattle.ark_machine.specs.Replies.{Replies, system_after}
 use Rattle.ark_machine.proofs.Fronts.{recovers_of}
 use Rattle.ark_laws.proofs.Confining.{confined_of}
-use Rattle.ark_cli.proofs.Stops.{no_slots, none_each, open_fronts}
+use Rattle.ark_host.specs.Tabled.{table_of}
+use Rattle.ark_cli.proofs.Stops.{no_slots, none_each, table_rests, open_fronts}
 use Rattle.ark_cli.specs.Words.{IsRun}
 use Rattle.ark_cli.specs.Line.{limit}
 use Rattle.ark_cli.specs.Opening.{SinceMake, IsOpening}
@@ -115,6 +118,16 @@ pub is_opening : IsOpening 200 opened
 unfolding digits
 is_opening = record { calls = inl ((true, (λ e. refl), refl), inl (refl, refl)); output = refl }
 
+-- the device's calls, and the table of no slot that they leave
+abbrev formatting : List Event
+formatting = Write 0 (superblock 200) true true ∷ Sync true ∷ []
+
+formats : Makes (format_calls 200) true formatting
+formats = inl ((true, (λ e. refl), refl), inl (refl, refl))
+
+pub opened_table : IsTableOf (record { base = (fresh 200).base; journal = onto opened [] }) (table_of [])
+opened_table = table_rests (fresh 200).base (onto formatting []) (Out (line (codes "ready 200 0")) ∷ []) refl (tables.formatted 200 formatting (lit≤ tt) (lit≤ tt) formats)
+
 -- the closing line came out in whole
 pub whole_line : (words : List ℕ) (before now : ℕ) → PutsLine (line words) before now (Out (line words) ∷ [])
 whole_line words before now = record { part = line words; more = []; prefix = sym (append-nil (line words)); only = refl; whole = inl refl }
@@ -131,7 +144,7 @@ nothing_asked : Replies (fresh_system 200) [] [] []
 nothing_asked = record { meanings = []; say = tt; each = tt; begins = refl }
 
 opened_fronts : RecoversAtFronts 200 (lines_of []) opened
-opened_fronts = open_fronts 200 opened [] [] is_whole (recovers_of (fresh 200).base (onto opened []) (fresh_system 200) [] [] [] [] [] [] tt tt tt tt (no_slots (fresh 200).base (onto opened []) (fresh_system 200) None [] refl))
+opened_fronts = open_fronts 200 opened [] [] is_whole (recovers_of (fresh 200).base (onto opened []) (fresh_system 200) [] [] [] [] [] [] tt tt tt tt (no_slots (fresh 200).base (onto opened []) (fresh_system 200) None [] refl refl opened_table))
 
 empty_run : Does run_words told_first (told_of opened) (beside_first []) (beside_of [] [] 0 0) Done
 empty_run = runs 200 (codes "d") is_run
@@ -166,20 +179,20 @@ one_run rest none = (
   confined_of (fresh_system 200) (lines_of one_line) ((Out (line (codes "ok")) ∷ []) ∷ []) rest tt (one_reply rest none),
 )
 
-answered_fronts : (rest : List Event) → IsUnfinished rest → RecoversAtFronts 200 (lines_of one_line) (opened ++ (Out (line (codes "ok")) ∷ rest))
+answered_fronts : (rest : List Event) → IsUnfinished rest → device_events rest ≡ [] → RecoversAtFronts 200 (lines_of one_line) (opened ++ (Out (line (codes "ok")) ∷ rest))
 unfolding step answer
-answered_fronts rest unended =
+answered_fronts rest unended silent =
     open_fronts 200 opened (Out (line (codes "ok")) ∷ rest) (lines_of one_line) is_whole
     (recovers_of (fresh 200).base (onto opened []) (fresh_system 200) (lines_of one_line) [] (app_a ∷ []) [] ((Out (line (codes "ok")) ∷ []) ∷ []) rest (app_a_says, tt) (refl, tt) unended
-    (none_each (fresh 200).base (onto opened []) (fresh_system 200) (app_a ∷ []) ((Out (line (codes "ok")) ∷ []) ∷ []) (refl, tt))
-    (no_slots (fresh 200).base (onto (joined ((Out (line (codes "ok")) ∷ []) ∷ [])) (onto opened [])) (system_after (fresh_system 200) (app_a ∷ []) ((Out (line (codes "ok")) ∷ []) ∷ [])) None rest refl))
+    (none_each (fresh 200).base (onto opened []) (fresh_system 200) (app_a ∷ []) ((Out (line (codes "ok")) ∷ []) ∷ []) (refl, refl, tt) opened_table)
+    (no_slots (fresh 200).base (onto (joined ((Out (line (codes "ok")) ∷ []) ∷ [])) (onto opened [])) (system_after (fresh_system 200) (app_a ∷ []) ((Out (line (codes "ok")) ∷ []) ∷ [])) None rest refl silent (table_rests (fresh 200).base (onto opened []) (Out (line (codes "ok")) ∷ []) refl opened_table)))
 
 abbrev source_closed : List Event
 source_closed = answered ++ Out (line (codes "fault source")) ∷ []
 
 source_run : Does run_words told_first (told_of source_closed) (beside_first one_line) (beside_of one_line [] 1 0) Source
 source_run = runs 200 (codes "d") is_run
-    (closed_run Source source_closed one_line [] 1 0 [] (Out (line (codes "fault source")) ∷ []) (refl, (refl, (refl, (refl, (refl, tt))))) (answered_fronts (Out (line (codes "fault source")) ∷ []) (refl, tt)) (one_run (Out (line (codes "fault source")) ∷ []) refl) refl
+    (closed_run Source source_closed one_line [] 1 0 [] (Out (line (codes "fault source")) ∷ []) (refl, (refl, (refl, (refl, (refl, tt))))) (answered_fronts (Out (line (codes "fault source")) ∷ []) (refl, tt) refl) (one_run (Out (line (codes "fault source")) ∷ []) refl) refl
     (whole_line (codes "fault source") 0 0) (refl, refl) (λ e. cc) (λ e. cc) (lit≤ tt))
 
 source_output : output_of source_closed ≡ line (codes "ready 200 0") ++ line (codes "ok") ++ line (codes "fault source")
@@ -194,7 +207,7 @@ source_cut = answered ++ Out (codes "fault") ∷ []
 
 source_cut_run : Does run_words told_first (told_of source_cut) (beside_first one_line) (beside_of one_line [] 1 1) Source
 source_cut_run = runs 200 (codes "d") is_run
-    (closed_run Source source_cut one_line [] 1 1 [] (Out (codes "fault") ∷ []) (refl, (refl, (refl, (refl, (refl, tt))))) (answered_fronts (Out (codes "fault") ∷ []) (refl, tt)) (one_run (Out (codes "fault") ∷ []) refl) refl
+    (closed_run Source source_cut one_line [] 1 1 [] (Out (codes "fault") ∷ []) (refl, (refl, (refl, (refl, (refl, tt))))) (answered_fronts (Out (codes "fault") ∷ []) (refl, tt) refl) (one_run (Out (codes "fault") ∷ []) refl) refl
     (record { part = codes "fault"; more = line (codes " source"); prefix = refl; only = refl; whole = inr (lit≤ tt) }) (refl, refl) (λ e. cc) (λ e. cc) (lit≤ tt))
 
 -- where no put failed, that is no closing line
@@ -223,7 +236,7 @@ cut_shows = record { replies = no_reply; shows = inr (app_a, app_a_says, record 
 cut_fronts : RecoversAtFronts 200 (lines_of one_line) cut_reply
 cut_fronts = open_fronts 200 opened (Out (codes "ok") ∷ []) (lines_of one_line) is_whole
     (recovers_of (fresh 200).base (onto opened []) (fresh_system 200) (lines_of one_line) [] [] (app_a ∷ []) [] (Out (codes "ok") ∷ []) (app_a_says, tt) tt (refl, tt) tt
-    (no_slots (fresh 200).base (onto opened []) (fresh_system 200) (Some app_a) (Out (codes "ok") ∷ []) refl))
+    (no_slots (fresh 200).base (onto opened []) (fresh_system 200) (Some app_a) (Out (codes "ok") ∷ []) refl refl opened_table))
 
 sink_run : Does run_words told_first (told_of cut_reply) (beside_first one_line) (beside_of one_line [] 0 1) Sink
 sink_run = runs 200 (codes "d") is_run

@@ -28,9 +28,9 @@ use Rattle.ark_machine.specs.Follow.{ended}
 use Rattle.ark_machine.specs.Replies.{Replies, system_after}
 use Rattle.ark_laws.proofs.Confining.{confined_of}
 use Rattle.ark_cli.specs.Ending.{RecoversAtFronts, Does, runs}
-use Rattle.ark_cli.proofs.Stops.{no_slots, none_each, open_fronts}
+use Rattle.ark_cli.proofs.Stops.{no_slots, none_each, table_rests, open_fronts}
 use Rattle.ark_machine.proofs.Fronts.{recovers_of}
-use Rattle.ark_worked_runs.proofs.WorkedRuns.{line, told_first, beside_first, told_of, beside_of, closed_run, run_words, is_run, opened, is_opening, is_whole}
+use Rattle.ark_worked_runs.proofs.WorkedRuns.{line, told_first, beside_first, told_of, beside_of, closed_run, run_words, is_run, opened, opened_table, is_opening, is_whole}
 
 abbrev script : List ℕ
 script =
@@ -145,8 +145,8 @@ unfolding step answer digits
 they_recover =
     open_fronts 200 opened (map (λ words. Out (line words)) texts) (lines_of script) is_whole
     (recovers_of (fresh 200).base (onto opened []) (fresh_system 200) (lines_of script) [] meanings [] whole [] they_say (refl, (refl, (refl, (refl, (refl, (refl, (refl, (refl, tt)))))))) tt
-    (none_each (fresh 200).base (onto opened []) (fresh_system 200) meanings whole (refl, (refl, (refl, (refl, (refl, (refl, (refl, (refl, tt)))))))))
-    (no_slots (fresh 200).base (onto (joined whole) (onto opened [])) (system_after (fresh_system 200) meanings whole) None [] refl))
+    (none_each (fresh 200).base (onto opened []) (fresh_system 200) meanings whole (refl, refl, (refl, refl, (refl, refl, (refl, refl, (refl, refl, (refl, refl, (refl, refl, (refl, refl, tt)))))))) opened_table)
+    (no_slots (fresh 200).base (onto (joined whole) (onto opened [])) (system_after (fresh_system 200) meanings whole) None [] refl refl (table_rests (fresh 200).base (onto opened []) (joined whole) refl opened_table)))
 
 script_run : Does run_words told_first (told_of events) (beside_first script) (beside_of script [] 0 0) Done
 script_run = runs 200 (codes "d") is_run

@@ -37,7 +37,7 @@ impl Host {
                 say(out, said);
             }
             Step::Vsa(name, label, blocks, kind) => {
-                let said = self.vsa(name, label, *blocks, *kind);
+                let said = self.vsa(name, label, *blocks, *kind, disk);
                 say(out, said);
             }
             Step::Tick(ticks) => {

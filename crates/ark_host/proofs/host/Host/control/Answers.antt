@@ -1,7 +1,7 @@
 use Rattle.std.proofs.Common.{[]}
 use Rattle.ark_host.proofs.Groups.{unbuilt_control}
 use Rattle.ark_host.proofs.Words.{app_answered, tick_answered, unbuilt_answered}
-use Rattle.ark_host.proofs.Lifting.{quiet_steps}
+use Rattle.ark_host.proofs.Lifting.{quiet_steps, said_steps}
 use Rattle.ark_host.proofs.host.Host.control.Goals as goal
 
 pub returns-in-App-clause-answers : goal.returns-in-App-clause-answers
@@ -17,13 +17,12 @@ returns-in-App-clause-answers g c =
 
 pub returns-in-Vsa-clause-answers : goal.returns-in-Vsa-clause-answers
 returns-in-Vsa-clause-answers g c =
-    let told = g.D.Disk.told c.args.disk.now in
-    let vsa = c.vsa-said in
+    let vsa = c.vsa-said.ensures.answers in
     record {
-      events = [];
-      goes_on = g.met.D.Disk.goes_none c.args.disk.now;
-      does = rw c.in-Vsa.is (quiet_steps c.args.self.now vsa.new.self told _ _ _ _ c.say-in-Vsa.ensures.said c.say-in-Vsa.ensures.none
-          (λ s h st. vsa.ensures.answers told.blocks h s st));
+      events = vsa.events;
+      goes_on = vsa.goes_on;
+      does = rw c.in-Vsa.is (said_steps c.args.self.now c.vsa-said.new.self (g.D.Disk.told c.vsa-said.new.disk) _ vsa.events _ _ _
+          c.say-in-Vsa.ensures.said c.say-in-Vsa.ensures.none vsa.does);
     }
 
 pub returns-in-Tick-clause-answers : goal.returns-in-Tick-clause-answers

@@ -3,8 +3,8 @@ use Rattle.ark_host.proofs.InDevice.{fresh_inside}
 use Rattle.ark_host.proofs.Standing.{fresh_stands}
 use Rattle.ark_host.proofs.host.Host.new.Goals as goal
 
-pub returns-in-Ok-clause-stands : goal.returns-in-Ok-clause-stands
-returns-in-Ok-clause-stands c = λ h based zero. fresh_stands _ c.args.blocks h (search rules) (search rules) refl refl based zero
+pub returns-clause-stands : goal.returns-clause-stands
+returns-clause-stands c = λ h based table. fresh_stands _ c.args.blocks h (search rules) (search rules) (search rules) refl refl based table
 
-pub returns-in-Ok-clause-inside : goal.returns-in-Ok-clause-inside
-returns-in-Ok-clause-inside c = fresh_inside c.args.blocks c.new-in-Ok.result.items c.in-Ok.free c.new-in-Ok.ensures.items c.in-Ok.ensures.free
+pub returns-clause-inside : goal.returns-clause-inside
+returns-clause-inside c = fresh_inside c.args.blocks _ _ c.requires.low c.requires.high (search rules) (search rules)
