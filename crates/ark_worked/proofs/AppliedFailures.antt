@@ -1,5 +1,5 @@
 -- The laws of refused lines, applied to worked scripts.
-use Rattle.std.proofs.Common.{◌≡◌, ℕ, true, false, List, [], ◌∷◌, ◌++◌, codes, refl}
+use Rattle.std.proofs.Common.{◌≡◌, true, false, List, [], ◌∷◌, ◌++◌, codes, refl}
 use Rattle.std.specs.Prelude.{Some, None}
 use Rattle.ark_base.specs.Conditions.{Conditions, none, first}
 use Rattle.ark_base.specs.declared.kind.Kind.TheVariants as kind

@@ -1,5 +1,5 @@
 -- Worked scripts on what a stop may leave of a block of an area, evaluated.
-use Rattle.std.proofs.Common.{◌≡◌, inr, ℕ, Bool, true, false, List, [], ◌∷◌, ◌++◌, replicate, map, codes, refl, arith}
+use Rattle.std.proofs.Common.{◌≡◌, inr, ℕ, Bool, true, false, List, [], ◌∷◌, ◌++◌, replicate, map, refl, arith}
 use Rattle.std.specs.Prelude.{Some}
 use Rattle.ark_base.specs.declared.kind.Kind.TheVariants as kind
 use Rattle.ark_media.specs.Journal.{Event, Write, Sync, zero_block}
