@@ -1,9 +1,8 @@
 -- Where the first newline of some bytes stands.
-use Rattle.std.proofs.Common.{◌≡◌, ℕ, suc, zero, ◌+◌, ◌<◌, ◌≤◌, nat_eq, Bool, true, false, List, [], ◌∷◌, ◌++◌, length, take, drop, get_or, refl, sym, ◌∙◌, ap, arith}
-use Rattle.std.specs.Prelude.{Option, Some, None, slice_index}
+use Rattle.std.proofs.Common.{◌≡◌, ℕ, suc, zero, ◌+◌, ◌<◌, nat_eq, Bool, true, false, List, [], ◌∷◌, ◌++◌, length, take, get_or, refl, sym, ◌∙◌, ap, arith}
 use Rattle.std.proofs.lemmas.Bool.{eqb-true}
 use Rattle.std.proofs.lemmas.List.{take_all, take_more}
-use Rattle.memchr.specs.Find.{Nowhere, Passes, is_byte, IsFirstByte}
+use Rattle.memchr.specs.Find.{Nowhere, Passes, is_byte}
 use Rattle.ark_script.specs.Text.{no_newline}
 
 not_true : (b : Bool) → (b ≡ true → ⊥) → b ≡ false

@@ -1,4 +1,4 @@
-use Rattle.std.proofs.Common.{◌≡◌, ◌∙◌, ap, take}
+use Rattle.std.proofs.Common.{◌∙◌, ap, take}
 use Rattle.ark_cli.proofs.Kept.{kept_front}
 use Rattle.ark_cli.proofs.line.kept_of.Goals as goal
 

@@ -1,7 +1,6 @@
 use Rattle.std.proofs.Common.{◌≡◌, ◌+◌, ◌∷◌, ◌++◌, [], length, true, false, take, drop, sym, subst, ap, ◌∙◌, refl, arith}
 use Rattle.std.proofs.lemmas.List.{take_all, take-append-drop}
 use Rattle.ark_media.proofs.Composing.{goes_none}
-use Rattle.ark_cli.specs.Line.{kept}
 use Rattle.ark_cli.specs.Session.{Feeds}
 use Rattle.ark_cli.proofs.Feeding.{feeds_bytes, feeds_cut}
 use Rattle.ark_cli.proofs.Piecing.{clean_before, clean_all, front_ended}

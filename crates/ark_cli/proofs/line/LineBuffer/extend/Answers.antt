@@ -1,4 +1,4 @@
-use Rattle.std.proofs.Common.{◌≡◌, ◌+◌, ◌++◌, take, drop, length, subst, ap, ◌∙◌, rules, arith, refl}
+use Rattle.std.proofs.Common.{◌≡◌, ◌+◌, ◌++◌, take, drop, length, subst, ap, ◌∙◌, rules}
 use Rattle.std.proofs.lemmas.List.{length-take}
 use Rattle.ark_cli.proofs.Kept.{kept_written}
 use Rattle.ark_cli.proofs.line.LineBuffer.extend.Goals as goal
