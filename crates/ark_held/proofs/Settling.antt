@@ -1,6 +1,6 @@
 -- An application's machine after a sync that succeeded: of each block of its areas a stop leaves what stands there.
-use Rattle.std.proofs.Common.{◌≡◌, ℕ, ◌<◌, Bool, true, false, ◌||◌, List, [], ◌∷◌, length, map, get_or, refl, sym, ◌∙◌, ap, subst, arith, Contains}
-use Rattle.std.specs.Prelude.{Some, slice_index_or}
+use Rattle.std.proofs.Common.{◌≡◌, ℕ, ◌<◌, Bool, true, false, ◌||◌, List, [], ◌∷◌, length, map, get_or, refl, sym, ◌∙◌, subst, arith, Contains}
+use Rattle.std.specs.Prelude.{Some}
 use Rattle.std.proofs.lemmas.Bool.{false≢true}
 use Rattle.std.proofs.lemmas.List.{length-map, get_or-map}
 use Rattle.ark_media.specs.Journal.{Event, Read, Write, Sync, Out, block, current, onto}
@@ -13,7 +13,7 @@ use Rattle.ark_machine.specs.Objects.{Object, Raw}
 use Rattle.ark_machine.specs.Machine.{Held, holding, each_object}
 use Rattle.ark_machine.specs.Row.{settled}
 use Rattle.ark_machine.specs.Control.{is_open_on, is_socket_on}
-use Rattle.ark_held.specs.Totals.{bit, total, uses, cover_count, object_covers}
+use Rattle.ark_held.specs.Totals.{bit, total, uses, object_covers}
 use Rattle.ark_held.specs.Around.{Around, slot_at}
 use Rattle.ark_held.specs.Areas.{MayStand, IsRaw}
 use Rattle.ark_held.specs.Beside.{AreBeside}

@@ -1,6 +1,6 @@
 -- An area that is granted, or whose granting failed: what the host stands for after the device calls.
 use Rattle.std.proofs.Common.{◌≡◌, inl, inr, ⊎_elim, ℕ, ◌+◌, ◌-◌, ◌^◌, ◌<◌, ◌≤◌, Bool, true, false, not, cond, ◌&&◌, ◌||◌, List, [], ◌∷◌, ◌++◌, length, map, take, drop, replicate, get_or, set, nat_eq, nat_le, nat_lt, refl, sym, ◌∙◌, ap, subst, arith, bytes_eq, append-nil, Contains, get_or-set_same}
-use Rattle.std.specs.Prelude.{Option, Some, None, Ok, slice_get, find, unwrap_or, is_some, count_by, position}
+use Rattle.std.specs.Prelude.{Option, Some, None, Ok, slice_get, find, is_some, count_by}
 use Rattle.std.specs.Option.{option_or}
 use Rattle.std.specs.Map.{lookup}
 use Rattle.std.proofs.lemmas.Bool.{false≢true}
@@ -16,15 +16,15 @@ use Rattle.ark_media.specs.Journal.{Event, History, block, current, zero_block}
 use Rattle.ark_media.specs.Calls.{Makes as Made}
 use Rattle.ark_media.specs.Stops.{Whole}
 use Rattle.ark_media.proofs.Stopping.{now_may}
-use Rattle.ark_extents.specs.Blocks.{blocks_of, runs_of}
+use Rattle.ark_extents.specs.Blocks.{runs_of}
 use Rattle.ark_extents.proofs.RunLemmas.{blocks_of-runs_of}
 use Rattle.ark_caps.specs.Labels.{value_at}
 use Rattle.ark_caps.specs.declared.capability.Capability.{Capability}
 use Rattle.ark_table.specs.Area.{Area, is_free}
-use Rattle.ark_table.specs.Slots.{Slot, area_of, slot_bytes, IsRight}
+use Rattle.ark_table.specs.Slots.{Slot, area_of, IsRight}
 use Rattle.ark_table.specs.Table.{Together, area_at, is_of, Says}
 use Rattle.ark_table.specs.Plans.{grant_calls}
-use Rattle.ark_table.specs.Standing.{Table, with_slot, slot_in, IsTableOf, IsUnderWay, GoesThrough, CanCreate, creates}
+use Rattle.ark_table.specs.Standing.{Table, with_slot, IsTableOf, IsUnderWay, GoesThrough, CanCreate, creates}
 use Rattle.ark_table.proofs.Spelling.{keeps_rules, is_not_free}
 use Rattle.ark_table.proofs.Moments.{created}
 use Rattle.ark_script.specs.Line as w
@@ -32,10 +32,10 @@ use Rattle.ark_script.specs.Line.{Line}
 use Rattle.ark_script.specs.declared.said.Said.TheVariants as said
 use Rattle.ark_machine.specs.Objects
 use Rattle.ark_machine.specs.Objects.{Raw}
-use Rattle.ark_machine.specs.Machine.{Machine, Held, at, with_new, each_object, holding}
+use Rattle.ark_machine.specs.Machine.{Machine, at, with_new, each_object, holding}
 use Rattle.ark_machine.specs.Areas as areas
 use Rattle.ark_machine.specs.Row.{settled, synced, synced_by}
-use Rattle.ark_machine.specs.Plane.{Plane, Change, makes, is_slot_of, slot_of, free_blocks, free_slot, is_granted, lowest, max_slots, max_runs}
+use Rattle.ark_machine.specs.Plane.{Plane, Change, makes, is_slot_of, slot_of, free_slot, is_granted, max_slots, max_runs}
 use Rattle.ark_machine.specs.Granting.{new_slot}
 use Rattle.ark_machine.specs.Grants.{SlotFits, SlotsFit, SlotsAgree}
 use Rattle.ark_machine.specs.System.{System, machine_of}
@@ -49,7 +49,7 @@ use Rattle.ark_held.specs.Beside.{AreBeside}
 use Rattle.ark_held.specs.Held.{Holds, is_area_cap}
 use Rattle.ark_held.specs.Totals.{bit}
 use Rattle.ark_held.specs.Keeps.{SameAt}
-use Rattle.ark_held.specs.Words.{Labels, AreaList, no_room, room_under, limit_if, new_area_cap, with_area, area_in}
+use Rattle.ark_held.specs.Words.{Labels, AreaList, room_under, limit_if, new_area_cap, with_area, area_in}
 use Rattle.ark_held.proofs.Lists.{lookup_last, number_cases, lt_true}
 use Rattle.ark_held.proofs.Besides.{same_beside}
 use Rattle.ark_held.proofs.Passing as passing
@@ -63,8 +63,8 @@ use Rattle.ark_host.specs.declared.host.Host.{Host}
 use Rattle.ark_host.specs.Tabled.{table_of, TableStands, StandsBeside, AreRaw, slot_count}
 use Rattle.ark_host.specs.Stands.{Stands, RowDone, IsHeld, IsAdmitted, AreNamed, around, app_of, area_count, vsa_row}
 use Rattle.ark_host.proofs.Machines.{bytes_eq-same, by_test}
-use Rattle.ark_held.proofs.Members.{In, contains_in, in_contains}
-use Rattle.ark_host.proofs.Lists.{any_in, first_found}
+use Rattle.ark_held.proofs.Members.{in_contains}
+use Rattle.ark_host.proofs.Lists.{first_found}
 use Rattle.ark_host.proofs.Sharing.{has}
 use Rattle.ark_host.proofs.Freeing.{free_after}
 use Rattle.ark_host.proofs.Tabling.{free_at, slot_there, table_more, table_size, owned_counted, count_more}

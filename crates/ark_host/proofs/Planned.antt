@@ -1,14 +1,13 @@
 -- What came of the calls that grant an area: how they ended, which blocks they wrote, and that they are those of the line.
-use Rattle.std.proofs.Common.{◌≡◌, inl, inr, ℕ, zero, suc, ◌+◌, Bool, true, false, not, ◌&&◌, ◌||◌, List, [], ◌∷◌, ◌++◌, length, map, refl, sym, ◌∙◌, ap, subst, arith, Contains}
-use Rattle.std.specs.Prelude.{Option, Some, None, slice_get}
+use Rattle.std.proofs.Common.{◌≡◌, inl, inr, ℕ, suc, ◌+◌, Bool, true, false, not, ◌&&◌, ◌||◌, List, [], ◌∷◌, ◌++◌, length, map, refl, sym, ◌∙◌, ap, subst, arith, Contains}
+use Rattle.std.specs.Prelude.{Option, Some, slice_get}
 use Rattle.std.specs.List.{list_any, range_with_len}
 use Rattle.std.proofs.lemmas.Bool.{false≢true}
-use Rattle.std.proofs.Math.Bool.{or-true}
-use Rattle.ark_media.specs.Journal.{Event, Read, Write, Sync, Out, zero_block, has_succeeded}
+use Rattle.ark_media.specs.Journal.{Event, zero_block, has_succeeded}
 use Rattle.ark_media.specs.Calls as calls
 use Rattle.ark_media.specs.Calls.{Comes, Makes as Made}
 use Rattle.ark_table.specs.Area.{Area, area_bytes}
-use Rattle.ark_table.specs.Plans.{spelled, zero_calls, slot_calls, grant_calls}
+use Rattle.ark_table.specs.Plans.{slot_calls, grant_calls}
 use Rattle.ark_script.specs.Line.{Line}
 use Rattle.ark_machine.specs.Row.{Call, Ended, zeroes_new, writes_slot, syncs, has_fault, is_sync}
 use Rattle.ark_machine.specs.Plane.{asked_blocks}

@@ -1,6 +1,6 @@
 -- What a stop leaves at each front of a line's events recovers, by what the host stands for before the line.
-use Rattle.std.proofs.Common.{◌≡◌, ◌⊎◌, inl, inr, ⊎_elim, ℕ, ◌<◌, ◌≤◌, Bool, true, false, cond, ◌||◌, ◌==◌, List, [], ◌∷◌, ◌++◌, length, get_or, refl, sym, ◌∙◌, ap, subst, arith, Contains}
-use Rattle.std.specs.Prelude.{Option, Some, None, Ok, slice_get, unwrap_or, Any}
+use Rattle.std.proofs.Common.{◌≡◌, ◌⊎◌, inl, inr, ⊎_elim, ℕ, ◌<◌, Bool, true, false, cond, ◌||◌, List, [], ◌∷◌, ◌++◌, length, get_or, refl, sym, ◌∙◌, ap, subst, arith, Contains}
+use Rattle.std.specs.Prelude.{Option, Some, None, unwrap_or, Any}
 use Rattle.std.proofs.lemmas.Bool.{false≢true}
 use Rattle.std.proofs.lemmas.List.Elements.{Contains-append_left, Contains-append_right, Contains-get_or}
 use Rattle.ark_base.specs.declared.kind.Kind.{Kind}
@@ -19,7 +19,7 @@ use Rattle.ark_machine.specs.Machine.{object_at}
 use Rattle.ark_machine.specs.Plane.{Change, makes, grows, drops, is_granted}
 use Rattle.ark_machine.specs.Grants.{has_block, SlotsAgree}
 use Rattle.ark_machine.specs.System.{System, machine_of}
-use Rattle.ark_machine.specs.Recovers.{Recovers, begun, IsFound, IsMade, IsKnown, is_new_block, object_of, object_maybe, dropped_object, written_to, block_choices, BlocksStand, ContentStands}
+use Rattle.ark_machine.specs.Recovers.{Recovers, begun, IsFound, IsMade, IsKnown, is_new_block, object_of, object_maybe, dropped_object, written_to, BlocksStand, ContentStands}
 use Rattle.ark_machine.specs.Stopped.{begun_in}
 use Rattle.ark_machine.specs.Fronts.{AtFront, AtEachFront}
 use Rattle.ark_machine.proofs.Fronts.{front_adds, written_devices}

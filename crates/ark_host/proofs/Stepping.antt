@@ -1,5 +1,5 @@
 -- The word `vsa` over a host: its refusals, an area that is granted, and one whose granting failed.
-use Rattle.std.proofs.Common.{◌≡◌, ℕ, ◌+◌, ◌^◌, ◌<◌, ◌≤◌, Bool, true, false, ◌||◌, List, [], ◌∷◌, ◌++◌, length, take, drop, set, get_or, nat_le, refl, sym, ◌∙◌, ap, subst, arith, bytes_eq}
+use Rattle.std.proofs.Common.{◌≡◌, ℕ, ◌+◌, ◌^◌, ◌<◌, ◌≤◌, Bool, true, false, ◌||◌, List, [], ◌∷◌, ◌++◌, length, take, drop, set, get_or, nat_le, refl, sym, ap, subst, bytes_eq}
 use Rattle.std.specs.Prelude.{Option, Some, None, Ok, position, is_some, unwrap_or}
 use Rattle.std.proofs.lemmas.Bool.{false≢true}
 use Rattle.ark_base.specs.Name.{is_name}
@@ -28,7 +28,7 @@ use Rattle.ark_held.specs.After.{after}
 use Rattle.ark_held.specs.Words.{Labels, AreaList, no_room, room_under, limit_if, new_area_cap, with_area}
 use Rattle.ark_held.specs.declared.app.App.{App}
 use Rattle.ark_host.specs.declared.host.Host.{Host}
-use Rattle.ark_host.specs.Stands.{Stands, Stood, Steps, RowDone, LineDone, IsRefused, IsEarly, IsAdmitted}
+use Rattle.ark_host.specs.Stands.{Stood, Steps, IsRefused, IsEarly, IsAdmitted}
 use Rattle.ark_host.proofs.Standing.{refused, same_apps}
 use Rattle.ark_host.proofs.Apps.{not_made}
 use Rattle.ark_host.proofs.Lifting.{quiet_steps}

@@ -1,5 +1,4 @@
-use Rattle.std.proofs.Common.{rules, refl, sym, ◌∙◌, Some, None}
-use Rattle.ark_host.proofs.Placing.{same_place}
+use Rattle.std.proofs.Common.{rules, sym}
 use Rattle.ark_host.proofs.Stepping.{early_room, refused_unmade, refused_app, refused_full, refused_failed, refused_space}
 use Rattle.ark_host.proofs.host.Host.admit.Goals as goal
 
