@@ -1,6 +1,6 @@
 -- The places of a descriptor's blocks: the closed form goes from one to the next as it should.
 use Rattle.std.proofs.Common.{◌≡◌, ◌⊎◌, inl, inr, ⊎_elim, ℕ, zero, suc, ◌+◌, ◌-◌, ◌%◌, ◌<◌, ◌≤◌, ◌==◌, ◌&&◌, not, refl, sym, ap, ◌∙◌, arith}
-use Rattle.std.proofs.Math.Nat.{suc-mod, mod-lt, mod-zero, zero-mod, mod_self, mod-eq_of_lt}
+use Rattle.std.proofs.Math.Nat.{add-mod_left, suc-mod, mod-lt, mod-zero, zero-mod, mod_self, mod-eq_of_lt}
 use Rattle.std.proofs.lemmas.Bool.{cond-true, cond-false}
 use Rattle.std.proofs.lemmas.Bool.Decides.{nat_tests}
 use Rattle.ark_region.proofs.Putting.{at_or_below}
@@ -99,3 +99,18 @@ module _ (n wrap : ℕ) where
 pub stepwise : (n wrap first k : ℕ) → place_of n wrap first k ≡ place_after n wrap first k
 stepwise n wrap first zero = starts n wrap first
 stepwise n wrap first (suc k) = sym (next_is n wrap first k) ∙ ap (next_place n wrap) (stepwise n wrap first k)
+
+-- from `wrap` on the area is a ring, and the places go round in it
+pub in_ring : (n wrap first k : ℕ) → 0 < wrap → wrap ≤ first → first < n → place_of n wrap first k ≡ wrap + (first - wrap + k) % (n - wrap)
+in_ring n wrap first k some from lt =
+    ⊎_elim
+    (λ past.
+    let j = first + k - n in
+    let e : first + k ≡ n + j = omega (arith, past) in
+    let turned : first - wrap + k ≡ (n - wrap) + j = omega (arith, e, from, lt) in
+    round n wrap first k j lt e some ∙ sym (ap (λ x. wrap + x) (ap (λ x. x % (n - wrap)) turned ∙ add-mod_left (n - wrap) j)))
+    (λ below.
+    let small : first - wrap + k < n - wrap = omega (arith, below, from, lt) in
+    let sum : first + k ≡ wrap + (first - wrap + k) = omega (arith, from) in
+    straight n wrap first k (inr (inl below)) ∙ sum ∙ sym (ap (λ x. wrap + x) (mod-eq_of_lt small)))
+    (at_or_below n (first + k))

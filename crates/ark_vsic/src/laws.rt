@@ -1,5 +1,5 @@
 // Laws of the definitions, each the contract of a function that does nothing.
-ghost use Rattle.std.specs.Prelude.{◌≡◌, ◌<◌, ◌+◌, ◌++◌, ◌∷◌, [], ℕ, suc, List, Some, length, slice_get};
+ghost use Rattle.std.specs.Prelude.{◌≡◌, ◌≤◌, ◌<◌, ◌+◌, ◌-◌, ◌%◌, ◌++◌, ◌∷◌, [], ℕ, suc, List, Some, length, slice_get};
 ghost use Rattle.ark_vic.specs.Pace.{Keeps, Pace, Pass, StandsFor, filled};
 ghost use Rattle.ark_vsic.specs.Card.{Areas, Card};
 ghost use Rattle.ark_vsic.specs.Moves.{due_of};
@@ -11,10 +11,13 @@ ghost use Rattle.ark_vsic.specs.Places.{place_after, place_of};
 ghost use Rattle.ark_vsic.specs.Runs.{CanTransfer, after_moves, with_moved};
 ghost use Rattle.ark_vsic.specs.declared.due.Due.TheVariants as due;
 
-/// The place of a descriptor's block in closed form is what its blocks come to from one to the next, also where they wrap.
+/// The place of a descriptor's block in closed form is what its blocks come to from one to the next, also where they wrap. A
+/// descriptor that begins at `wrap` or behind it goes round in the ring of the blocks from there on.
 pub fn place_laws()
     ensures stepwise { (n wrap first k : ℕ)
         → place_of n wrap first k ≡ place_after n wrap first k }
+    ensures in_ring { (n wrap first k : ℕ) → 0 < wrap → wrap ≤ first → first < n
+        → place_of n wrap first k ≡ wrap + (first - wrap + k) % (n - wrap) }
 {}
 
 /// A block that is due is one of an area that is bound and held, at the oldest descriptor's place, and its 512 bytes keep the

@@ -1,5 +1,5 @@
-use Rattle.ark_vsic.proofs.Stepping.{stepwise}
+use Rattle.ark_vsic.proofs.Stepping.{stepwise, in_ring}
 use Rattle.ark_vsic.proofs.laws.place_laws.Goals as goal
 
 pub returns : goal.returns
-returns c = record { stepwise = stepwise }
+returns c = record { stepwise = stepwise; in_ring = in_ring }
