@@ -1,5 +1,4 @@
-//! Runs of the whole control plane over a world in memory, and lines and replies one by one: what no clause says, against values from
-//! outside.
+//! Runs of the whole control plane over a world in memory: what no clause says, against values from outside.
 #![tactic(auto)]
 
 #[cfg(test)]
@@ -16,10 +15,6 @@ mod failures;
 mod lines;
 #[cfg(test)]
 mod once;
-#[cfg(test)]
-mod printed;
-#[cfg(test)]
-mod reading;
 #[cfg(test)]
 mod runs;
 #[cfg(test)]
