@@ -14,3 +14,4 @@ pub mod Beside
 pub mod Zeroing
 pub mod Places
 pub mod Growing
+pub mod Front

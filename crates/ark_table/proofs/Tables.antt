@@ -36,7 +36,7 @@ module _ (image : List (List ℕ)) (device : is_device image ≡ true) where
   pub big : 130 ≤ length image
   big = leb-true 130 (length image) (and_parts (nat_le 130 (length image)) _ device).0
 
-  few : length image < 2 ^ 32
+  pub few : length image < 2 ^ 32
   few =
       let small : length image ≤ 1048576 = leb-true (length image) 1048576 (and_parts (nat_le (length image) 1048576) _ (and_parts (nat_le 130 (length image)) _ device).1).0 in
       omega (arith, small)
@@ -79,6 +79,20 @@ table_is_read table image has =
       few = λ app. omega (arith, has.few app);
     })
 
+-- a table that an image's blocks say, and of which each area goes with those before it
+pub table_from : (image : List (List ℕ)) (table : List (Option Area)) → is_device image ≡ true → EachSays (length image) (take 128 (drop 1 image)) table → GoIn [] 1 table → HasTable table image
+table_from image table device each go =
+    let all = each_to (length image) (take 128 (drop 1 image)) table each in
+    record {
+      device = device;
+      size = all.0 ∙ slot_blocks image device;
+      says = λ i lt. subst (λ (b : List ℕ). Says (length image) b (get_or table i None)) (slot_block image device i lt) (all.1 i (omega (arith, lt, slot_blocks image device)));
+      together = λ i k a b ne is_a is_b. ⊎_elim (λ same. absurd (ne same)) (λ apart. ⊎_elim
+          (λ lt. turned b a (go_pairs table [] 1 go i k a b lt is_a is_b))
+          (λ lt. go_pairs table [] 1 go k i b a lt is_b is_a) apart) (cases_order i k);
+      few = λ app. let most : 0 + count_by (is_of app) table ≤ 8 = go_few app table [] 1 go (omega arith) in omega (arith, most);
+    }
+
 abbrev slots_or : Result (List Slot) ℕ → List Slot → List Slot
 slots_or (Ok slots) other = slots
 slots_or (Err bad) other = other
@@ -89,18 +103,9 @@ read_has_table image slots e = by_device (is_device image) refl e
     by_held : is_device image ≡ true → (r : Result (List Held) ℕ) → held_after (length image) (Ok []) 1 (take 128 (drop 1 image)) ≡ r → as_slots r ≡ Ok slots → HasSlots image slots
     by_held device (Err bad) is e = absurd (false≢true (ap is_ok e))
     by_held device (Ok held) is e =
-        let read = walk_read (length image) (take 128 (drop 1 image)) [] 1 held is in
-        let each = each_to (length image) (take 128 (drop 1 image)) read.0 read.1 in (
+        let read = walk_read (length image) (take 128 (drop 1 image)) [] 1 held is in (
           read.0,
-          record {
-            device = device;
-            size = each.0 ∙ slot_blocks image device;
-            says = λ i lt. subst (λ (b : List ℕ). Says (length image) b (get_or read.0 i None)) (slot_block image device i lt) (each.1 i (omega (arith, lt, slot_blocks image device)));
-            together = λ i k a b ne is_a is_b. ⊎_elim (λ same. absurd (ne same)) (λ apart. ⊎_elim
-                (λ lt. turned b a (go_pairs read.0 [] 1 read.2 i k a b lt is_a is_b))
-                (λ lt. go_pairs read.0 [] 1 read.2 k i b a lt is_b is_a) apart) (cases_order i k);
-            few = λ app. let most : 0 + count_by (is_of app) read.0 ≤ 8 = go_few app read.0 [] 1 read.2 (omega arith) in omega (arith, most);
-          },
+          table_from image read.0 device read.1 read.2,
           sym (ap (λ (x : Result (List Slot) ℕ). slots_or x slots) e) ∙ ap (λ (l : List Held). map (λ h. slot_at h.index h.area) l) read.3 ∙ slots_of_held 1 read.0,
         )
 

@@ -24,7 +24,7 @@ GoIn before i [] = Unit {0}
 GoIn before i (None ∷ t) = GoIn before (i + 1) t
 GoIn before i (Some a ∷ t) = (goes_with before a ≡ true) × GoIn (before ++ record { index = i; area = a } ∷ []) (i + 1) t
 
-stays_bad : (size bad i : ℕ) (blocks : List (List ℕ)) → held_after size (Err bad) i blocks ≡ Err bad
+pub stays_bad : (size bad i : ℕ) (blocks : List (List ℕ)) → held_after size (Err bad) i blocks ≡ Err bad
 stays_bad size bad i [] = refl
 stays_bad size bad i (b ∷ bs) = stays_bad size bad (i + 1) bs
 

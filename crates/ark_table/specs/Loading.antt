@@ -37,8 +37,17 @@ abbrev pub goes_beside : Area → Option Area → Bool
 goes_beside a None = true
 goes_beside a (Some b) = share_no_block a.runs b.runs && not (is_same a b)
 
--- a block was read as that of the slot behind these, on a device of so many blocks
+-- a block says this of the slot behind these, on a device of so many blocks
+abbrev pub Follows : ℕ → List (Option Area) → List ℕ → Option Area → Type 0
+Follows size before block None = is_free block ≡ true
+Follows size before block (Some a) = Says size block (Some a) × (goes_with (held_in 1 before) a ≡ true)
+
+-- a block breaks a rule by itself, or against these
+abbrev pub IsBad : ℕ → List (Option Area) → List ℕ → Type 0
+IsBad size before block = (is_free block ≡ false) × (is_used size block ≡ true → goes_with (held_in 1 before) (area_in block) ≡ false)
+
+-- a block was read as that of the slot behind these
 abbrev pub IsNext : ℕ → List (Option Area) → List ℕ → Content → Type 0
-IsNext size before block Free = is_free block ≡ true
-IsNext size before block (Used slot) = Says size block (Some (stated slot)) × (goes_with (held_in 1 before) (stated slot) ≡ true)
-IsNext size before block Broken = (is_free block ≡ false) × (is_used size block ≡ true → goes_with (held_in 1 before) (area_in block) ≡ false)
+IsNext size before block Free = Follows size before block None
+IsNext size before block (Used slot) = Follows size before block (Some (stated slot))
+IsNext size before block Broken = IsBad size before block

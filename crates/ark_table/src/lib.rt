@@ -6,6 +6,7 @@ mod fault;
 mod going;
 mod granting;
 mod laws;
+mod loading;
 mod reading;
 mod slot;
 mod superblock;

@@ -1,14 +1,20 @@
-ghost use Rattle.std.specs.Prelude.{◌≡◌, ◌≤◌, ◌<◌, ◌≢◌, ◌⊎◌, ◌↔◌, ℕ, Some, None, length, replicate, is_ok, IfOk, IfSome, OnOk, OnErr, MatchOption, not, is_some, count_by, All};
+ghost use Rattle.std.specs.Prelude.{◌≡◌, ◌≤◌, ◌<◌, Err, All, ◌⊎◌, ◌↔◌, ℕ, Some, None, length, replicate, is_ok, IfOk, IfSome, OnOk, OnErr, MatchOption, not, is_some, count_by};
 ghost use Rattle.std.specs.List.{position};
+ghost use Rattle.ark_media.specs.Journal.{History, current};
 ghost use Rattle.ark_media.specs.Calls.{Went};
 ghost use Rattle.ark_table.specs.Area.{Area};
-ghost use Rattle.ark_table.specs.Table.{slots_in};
+ghost use Rattle.ark_table.specs.Table.{HasTable, slots_in};
+ghost use Rattle.ark_table.specs.Slots.{slots_of};
+ghost use Rattle.ark_table.specs.Loading.{HasRead};
+ghost use Rattle.ark_table.specs.declared.fault.LoadFault.TheVariants as fault;
 ghost use Rattle.ark_table.specs.Plans.{create_calls, grant_calls, remove_calls};
 ghost use Rattle.ark_table.specs.Standing.{slot_in, with_slot, grown_area, CanGrow};
 ghost use Rattle.ark_table.specs.Stated.{stated};
 ghost use Rattle.ark_table.specs.Using.{IsLeastFree, IsFull};
 
+use crate::fault::LoadFault;
 use crate::granting::grant;
+use crate::loading::load_slots;
 use crate::slot::Slot;
 use ark_base::Memory;
 use ark_extents::Spans;
@@ -59,6 +65,19 @@ impl GrantTable {
         match Vec::from_array(alloc, [None; SLOTS]) {
             Ok(slots) => Ok(GrantTable { slots }),
             Err(_) => Err(Memory),
+        }
+    }
+
+    /// The table of a device, by its blocks 0 to 128. `DeviceFault` comes exactly where a read failed, `Damaged` with the first block that
+    /// breaks a rule, behind which none is read, and `Memory` only for want of memory.
+    pub fn load<D: Disk>(alloc: Global, disk: &mut D) -> Result<GrantTable, LoadFault>
+        ensures went { HasRead D.goes result disk.old disk.new }
+        ensures table { IfOk result (λ t. (h : History) → (D.told disk.new).history ≡ Some h → HasTable t (current h.base h.journal)) }
+        ensures damaged { (bad : ℕ) → result ≡ Err (fault.Damaged bad) → (h : History) → (D.told disk.new).history ≡ Some h → slots_of (current h.base h.journal) ≡ Err bad }
+    {
+        match load_slots(alloc, disk) {
+            Ok(slots) => Ok(GrantTable { slots }),
+            Err(fault) => Err(fault),
         }
     }
 
