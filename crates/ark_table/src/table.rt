@@ -1,4 +1,4 @@
-ghost use Rattle.std.specs.Prelude.{◌≡◌, ◌≤◌, ◌<◌, ◌≢◌, Err, ◌⊎◌, ◌↔◌, ℕ, Some, None, length, replicate, is_ok, IfOk, IfSome, OnOk, OnErr, MatchOption, not, is_some, count_by, All};
+ghost use Rattle.std.specs.Prelude.{◌≡◌, ◌≤◌, ◌<◌, Err, All, ◌⊎◌, ◌↔◌, ℕ, Some, None, length, replicate, is_ok, IfOk, IfSome, OnOk, OnErr, MatchOption, not, is_some, count_by};
 ghost use Rattle.std.specs.List.{position};
 ghost use Rattle.ark_media.specs.Journal.{History, current};
 ghost use Rattle.ark_media.specs.Calls.{Went};
