@@ -1,17 +1,13 @@
 -- Free blocks, and a slot that takes the lowest of them.
-use Rattle.std.proofs.Common.{◌≡◌, ℕ, zero, suc, ◌+◌, ◌-◌, ◌<◌, ◌≤◌, Bool, true, false, cond, not, ◌||◌, ◌==◌, List, [], ◌∷◌, ◌++◌, take, drop, refl, sym, ◌∙◌, ap, subst, arith, Contains}
+use Rattle.std.proofs.Common.{◌≡◌, ℕ, zero, suc, ◌+◌, ◌-◌, ◌<◌, ◌≤◌, Bool, true, false, cond, not, ◌||◌, ◌==◌, List, [], ◌∷◌, ◌++◌, take, drop, refl, ◌∙◌, ap, subst, arith}
 use Rattle.std.specs.Prelude.{filter as select}
 use Rattle.std.specs.List.{list_any, range_with_len}
-use Rattle.std.proofs.lemmas.Bool.{false≢true}
 use Rattle.std.proofs.lemmas.Bool.Decides.{nat_tests}
 use Rattle.std.proofs.lemmas.List.Folds.{list_any-append}
 use Rattle.std.proofs.Math.Bool.{or-false}
-use Rattle.ark_extents.proofs.Holding.{contains_range}
 use Rattle.ark_table.specs.Slots.{Slot}
 use Rattle.ark_machine.specs.Plane.{Plane, is_granted, free_blocks}
 use Rattle.ark_host.proofs.Machines.{by_test}
-use Rattle.ark_held.proofs.Members.{contains_in, in_contains}
-use Rattle.ark_host.proofs.Lists.{any_in, in_select}
 
 -- in rising order, from a number on
 abbrev Rises : ℕ → List ℕ → Type 0
@@ -73,17 +69,3 @@ free_after p t n is =
 
 pub eq_same : (n : ℕ) → (n == n) ≡ true
 eq_same n = grind (arith, nat_tests)
-
--- a block of a slot is not free
-pub granted_not_free : (p : Plane) (t : Slot) (n : ℕ) → Contains p.slots t → Contains t.blocks n → Contains (free_blocks p) n → ⊥
-granted_not_free p t n slot block free =
-    let held : is_granted p.slots n ≡ true = any_in (λ (u : Slot). list_any (λ b. b == n) u.blocks) p.slots t (contains_in p.slots t slot) (any_in (λ b. b == n) t.blocks n (contains_in t.blocks n block) (eq_same n)) in
-    let open_one = (in_select (λ k. not (is_granted p.slots k)) (range_with_len 129 (p.size - 129)) n (contains_in (free_blocks p) n free)).1 in
-    false≢true (ap not (sym held) ∙ open_one)
-
--- the device has each free block
-pub free_inside : (p : Plane) (n : ℕ) → Contains (free_blocks p) n → n < p.size
-free_inside p n free =
-    let among = in_contains _ n (in_select (λ k. not (is_granted p.slots k)) (range_with_len 129 (p.size - 129)) n (contains_in (free_blocks p) n free)).0 in
-    let bounds = contains_range 129 (p.size - 129) n among in
-    omega (arith, bounds.0, bounds.1)
