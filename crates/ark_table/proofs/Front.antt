@@ -1,7 +1,7 @@
 -- A front of a table, as it is read block by block.
-use Rattle.std.proofs.Common.{◌≡◌, inl, inr, ℕ, zero, suc, ◌+◌, ◌^◌, ◌<◌, ◌≤◌, List, [], ◌∷◌, ◌++◌, Bool, true, false, ◌&&◌, length, get_or, take, drop, Option, Some, None, Ok, Err, refl, sym, ◌∙◌, ap, subst, arith, append_assoc, append-nil, length-drop, length-append, drop-cons}
+use Rattle.std.proofs.Common.{◌≡◌, inl, inr, ℕ, zero, suc, ◌+◌, ◌<◌, ◌≤◌, List, [], ◌∷◌, ◌++◌, Bool, true, false, ◌&&◌, length, get_or, take, drop, Option, Some, None, Ok, Err, refl, sym, ◌∙◌, ap, subst, arith, append_assoc, append-nil, length-drop, length-append, drop-cons}
 use Rattle.std.specs.Prelude.{bytes_eq, nat_le, Result}
-use Rattle.std.proofs.lemmas.Bool.{and_parts, leb-true, le-leb, false≢true}
+use Rattle.std.proofs.lemmas.Bool.{and_parts, leb-true, le-leb}
 use Rattle.std.proofs.lemmas.List.{take_more, get_or-drop, get_or-take, length-take-le, take-append-drop, length-map, map-append}
 use Rattle.std.proofs.lemmas.Slice.Eq.{bytes_eq-Decides}
 use Rattle.ark_media.specs.Journal.{Event, Read, History, block, current, onto}
@@ -12,7 +12,7 @@ use Rattle.ark_table.specs.declared.fault.LoadFault.TheVariants.{DeviceFault, Da
 use Rattle.ark_table.specs.declared.slot.Slot.{Slot}
 use Rattle.ark_table.specs.Stated.{stated_if, areas}
 use Rattle.ark_table.specs.Superblock.{superblock}
-use Rattle.ark_table.specs.Area.{Area, area_in, area_bytes, is_area, is_free, is_used}
+use Rattle.ark_table.specs.Area.{Area, area_in, area_bytes, is_area, is_used}
 use Rattle.ark_table.specs.Slots.{Held, goes_with, with_area, with_used, with_block, and_then, held_after, held_if, as_slots, slots_of, is_device}
 use Rattle.ark_table.specs.Table.{Says, HasTable, held_in}
 use Rattle.ark_table.specs.Loading.{Follows, IsBad}

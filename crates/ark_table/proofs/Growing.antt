@@ -1,12 +1,11 @@
 -- An area that is granted or grown lies on its device.
-use Rattle.std.proofs.Common.{◌≡◌, ◌<◌, ◌≤◌, ◌+◌, ◌-◌, ℕ, zero, suc, List, [], ◌∷◌, ◌++◌, Bool, true, ◌&&◌, length, get_or, Option, Some, None, refl, sym, ◌∙◌, ap, subst, arith, All, Contains, length-append}
+use Rattle.std.proofs.Common.{◌≡◌, ◌<◌, ◌≤◌, ◌+◌, ◌-◌, ℕ, zero, suc, List, [], ◌∷◌, ◌++◌, true, length, get_or, Option, Some, None, refl, sym, ◌∙◌, ap, subst, arith, All, Contains, length-append}
 use Rattle.std.specs.Prelude.{nat_le, unwrap_or}
 use Rattle.std.specs.List.{list_all}
 use Rattle.std.proofs.lemmas.Bool.{and_parts, leb-true}
 use Rattle.std.proofs.Math.ListN.{get_or-append}
 use Rattle.std.proofs.Math.Seq.{get_or-append_right}
 use Rattle.std.proofs.lemmas.List.Elements.{Contains-get_or, Contains-append_right}
-use Rattle.ark_base.specs.declared.block.Span.{Span}
 use Rattle.ark_base.specs.declared.kind.Kind.{Kind}
 use Rattle.ark_base.specs.declared.kind.Kind.TheVariants.{Raw, Log, Queue}
 use Rattle.ark_base.specs.Name.{is_name}

@@ -1,16 +1,15 @@
 -- The areas of slots, place by place.
-use Rattle.std.proofs.Common.{◌≡◌, ◌⊎◌, inl, inr, ℕ, zero, suc, ◌+◌, ◌-◌, ◌<◌, ◌≤◌, List, [], ◌∷◌, Bool, true, false, not, cond, length, get_or, set, map, Option, Some, None, refl, sym, ◌∙◌, ap, subst, arith}
+use Rattle.std.proofs.Common.{◌≡◌, inl, inr, ℕ, ◌+◌, ◌-◌, ◌<◌, List, [], ◌∷◌, Bool, true, false, not, cond, length, get_or, set, Option, Some, None, refl, sym, ◌∙◌, ap, subst, arith}
 use Rattle.std.specs.Prelude.{count_by, is_some}
 use Rattle.std.specs.List.{position, position_or_len}
 use Rattle.std.proofs.Math.ListN as listn
 use Rattle.std.proofs.lemmas.Bool.{false≢true, cases_lt, lt-ltb}
-use Rattle.std.proofs.lemmas.List.{map-set, length-map}
+use Rattle.std.proofs.lemmas.List.{map-set}
 use Rattle.std.proofs.lemmas.List.Quantifiers.{position-Some}
 use Rattle.std.proofs.lemmas.List.Sums.{sum_by-cons, fails_before_first}
 use Rattle.ark_table.specs.declared.slot.Slot.{Slot}
-use Rattle.ark_table.specs.Area.{Area}
 use Rattle.ark_table.specs.Table.{area_at, slots_in}
-use Rattle.ark_table.specs.Stated.{stated, stated_if, areas}
+use Rattle.ark_table.specs.Stated.{stated_if, areas}
 use Rattle.ark_table.specs.Standing.{Table, slot_in}
 use Rattle.ark_table.specs.Using.{IsLeastFree, IsFull}
 

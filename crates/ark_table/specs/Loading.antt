@@ -1,15 +1,24 @@
 -- How a table is read from its device. Ours: no standard fixes it.
 use Rattle.std.specs.Prelude.{◌≡◌, ◌≤◌, ℕ, zero, suc, ◌+◌, List, [], ◌∷◌, ◌++◌, Bool, true, false, not, ◌&&◌, Result, Ok, Err, Option, Some, None, OnOk}
-use Rattle.ark_media.specs.Journal.{Event}
-use Rattle.ark_media.specs.Calls.{Call, Reads, Went}
+use Rattle.ark_media.specs.Journal.{Event, History, block, current}
+use Rattle.ark_media.specs.Calls.{Call, Reads, Told, Went}
 use Rattle.ark_table.specs.declared.fault.LoadFault.{LoadFault}
 use Rattle.ark_table.specs.declared.fault.LoadFault.TheVariants.{DeviceFault, Damaged, Memory}
+use Rattle.ark_table.specs.declared.slot.Slot.{Slot}
 use Rattle.ark_table.specs.declared.reading.Content.{Content}
 use Rattle.ark_table.specs.declared.reading.Content.TheVariants.{Free, Used, Broken}
 use Rattle.ark_table.specs.Area.{Area, area_in, is_free, is_used}
-use Rattle.ark_table.specs.Slots.{goes_with, share_no_block, is_same}
+use Rattle.ark_table.specs.Slots.{goes_with, share_no_block, is_same, slots_of}
 use Rattle.ark_table.specs.Table.{Says, held_in}
-use Rattle.ark_table.specs.Stated.{stated}
+use Rattle.ark_table.specs.Stated.{stated, stated_if, areas}
+
+-- of the current image, where it is told
+abbrev pub OnTold : Told → (List (List ℕ) → Type 0) → Type 0
+OnTold told Holds = (h : History) → told.history ≡ Some h → Holds (current h.base h.journal)
+
+-- where a block is told to be damaged, it is the first one of the current image
+abbrev pub IsFirstDamaged : {T : Type 0} → Told → Result T LoadFault → Type 0
+IsFirstDamaged told result = (bad : ℕ) → result ≡ Err (Damaged bad) → OnTold told (λ image. slots_of image ≡ Err bad)
 
 -- the blocks below n, in rising order
 abbrev pub read_calls : ℕ → List Call
@@ -51,3 +60,13 @@ abbrev pub IsNext : ℕ → List (Option Area) → List ℕ → Content → Type
 IsNext size before block Free = Follows size before block None
 IsNext size before block (Used slot) = Follows size before block (Some (stated slot))
 IsNext size before block Broken = IsBad size before block
+
+-- block i was read, and what it says of its slot was put behind these slots
+abbrev pub IsMore : Told → ℕ → ℕ → List (Option Slot) → List (Option Slot) → Type 0
+IsMore told size i old new =
+    (x : Option Slot) × (new ≡ old ++ x ∷ []) × OnTold told (λ image. Follows size (areas old) (block image i) (stated_if x))
+
+-- where a block is told to be damaged, it is block i, which is bad behind these slots
+abbrev pub IsDamagedAt : {T : Type 0} → Told → ℕ → ℕ → List (Option Slot) → Result T LoadFault → Type 0
+IsDamagedAt told size i slots result =
+    (bad : ℕ) → result ≡ Err (Damaged bad) → (bad ≡ i) × OnTold told (λ image. IsBad size (areas slots) (block image i))

@@ -2,11 +2,12 @@
 -- moment of its calls. Ours: no standard fixes it.
 use Rattle.std.specs.Prelude.{◌≡◌, ◌<◌, ◌≤◌, ◌⊎◌, ℕ, ◌+◌, ◌-◌, List, [], ◌∷◌, ◌++◌, length, set, Contains, count_by, Bool, true, false, Option, Some, None}
 use Rattle.ark_media.specs.Journal.{Event, Read, Write, Sync, Out, History, block, zero_block, current}
+use Rattle.ark_media.specs.Calls.{Call}
 use Rattle.ark_media.specs.Standing.{after, MayStand}
 use Rattle.ark_extents.specs.Blocks.{blocks_of, runs_of}
 use Rattle.ark_table.specs.Area.{Area, is_area}
 use Rattle.ark_table.specs.Table.{Together, area_at, is_of, HasTable}
-use Rattle.ark_table.specs.Plans.{spelled}
+use Rattle.ark_table.specs.Plans.{spelled, grant_calls}
 
 -- the areas of the slots 1 to 128
 abbrev pub Table : Type 0
@@ -23,6 +24,10 @@ with_slot table i area = set table (i - 1) area
 -- the area with more blocks behind its own
 abbrev pub grown_area : Area → List ℕ → Area
 grown_area a more = record { app = a.app; label = a.label; kind = a.kind; runs = runs_of (blocks_of a.runs ++ more) }
+
+-- slot i, of this area, gets these blocks behind its own
+abbrev pub grow_calls : ℕ → Area → List ℕ → List Call
+grow_calls i a more = grant_calls i (grown_area a more) more
 
 -- The current image has this table, and a stop leaves the superblock and each slot as they are now.
 pub record IsTableOf (h : History) (table : Table) : Type 0 where

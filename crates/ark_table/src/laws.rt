@@ -4,13 +4,12 @@ ghost use Rattle.ark_media.specs.Journal.{Event, History, block, zero_block, fre
 ghost use Rattle.ark_media.specs.Calls.{Makes};
 ghost use Rattle.ark_media.specs.Stops.{Whole, MayLeave};
 ghost use Rattle.ark_media.specs.Standing.{after};
-ghost use Rattle.ark_extents.specs.Blocks.{blocks_of};
 ghost use Rattle.ark_table.specs.Superblock.{superblock, format_calls};
 ghost use Rattle.ark_table.specs.Area.{Area, area_in, area_bytes, is_area, is_free, is_used};
 ghost use Rattle.ark_table.specs.Slots.{Slot, slot_at, slot_bytes, slots_of, IsRight};
 ghost use Rattle.ark_table.specs.Table.{Together, area_at, is_of, HasTable, HasSlots, slots_in};
-ghost use Rattle.ark_table.specs.Plans.{grant_calls, remove_calls};
-ghost use Rattle.ark_table.specs.Standing.{Table, IsTableOf, Change, IsEither, IsTried, IsUnsettled, Spare, GoesThrough, CanCreate, CanGrow, creates, grows, removes, grown_area};
+ghost use Rattle.ark_table.specs.Plans.{create_calls, remove_calls};
+ghost use Rattle.ark_table.specs.Standing.{Table, IsTableOf, Change, IsEither, IsTried, IsUnsettled, Spare, GoesThrough, CanCreate, CanGrow, creates, grows, removes, grow_calls};
 
 /// The block that is written for a slot is one block, which isn't free. It keeps the rules by itself and is read as that slot, for
 /// every slot that keeps them.
@@ -47,19 +46,29 @@ pub fn fresh_laws()
 /// What a table that stands for its disk is good for: a stop leaves an image that has it, or, after a change of one slot that failed, that
 /// has it as it was or as it was to be. Other calls leave that so. It stands over a device as it was found, and over one that was formatted.
 pub fn standing_laws()
-    ensures stands { (h : History) (table : Table) (image : List (List ℕ)) → IsTableOf h table → MayLeave Whole h.base h.journal image → HasTable table image }
-    ensures either { (h : History) (table : Table) (c : Change) (image : List (List ℕ)) → IsTried h table c → MayLeave Whole h.base h.journal image → IsEither table c image }
-    ensures stays { (h : History) (table : Table) (es : List Event) → IsTableOf h table → Spare [] es → IsTableOf (after h es) table }
-    ensures stays_unsettled { (h : History) (table : Table) (c : Change) (es : List Event) → IsUnsettled h table c → Spare c.added es → IsUnsettled (after h es) table c }
-    ensures attached { (image : List (List ℕ)) (table : Table) → HasTable table image → IsTableOf (record { base = image; journal = [] }) table }
-    ensures formatted { (n : ℕ) (es : List Event) → 130 ≤ n → n ≤ 1048576 → Makes (format_calls n) true es → IsTableOf (after (fresh n) es) (replicate 128 None) }
+    ensures stands { (h : History) (table : Table) (image : List (List ℕ)) → IsTableOf h table
+        → MayLeave Whole h.base h.journal image → HasTable table image }
+    ensures either { (h : History) (table : Table) (c : Change) (image : List (List ℕ))
+        → IsTried h table c → MayLeave Whole h.base h.journal image → IsEither table c image }
+    ensures stays { (h : History) (table : Table) (es : List Event) → IsTableOf h table
+        → Spare [] es → IsTableOf (after h es) table }
+    ensures stays_unsettled { (h : History) (table : Table) (c : Change) (es : List Event)
+        → IsUnsettled h table c → Spare c.added es → IsUnsettled (after h es) table c }
+    ensures attached { (image : List (List ℕ)) (table : Table) → HasTable table image
+        → IsTableOf (record { base = image; journal = [] }) table }
+    ensures formatted { (n : ℕ) (es : List Event) → 130 ≤ n → n ≤ 1048576
+        → Makes (format_calls n) true es → IsTableOf (after (fresh n) es) (replicate 128 None) }
 {}
 
 /// What the calls of a change make of a table that stood before: at each moment, and at their end, also where one of them failed.
 pub fn changing_laws()
-    ensures created { (h : History) (table : Table) (i : ℕ) (a : Area) (ok : Bool) (es : List Event) → IsTableOf h table → CanCreate (length h.base) table i a
-        → Makes (grant_calls i a (blocks_of a.runs)) ok es → GoesThrough h table (creates i a) ok es }
-    ensures grown { (h : History) (table : Table) (i : ℕ) (a : Area) (more : List ℕ) (ok : Bool) (es : List Event) → IsTableOf h table → CanGrow (length h.base) table i a more
-        → Makes (grant_calls i (grown_area a more) more) ok es → GoesThrough h table (grows i a more) ok es }
-    ensures removed { (h : History) (table : Table) (i : ℕ) (ok : Bool) (es : List Event) → IsTableOf h table → 1 ≤ i → i ≤ 128 → Makes (remove_calls i) ok es → GoesThrough h table (removes i) ok es }
+    ensures created { (h : History) (table : Table) (i : ℕ) (a : Area) (ok : Bool) (es : List Event)
+        → IsTableOf h table → CanCreate (length h.base) table i a
+        → Makes (create_calls i a) ok es → GoesThrough h table (creates i a) ok es }
+    ensures grown { (h : History) (table : Table) (i : ℕ) (a : Area) (more : List ℕ) (ok : Bool)
+        → (es : List Event) → IsTableOf h table → CanGrow (length h.base) table i a more
+        → Makes (grow_calls i a more) ok es → GoesThrough h table (grows i a more) ok es }
+    ensures removed { (h : History) (table : Table) (i : ℕ) (ok : Bool) (es : List Event)
+        → IsTableOf h table → 1 ≤ i → i ≤ 128 → Makes (remove_calls i) ok es
+        → GoesThrough h table (removes i) ok es }
 {}

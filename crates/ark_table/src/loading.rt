@@ -1,12 +1,10 @@
 ghost use Rattle.std.specs.Prelude.{◌≡◌, ◌≤◌, ◌<◌, ◌∷◌, [], Some, true, false, is_ok, length, Err, IfOk, OnOk, ℕ, Option, ◌++◌};
-ghost use Rattle.ark_media.specs.Journal.{History, block, current};
+ghost use Rattle.ark_media.specs.Journal.{block};
 ghost use Rattle.ark_media.specs.Calls.{Went, Reads};
-ghost use Rattle.ark_table.specs.Slots.{slots_of, is_device};
+ghost use Rattle.ark_table.specs.Slots.{is_device};
 ghost use Rattle.ark_table.specs.Table.{HasTable};
-ghost use Rattle.ark_table.specs.Stated.{areas, stated_if};
-ghost use Rattle.ark_table.specs.Loading.{HasRead, IsNext, Follows, IsBad, is_read};
-ghost use Rattle.ark_table.specs.declared.slot.Slot.{Slot};
-ghost use Rattle.ark_table.specs.declared.fault.LoadFault.TheVariants as fault;
+ghost use Rattle.ark_table.specs.Stated.{areas};
+ghost use Rattle.ark_table.specs.Loading.{HasRead, OnTold, IsFirstDamaged, IsNext, IsMore, IsDamagedAt, is_read};
 
 use crate::fault::LoadFault;
 use crate::going::goes_into;
@@ -36,8 +34,8 @@ fn next_of(slots: &[Option<Slot>], block: &[u8; 512], size: u32) -> Content
 fn read_next<D: Disk>(slots: &[Option<Slot>], disk: &mut D, i: u32) -> Result<Content, DiskFailed>
     requires inside { i < (D.told disk.old).blocks }
     ensures went { Went D.goes (Reads i ∷ []) (is_ok result) disk.old disk.new }
-    ensures next { IfOk result (λ content. (h : History) → (D.told disk.new).history ≡ Some h →
-        IsNext (D.told disk.old).blocks (areas slots.now) (block (current h.base h.journal) i) content) }
+    ensures next { IfOk result (λ content. OnTold (D.told disk.new)
+        (λ image. IsNext (D.told disk.old).blocks (areas slots.now) (block image i) content)) }
 {
     let mut block = [0; 512];
     let size = disk.blocks();
@@ -50,7 +48,7 @@ fn read_superblock<D: Disk>(disk: &mut D) -> Result<bool, DiskFailed>
     requires low { 130 ≤ (D.told disk.old).blocks }
     requires high { (D.told disk.old).blocks ≤ 1048576 }
     ensures went { Went D.goes (Reads 0 ∷ []) (is_ok result) disk.old disk.new }
-    ensures device { IfOk result (λ right. (h : History) → (D.told disk.new).history ≡ Some h → right ≡ is_device (current h.base h.journal)) }
+    ensures device { IfOk result (λ right. OnTold (D.told disk.new) (λ image. right ≡ is_device image)) }
 {
     let mut block = [0; 512];
     let size = disk.blocks();
@@ -62,10 +60,8 @@ fn read_superblock<D: Disk>(disk: &mut D) -> Result<bool, DiskFailed>
 fn load_next<D: Disk>(slots: &mut Vec<Option<Slot>>, disk: &mut D, i: u32) -> Result<(), LoadFault>
     requires inside { i < (D.told disk.old).blocks }
     ensures went { Went D.goes (Reads i ∷ []) (is_read result) disk.old disk.new }
-    ensures more { OnOk result ((x : Option Slot) × (slots.new.items ≡ slots.old.items ++ x ∷ []) × ((h : History) → (D.told disk.new).history ≡ Some h →
-        Follows (D.told disk.old).blocks (areas slots.old.items) (block (current h.base h.journal) i) (stated_if x))) }
-    ensures damaged { (bad : ℕ) → result ≡ Err (fault.Damaged bad) → (bad ≡ i) × ((h : History) → (D.told disk.new).history ≡ Some h →
-        IsBad (D.told disk.old).blocks (areas slots.old.items) (block (current h.base h.journal) i)) }
+    ensures more { OnOk result (IsMore (D.told disk.new) (D.told disk.old).blocks i slots.old.items slots.new.items) }
+    ensures damaged { IsDamagedAt (D.told disk.new) (D.told disk.old).blocks i slots.old.items result }
 {
     let slot = match read_next(slots, disk, i) {
         Err(DiskFailed) => return Err(LoadFault::DeviceFault),
@@ -80,8 +76,8 @@ fn load_next<D: Disk>(slots: &mut Vec<Option<Slot>>, disk: &mut D, i: u32) -> Re
 pub fn load_slots<D: Disk>(alloc: Global, disk: &mut D) -> Result<Vec<Option<Slot>>, LoadFault>
     ensures went { HasRead D.goes result disk.old disk.new }
     ensures size { IfOk result (λ slots. length slots.items ≡ 128) }
-    ensures table { IfOk result (λ slots. (h : History) → (D.told disk.new).history ≡ Some h → HasTable (areas slots.items) (current h.base h.journal)) }
-    ensures damaged { (bad : ℕ) → result ≡ Err (fault.Damaged bad) → (h : History) → (D.told disk.new).history ≡ Some h → slots_of (current h.base h.journal) ≡ Err bad }
+    ensures table { IfOk result (λ slots. OnTold (D.told disk.new) (HasTable (areas slots.items))) }
+    ensures damaged { IsFirstDamaged (D.told disk.new) result }
 {
     let size = disk.blocks();
     if size < 130 || size > 1048576 {

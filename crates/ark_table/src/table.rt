@@ -1,14 +1,11 @@
 ghost use Rattle.std.specs.Prelude.{◌≡◌, ◌≤◌, ◌<◌, Err, All, ◌⊎◌, ◌↔◌, ℕ, Some, None, length, replicate, is_ok, IfOk, IfSome, OnOk, OnErr, MatchOption, not, is_some, count_by};
 ghost use Rattle.std.specs.List.{position};
-ghost use Rattle.ark_media.specs.Journal.{History, current};
 ghost use Rattle.ark_media.specs.Calls.{Went};
 ghost use Rattle.ark_table.specs.Area.{Area};
 ghost use Rattle.ark_table.specs.Table.{HasTable, slots_in};
-ghost use Rattle.ark_table.specs.Slots.{slots_of};
-ghost use Rattle.ark_table.specs.Loading.{HasRead};
-ghost use Rattle.ark_table.specs.declared.fault.LoadFault.TheVariants as fault;
-ghost use Rattle.ark_table.specs.Plans.{create_calls, grant_calls, remove_calls};
-ghost use Rattle.ark_table.specs.Standing.{slot_in, with_slot, grown_area, CanGrow};
+ghost use Rattle.ark_table.specs.Loading.{HasRead, OnTold, IsFirstDamaged};
+ghost use Rattle.ark_table.specs.Plans.{create_calls, remove_calls};
+ghost use Rattle.ark_table.specs.Standing.{slot_in, with_slot, grown_area, grow_calls, CanGrow};
 ghost use Rattle.ark_table.specs.Stated.{stated};
 ghost use Rattle.ark_table.specs.Using.{IsLeastFree, IsFull};
 
@@ -72,8 +69,8 @@ impl GrantTable {
     /// breaks a rule, behind which none is read, and `Memory` only for want of memory.
     pub fn load<D: Disk>(alloc: Global, disk: &mut D) -> Result<GrantTable, LoadFault>
         ensures went { HasRead D.goes result disk.old disk.new }
-        ensures table { IfOk result (λ t. (h : History) → (D.told disk.new).history ≡ Some h → HasTable t (current h.base h.journal)) }
-        ensures damaged { (bad : ℕ) → result ≡ Err (fault.Damaged bad) → (h : History) → (D.told disk.new).history ≡ Some h → slots_of (current h.base h.journal) ≡ Err bad }
+        ensures table { IfOk result (λ t. OnTold (D.told disk.new) (HasTable t)) }
+        ensures damaged { IsFirstDamaged (D.told disk.new) result }
     {
         match load_slots(alloc, disk) {
             Ok(slots) => Ok(GrantTable { slots }),
@@ -83,7 +80,8 @@ impl GrantTable {
 
     /// Slot `i`; `None` where it is not in use, or `i` is not 1 to 128.
     pub fn slot(&self, i: u16) -> Option<&Slot>
-        ensures slot { MatchOption result ((i ≡ 0) ⊎ (slot_in self.now i ≡ None)) (λ s. (1 ≤ i) × (slot_in self.now i ≡ Some (stated s.now))) }
+        ensures slot { MatchOption result ((i ≡ 0) ⊎ (slot_in self.now i ≡ None))
+            (λ s. (1 ≤ i) × (slot_in self.now i ≡ Some (stated s.now))) }
     {
         let place = usize::from(i).checked_sub(1)?;
         self.slots.get(place)?.as_ref()
@@ -127,8 +125,10 @@ impl GrantTable {
     /// only where one of these calls fails, and makes none after it.
     pub fn grow<D: Disk>(&mut self, disk: &mut D, i: u16, more: &Spans) -> Result<(), DiskFailed>
         requires can { (a : Area) × CanGrow (D.told disk.old).blocks self.old i a more.now }
-        ensures went { (a : Area) → slot_in self.old i ≡ Some a → Went D.goes (grant_calls i (grown_area a more.now) more.now) (is_ok result) disk.old disk.new }
-        ensures granted { OnOk result ((a : Area) → slot_in self.old i ≡ Some a → self.new ≡ with_slot self.old i (Some (grown_area a more.now))) }
+        ensures went { (a : Area) → slot_in self.old i ≡ Some a →
+            Went D.goes (grow_calls i a more.now) (is_ok result) disk.old disk.new }
+        ensures granted { OnOk result ((a : Area) → slot_in self.old i ≡ Some a →
+            self.new ≡ with_slot self.old i (Some (grown_area a more.now))) }
         ensures kept { OnErr result (self.new ≡ self.old) }
     {
         let place = usize::from(i) - 1;

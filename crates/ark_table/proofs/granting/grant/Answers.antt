@@ -1,4 +1,4 @@
-use Rattle.std.proofs.Common.{[], ◌∷◌, ◌++◌, true, false, sym, subst}
+use Rattle.std.proofs.Common.{[], ◌∷◌, true, false, sym, subst}
 use Rattle.std.specs.Prelude.{is_ok}
 use Rattle.ark_media.specs.Calls.{Went, Writes, Syncs}
 use Rattle.ark_media.proofs.Planning.{went_then, went_stop}

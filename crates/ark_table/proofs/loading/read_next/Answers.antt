@@ -1,5 +1,4 @@
-use Rattle.std.proofs.Common.{subst, ap, ◌∙◌, sym}
-use Rattle.ark_media.specs.Journal.{block, current}
+use Rattle.std.proofs.Common.{subst}
 use Rattle.ark_table.specs.Loading.{IsNext}
 use Rattle.ark_table.specs.Stated.{areas}
 use Rattle.ark_table.proofs.loading.read_next.Goals as goal

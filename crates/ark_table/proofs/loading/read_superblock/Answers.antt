@@ -1,4 +1,4 @@
-use Rattle.std.proofs.Common.{[], ◌∷◌, true, ◌∙◌, sym, ap}
+use Rattle.std.proofs.Common.{[], ◌∷◌, true, ◌∙◌, ap}
 use Rattle.ark_media.specs.Journal.{current}
 use Rattle.ark_media.specs.Calls.{Reads}
 use Rattle.ark_media.proofs.Stopping.{length-current}

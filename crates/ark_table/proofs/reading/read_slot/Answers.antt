@@ -1,4 +1,4 @@
-use Rattle.std.proofs.Common.{◌≡◌, ◌∙◌, sym, false}
+use Rattle.std.proofs.Common.{◌∙◌, sym}
 use Rattle.ark_table.proofs.Decoding.{unkept, unspelled}
 use Rattle.ark_table.proofs.reading.read_slot.Goals as goal
 

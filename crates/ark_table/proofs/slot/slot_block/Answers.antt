@@ -1,4 +1,4 @@
-use Rattle.std.proofs.Common.{◌≡◌, ◌+◌, ◌*◌, ◌++◌, ◌∷◌, [], ◌∙◌, length, take, drop, flat_map}
+use Rattle.std.proofs.Common.{◌+◌, ◌*◌, ◌++◌, ◌∷◌, [], ◌∙◌, length, take, drop, flat_map}
 use Rattle.ark_table.specs.Area.{run_bytes}
 use Rattle.ark_table.specs.Stated.{stated}
 use Rattle.ark_table.proofs.Laying.{area_laid}
