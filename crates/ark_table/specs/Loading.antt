@@ -1,4 +1,4 @@
--- How a table is read from its device. Ours: no standard fixes it.
+-- How a table is read from its device.
 use Rattle.std.specs.Prelude.{◌≡◌, ◌≤◌, ℕ, zero, suc, ◌+◌, List, [], ◌∷◌, ◌++◌, Bool, true, false, not, ◌&&◌, Result, Ok, Err, Option, Some, None, OnOk}
 use Rattle.ark_media.specs.Journal.{Event, History, block, current}
 use Rattle.ark_media.specs.Calls.{Call, Reads, Told, Went}

@@ -1,4 +1,4 @@
--- The device calls of a change of the table. Ours: no standard fixes them.
+-- The device calls of a change of the table.
 use Rattle.std.specs.Prelude.{ℕ, List, [], ◌∷◌, ◌++◌, Option, Some, None}
 use Rattle.ark_media.specs.Journal.{zero_block}
 use Rattle.ark_media.specs.Calls.{Call, Writes, Syncs}

@@ -1,4 +1,4 @@
--- What reading a slot's block comes to. Ours: no standard fixes it.
+-- What reading a slot's block comes to.
 use Rattle.std.specs.Prelude.{◌≡◌, ℕ, List, true, false}
 use Rattle.ark_table.specs.declared.reading.Content.{Content}
 use Rattle.ark_table.specs.declared.reading.Content.TheVariants.{Free, Used, Broken}

@@ -1,5 +1,5 @@
 -- When a table stands for its disk, also in whatever image a stop may leave; and what a change of one slot makes of that, at each
--- moment of its calls. Ours: no standard fixes it.
+-- moment of its calls.
 use Rattle.std.specs.Prelude.{◌≡◌, ◌<◌, ◌≤◌, ◌⊎◌, ℕ, ◌+◌, ◌-◌, List, [], ◌∷◌, ◌++◌, length, set, Contains, count_by, Bool, true, false, Option, Some, None}
 use Rattle.ark_media.specs.Journal.{Event, Read, Write, Sync, Out, History, block, zero_block, current}
 use Rattle.ark_media.specs.Calls.{Call}

@@ -1,4 +1,4 @@
--- What the slots of the code say. Ours: no standard fixes it.
+-- What the slots of the code say.
 use Rattle.std.specs.Prelude.{List, map, Option, Some, None}
 use Rattle.ark_extents.specs.Blocks.{runs_of}
 use Rattle.ark_table.specs.declared.slot.Slot.{Slot}

@@ -1,4 +1,4 @@
--- Which slots are free. Ours: no standard fixes it.
+-- Which slots are free.
 use Rattle.std.specs.Prelude.{◌≡◌, ◌<◌, ◌≤◌, ℕ, None}
 use Rattle.ark_table.specs.Standing.{Table, slot_in}
 
