@@ -8,7 +8,7 @@ use Rattle.ark_table.specs.Standing.{IsTableOf}
 use Rattle.ark_table.proofs.Standing as tables
 use Rattle.ark_script.specs.Text.{text}
 use Rattle.ark_script.specs.declared.said.Said.TheVariants.{Ready}
-use Rattle.ark_held.specs.After.{after}
+use Rattle.ark_media.specs.Standing.{after}
 use Rattle.ark_host.specs.Tabled.{table_of}
 use Rattle.ark_host.proofs.Staying.{outputs_spare}
 use Rattle.ark_host.proofs.Stood.{after_append}

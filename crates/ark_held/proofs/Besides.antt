@@ -5,7 +5,7 @@ use Rattle.std.proofs.lemmas.List.Elements.{Contains-get_or}
 use Rattle.ark_media.specs.Journal.{Event, Read, Write, Sync, Out, History, block, current, onto, device_events}
 use Rattle.ark_media.specs.Stops.{MayHold, Whole}
 use Rattle.ark_media.proofs.Stopping.{current_other, other_write, sync_narrows}
-use Rattle.ark_held.specs.After.{after}
+use Rattle.ark_media.specs.Standing.{after}
 use Rattle.ark_held.specs.Beside.{AreBeside}
 use Rattle.ark_held.specs.Keeps.{SameAt}
 

@@ -15,7 +15,8 @@ use Rattle.ark_machine.specs.Row.{settled}
 use Rattle.ark_machine.specs.Control.{is_open_on, is_socket_on}
 use Rattle.ark_held.specs.Totals.{bit, total, uses, object_covers}
 use Rattle.ark_held.specs.Around.{Around, slot_at}
-use Rattle.ark_held.specs.Areas.{MayStand, IsRaw}
+use Rattle.ark_held.specs.Areas.{IsRaw}
+use Rattle.ark_media.specs.Standing.{MayStand}
 use Rattle.ark_held.specs.Beside.{AreBeside}
 use Rattle.ark_held.specs.Held.{Fits, Holds}
 use Rattle.ark_held.specs.Keeps.{Keeps, any_label, any_piece}

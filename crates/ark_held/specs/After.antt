@@ -1,10 +1,8 @@
--- What a disk's history is after some events, and where a disk tells that.
+-- Where a disk tells what its history is after some events.
 use Rattle.std.specs.Prelude.{◌≡◌, List, Some}
-use Rattle.ark_media.specs.Journal.{Event, History, onto}
+use Rattle.ark_media.specs.Journal.{Event, History}
 use Rattle.ark_media.specs.Calls.{Told}
-
-abbrev pub after : History → List Event → History
-after h es = record { base = h.base; journal = onto es h.journal }
+use Rattle.ark_media.specs.Standing.{after}
 
 -- the disk tells that after this history these events came
 abbrev pub IsTold : Told → History → List Event → Type 0

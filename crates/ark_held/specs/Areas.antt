@@ -3,7 +3,7 @@ use Rattle.std.specs.Prelude.{◌≡◌, ℕ, ◌+◌, ◌*◌, ◌<◌, List, [
 use Rattle.std.specs.Map.{lookup}
 use Rattle.ark_base.specs.declared.kind.Kind.TheVariants as kind
 use Rattle.ark_media.specs.Journal.{History, block, current}
-use Rattle.ark_media.specs.Stops.{MayHold, Whole}
+use Rattle.ark_media.specs.Standing.{MayStand}
 use Rattle.ark_table.specs.Slots.{Slot}
 use Rattle.ark_entry.specs.Found.{found_of}
 use Rattle.ark_caps.specs.declared.capability.CapKind.TheVariants as cap_kind
@@ -16,10 +16,6 @@ use Rattle.ark_machine.specs.Start.{view}
 use Rattle.ark_held.specs.Words.{area_in}
 use Rattle.ark_held.specs.Kept.{BufferKept, ChainKept, CommandKept, appends, trims, pops, WaitingKept}
 use Rattle.ark_held.specs.Around.{Around, slot_at, Names, Each, Both}
-
--- a stop may leave this of a block
-abbrev pub MayStand : History → ℕ → List ℕ → Type 0
-MayStand h n content = MayHold Whole h.base h.journal n content
 
 -- a stop may leave these of blocks
 pub record MayShow (h : History) (blocks : List ℕ) (contents : List (List ℕ)) : Type 0 where

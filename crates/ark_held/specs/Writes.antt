@@ -7,7 +7,7 @@ use Rattle.ark_machine.specs.Objects
 use Rattle.ark_machine.specs.Objects.{Raw}
 use Rattle.ark_machine.specs.Machine.{Held, at, with_object}
 use Rattle.ark_machine.specs.Areas.{raw_written}
-use Rattle.ark_held.specs.After.{after}
+use Rattle.ark_media.specs.Standing.{after}
 use Rattle.ark_held.specs.Around.{Around, slot_at}
 
 -- Block n is at place off of the raw area under a label, and no other area of the application has it.

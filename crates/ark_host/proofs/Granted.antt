@@ -42,8 +42,8 @@ use Rattle.ark_machine.specs.System.{System, machine_of}
 use Rattle.ark_machine.specs.Follow.{Follow, ends_of}
 use Rattle.ark_machine.specs.Recovers.{begun}
 use Rattle.ark_machine.proofs.Grants.{makes_apart, new_fits, free_index, lowest_free}
-use Rattle.ark_held.specs.After.{after}
-use Rattle.ark_held.specs.Areas.{MayStand, IsRaw}
+use Rattle.ark_media.specs.Standing.{after, MayStand}
+use Rattle.ark_held.specs.Areas.{IsRaw}
 use Rattle.ark_held.specs.Around.{Around}
 use Rattle.ark_held.specs.Beside.{AreBeside}
 use Rattle.ark_held.specs.Held.{Holds, is_area_cap}

@@ -23,7 +23,7 @@ use Rattle.ark_machine.specs.Recovers.{Recovers, begun, IsFound, IsMade, IsKnown
 use Rattle.ark_machine.specs.Stopped.{begun_in}
 use Rattle.ark_machine.specs.Fronts.{AtFront, AtEachFront}
 use Rattle.ark_machine.proofs.Fronts.{front_adds, written_devices}
-use Rattle.ark_held.specs.After.{after}
+use Rattle.ark_media.specs.Standing.{after}
 use Rattle.ark_held.proofs.Members.{contains_in, in_contains}
 use Rattle.ark_host.specs.declared.host.Host.{Host}
 use Rattle.ark_host.specs.Tabled.{table_of, TableStands, StandsBeside, unsettled_blocks}

@@ -8,7 +8,7 @@ use Rattle.ark_table.specs.Slots.{Slot, area_of}
 use Rattle.ark_table.specs.Standing.{IsWritten, Spare, creates}
 use Rattle.ark_table.proofs.Standing.{stays, stays_unsettled, written_left}
 use Rattle.ark_machine.specs.Plane.{Change, makes, grows, drops}
-use Rattle.ark_held.specs.After.{after}
+use Rattle.ark_media.specs.Standing.{after}
 use Rattle.ark_held.specs.Beside.{AreBeside}
 use Rattle.ark_held.proofs.Besides.{not_silent}
 use Rattle.ark_host.specs.Tabled.{table_of, TableStands, unsettled_blocks}

@@ -24,7 +24,7 @@ use Rattle.ark_machine.specs.Plane.{Plane, max_runs}
 use Rattle.ark_machine.specs.Granting.{plane_after}
 use Rattle.ark_machine.specs.System.{System, machine_of}
 use Rattle.ark_machine.specs.Fronts.{AtEachFront}
-use Rattle.ark_held.specs.After.{after}
+use Rattle.ark_media.specs.Standing.{after}
 use Rattle.ark_held.specs.Words.{Labels, AreaList, no_room, room_under, limit_if, new_area_cap, with_area}
 use Rattle.ark_held.specs.declared.app.App.{App}
 use Rattle.ark_host.specs.declared.host.Host.{Host}

@@ -6,7 +6,8 @@ use Rattle.ark_media.specs.Calls.{Told, Rests, Adds}
 use Rattle.ark_media.specs.Going.{onto-append}
 use Rattle.ark_machine.specs.System.{System}
 use Rattle.ark_machine.proofs.Fronts.{onto_same}
-use Rattle.ark_held.specs.After.{after, IsTold}
+use Rattle.ark_held.specs.After.{IsTold}
+use Rattle.ark_media.specs.Standing.{after}
 use Rattle.ark_host.specs.declared.host.Host.{Host}
 use Rattle.ark_host.specs.Stands.{Stands, Stood}
 
