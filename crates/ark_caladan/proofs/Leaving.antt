@@ -15,18 +15,18 @@ use Rattle.ark_entry.proofs.Standing.{stands_behind, stands_le, stands_shift}
 use Rattle.ark_entry.proofs.Drafts.{length-final}
 use Rattle.ark_entry.proofs.Appending.{idle_finds, body_finds, marking_finds, more_stands}
 use Rattle.ark_entry.proofs.Dropping.{dropping_finds, later, around}
-use Rattle.ark_caladan.specs.Chain.{Command, append, trim, pop, after, next_number, blocks_of}
-use Rattle.ark_caladan.specs.Numbers.{Fits}
-use Rattle.ark_caladan.specs.Leaves.{LiesInRing, IsRing, Holds, HasRoom, with_draft, with_entry, dropped_by, freed_by, HeaderAfter}
+use Rattle.ark_caladan.specs.Chain.{Command, append, trim, pop, after_command, next_number, blocks_of}
+use Rattle.ark_caladan.specs.Numbers.{CanFollow}
+use Rattle.ark_caladan.specs.Leaves.{LiesInRing, AreRingBlocks, RingHolds, HasRoom, with_draft, with_entry, dropped_by, freed_by, HeaderAfter}
 
-module _ (kind : Kind) (header : List ℕ) (h : Header) (ring stored : List (List ℕ)) (l : Entries) (is_ring : IsRing ring) (lies : LiesInRing kind (length ring) header h stored l) where
+module _ (kind : Kind) (header : List ℕ) (h : Header) (ring stored : List (List ℕ)) (l : Entries) (is_ring : AreRingBlocks ring) (lies : LiesInRing kind (length ring) header h stored l) where
   -- a list that stands from the header's start on is found
   listed : (xs : List (List ℕ)) → length l.payloads ≤ length xs → Finds (length ring) h.start (reading ring h.start) 0 l.first xs → found_of kind (header ∷ ring) ≡ found (record { first = l.first; payloads = xs })
   listed xs more finds = stands_is_list kind header ring is_ring.whole is_ring.some (record { first = l.first; payloads = xs })
       (h, lies.read, lies.first, omega (arith, more, lies.count), subst (λ (n : ℕ). Finds (length ring) h.start (reading ring h.start) 0 n xs) lies.first finds)
 
   -- between two commands
-  pub rest_is_found : Holds ring h stored stored → found_of kind (header ∷ ring) ≡ found l
+  pub rest_is_found : RingHolds ring h stored stored → found_of kind (header ∷ ring) ≡ found l
   rest_is_found holds = listed l.payloads (omega arith) (idle_finds (length ring) h.start stored l.first l.payloads lies.stands lies.fits (reading ring h.start) holds)
 
   module _ (payload : List ℕ) (has_room : HasRoom (length ring) stored l payload) where
@@ -34,12 +34,12 @@ module _ (kind : Kind) (header : List ℕ) (h : Header) (ring stored : List (Lis
     appends = record { stands = lies.stands; short = has_room.short; low = has_room.low; fits = has_room.fits; few = has_room.few }
 
     -- while an entry is written without its marker
-    pub draft_is_found : Holds ring h stored (with_draft (length ring) h stored l payload) → found_of kind (header ∷ ring) ≡ found l
+    pub draft_is_found : RingHolds ring h stored (with_draft (length ring) h stored l payload) → found_of kind (header ∷ ring) ≡ found l
     draft_is_found holds = listed l.payloads (omega arith) (body_finds (length ring) h.start stored l.first l.payloads payload appends (reading ring h.start) holds)
 
     -- while its marker is written
-    pub marker_is_found : Holds ring h (with_draft (length ring) h stored l payload) (with_entry (length ring) h stored l payload)
-        → (found_of kind (header ∷ ring) ≡ found l) ⊎ (found_of kind (header ∷ ring) ≡ found (after l (append (next_number l) payload)))
+    pub marker_is_found : RingHolds ring h (with_draft (length ring) h stored l payload) (with_entry (length ring) h stored l payload)
+        → (found_of kind (header ∷ ring) ≡ found l) ⊎ (found_of kind (header ∷ ring) ≡ found (after_command l (append (next_number l) payload)))
     marker_is_found holds = ⊎_elim
         (λ old. inl (listed l.payloads (omega arith) old))
         (λ new. inr (listed (l.payloads ++ payload ∷ []) (omega (arith, longer)) new))
@@ -49,7 +49,7 @@ module _ (kind : Kind) (header : List ℕ) (h : Header) (ring stored : List (Lis
         longer = length-append l.payloads (payload ∷ [])
 
     -- and then the list with the entry lies there
-    pub entry_lies : LiesInRing kind (length ring) header h (with_entry (length ring) h stored l payload) (after l (append (next_number l) payload))
+    pub entry_lies : LiesInRing kind (length ring) header h (with_entry (length ring) h stored l payload) (after_command l (append (next_number l) payload))
     entry_lies = record {
       read = lies.read;
       first = lies.first;
@@ -92,14 +92,14 @@ zeros_around ring start stored z small fit is v lt = elim (cases_lt (z + v) (len
 ]
 
 -- a trim and a pop drop the front of the list
-dropped_front : (l : Entries) (c : Command) → Fits l c → 1 ≤ dropped_by l c
-    → (dropped_by l c ≤ length l.payloads) × ((after l c).first ≡ l.first + dropped_by l c) × ((after l c).payloads ≡ drop (dropped_by l c) l.payloads)
+dropped_front : (l : Entries) (c : Command) → CanFollow l c → 1 ≤ dropped_by l c
+    → (dropped_by l c ≤ length l.payloads) × ((after_command l c).first ≡ l.first + dropped_by l c) × ((after_command l c).payloads ≡ drop (dropped_by l c) l.payloads)
 dropped_front l (append n payload) fits some = absurd (omega (arith, some))
 dropped_front l (trim n) fits some = (omega (arith, fits.0, fits.1), omega (arith, fits.0), refl)
 dropped_front l (pop n) fits some = (omega (arith, fits.1), refl, refl)
 
-module _ (kind : Kind) (header new_header : List ℕ) (h new : Header) (ring stored : List (List ℕ)) (l : Entries) (c : Command) (is_ring : IsRing ring) (lies : LiesInRing kind (length ring) header h stored l)
-    (fits : Fits l c) (some : 1 ≤ dropped_by l c) (written : HeaderAfter kind (length ring) new_header h l c new) where
+module _ (kind : Kind) (header new_header : List ℕ) (h new : Header) (ring stored : List (List ℕ)) (l : Entries) (c : Command) (is_ring : AreRingBlocks ring) (lies : LiesInRing kind (length ring) header h stored l)
+    (fits : CanFollow l c) (some : 1 ≤ dropped_by l c) (written : HeaderAfter kind (length ring) new_header h l c new) where
   length-front : length (take (dropped_by l c) l.payloads) ≡ dropped_by l c
   length-front = length-take-le (dropped_by l c) l.payloads (dropped_front l c fits some).0
 
@@ -114,8 +114,8 @@ module _ (kind : Kind) (header new_header : List ℕ) (h new : Header) (ring sto
       subst (λ (n : ℕ). Stands (length ring) h.start (at stored) 0 l.first (take (dropped_by l c) l.payloads) n) e in_parts.1
 
   -- once the header is written, and while the blocks that it left are made zero one by one
-  pub dropped_is_found : Holds ring h stored (zeroed (freed_by l c) stored) → found_of kind (new_header ∷ ring) ≡ found (after l c)
-  dropped_is_found holds = stands_is_list kind new_header ring is_ring.whole is_ring.some (after l c) (new, written.read, sym written.first, written.count, finds)
+  pub dropped_is_found : RingHolds ring h stored (zeroed (freed_by l c) stored) → found_of kind (new_header ∷ ring) ≡ found (after_command l c)
+  dropped_is_found holds = stands_is_list kind new_header ring is_ring.whole is_ring.some (after_command l c) (new, written.read, sym written.first, written.count, finds)
     where
       kept : Finds (length ring) ((h.start + freed_by l c) % length ring) (reading ring ((h.start + freed_by l c) % length ring)) 0 (l.first + length (take (dropped_by l c) l.payloads)) (drop (dropped_by l c) l.payloads)
       kept = dropping_finds ring h.start stored l.first (take (dropped_by l c) l.payloads) (drop (dropped_by l c) l.payloads)
@@ -125,30 +125,30 @@ module _ (kind : Kind) (header new_header : List ℕ) (h new : Header) (ring sto
       number : l.first + length (take (dropped_by l c) l.payloads) ≡ new.first
       number = omega (arith, length-front, (dropped_front l c fits some).1, written.first)
 
-      finds : Finds (length ring) new.start (reading ring new.start) 0 new.first (after l c).payloads
+      finds : Finds (length ring) new.start (reading ring new.start) 0 new.first (after_command l c).payloads
       finds =
           subst (λ (xs : List (List ℕ)). Finds (length ring) new.start (reading ring new.start) 0 new.first xs) (sym (dropped_front l c fits some).2)
           (subst (λ (n : ℕ). Finds (length ring) new.start (reading ring new.start) 0 n (drop (dropped_by l c) l.payloads)) number
           (subst (λ (s : ℕ). Finds (length ring) s (reading ring s) 0 (l.first + length (take (dropped_by l c) l.payloads)) (drop (dropped_by l c) l.payloads)) (sym written.start) kept))
 
   -- the kept entries stand from the new header's start on
-  kept_stand : Stands (length ring) new.start (at (drop (freed_by l c) stored)) 0 (after l c).first (after l c).payloads (length (drop (freed_by l c) stored))
+  kept_stand : Stands (length ring) new.start (at (drop (freed_by l c) stored)) 0 (after_command l c).first (after_command l c).payloads (length (drop (freed_by l c) stored))
   kept_stand =
       let le : in_parts.0 ≤ length stored = stands_le (length ring) h.start (at stored) in_parts.0 (l.first + length (take (dropped_by l c) l.payloads)) (drop (dropped_by l c) l.payloads) (length stored) in_parts.2 in
       let mid : in_parts.0 ≡ freed_by l c = omega (arith, stands_end (length ring) h.start (at stored) 0 l.first (take (dropped_by l c) l.payloads) in_parts.0 in_parts.1) in
       let size : length stored ≡ freed_by l c + length (drop (freed_by l c) stored) = omega (arith, length-drop (freed_by l c) stored, le, mid) in
       let here : in_parts.0 ≡ freed_by l c + 0 = omega (arith, mid) in
-      let number : l.first + length (take (dropped_by l c) l.payloads) ≡ (after l c).first = omega (arith, length-front, (dropped_front l c fits some).1) in
+      let number : l.first + length (take (dropped_by l c) l.payloads) ≡ (after_command l c).first = omega (arith, length-front, (dropped_front l c fits some).1) in
       let t = subst (λ (to : ℕ). Stands (length ring) h.start (at stored) in_parts.0 (l.first + length (take (dropped_by l c) l.payloads)) (drop (dropped_by l c) l.payloads) to) size in_parts.2 in
       let t0 = subst (λ (from : ℕ). Stands (length ring) h.start (at stored) from (l.first + length (take (dropped_by l c) l.payloads)) (drop (dropped_by l c) l.payloads) (freed_by l c + length (drop (freed_by l c) stored))) here t in
       let shifted = stands_shift (length ring) h.start (freed_by l c) (at stored) (at (drop (freed_by l c) stored)) 0 (l.first + length (take (dropped_by l c) l.payloads)) (drop (dropped_by l c) l.payloads)
       (length (drop (freed_by l c) stored)) (λ v. sym (get_or-drop (freed_by l c) stored v zero_block)) t0 in
-      subst (λ (xs : List (List ℕ)). Stands (length ring) new.start (at (drop (freed_by l c) stored)) 0 (after l c).first xs (length (drop (freed_by l c) stored))) (sym (dropped_front l c fits some).2)
+      subst (λ (xs : List (List ℕ)). Stands (length ring) new.start (at (drop (freed_by l c) stored)) 0 (after_command l c).first xs (length (drop (freed_by l c) stored))) (sym (dropped_front l c fits some).2)
       (subst (λ (n : ℕ). Stands (length ring) new.start (at (drop (freed_by l c) stored)) 0 n (drop (dropped_by l c) l.payloads) (length (drop (freed_by l c) stored))) number
       (subst (λ (s : ℕ). Stands (length ring) s (at (drop (freed_by l c) stored)) 0 (l.first + length (take (dropped_by l c) l.payloads)) (drop (dropped_by l c) l.payloads) (length (drop (freed_by l c) stored))) (sym written.start) shifted))
 
   -- and afterwards what is left of the list lies there
-  pub rest_lies : LiesInRing kind (length ring) new_header new (drop (freed_by l c) stored) (after l c)
+  pub rest_lies : LiesInRing kind (length ring) new_header new (drop (freed_by l c) stored) (after_command l c)
   rest_lies = record {
     read = written.read;
     first = sym written.first;
@@ -158,7 +158,7 @@ module _ (kind : Kind) (header new_header : List ℕ) (h new : Header) (ring sto
   }
 
   -- with zeros behind it, once all freed blocks are zero
-  pub rest_holds : Holds ring h (zeroed (freed_by l c) stored) (zeroed (freed_by l c) stored) → Holds ring new (drop (freed_by l c) stored) (drop (freed_by l c) stored)
+  pub rest_holds : RingHolds ring h (zeroed (freed_by l c) stored) (zeroed (freed_by l c) stored) → RingHolds ring new (drop (freed_by l c) stored) (drop (freed_by l c) stored)
   rest_holds holds = λ v lt. inl (subst (λ (s : ℕ). reading ring s v ≡ at (drop (freed_by l c) stored) v) (sym written.start) (zeros_around ring h.start stored (freed_by l c) z_fits lies.fits (λ u to. ⊎_elim (λ x. x) (λ x. x) (holds u to)) v lt))
     where
       z_fits : freed_by l c ≤ length stored

@@ -12,9 +12,9 @@ use Rattle.ark_entry.specs.Reading.{reading, Finds, HasList}
 use Rattle.ark_entry.specs.Repair.{used_by, blocks_read}
 use Rattle.ark_entry.proofs.Readings.{found_stands, stands_is_list}
 use Rattle.ark_entry.proofs.Repairing.{repair_finds, read_stands, at_read, length-read, finds_fit}
-use Rattle.ark_caladan.specs.Leaves.{LiesInRing, IsRing, Holds, Repairs}
+use Rattle.ark_caladan.specs.Leaves.{LiesInRing, AreRingBlocks, RingHolds, Repairs}
 
-module _ (kind : Kind) (header : List ℕ) (h : Header) (ring : List (List ℕ)) (l : Entries) (is_ring : IsRing ring) (read : header_of kind (length ring) header ≡ Some h) (is_found : found_of kind (header ∷ ring) ≡ found l) where
+module _ (kind : Kind) (header : List ℕ) (h : Header) (ring : List (List ℕ)) (l : Entries) (is_ring : AreRingBlocks ring) (read : header_of kind (length ring) header ≡ Some h) (is_found : found_of kind (header ∷ ring) ≡ found l) where
   has : HasList kind header ring l
   has = found_stands kind header ring is_ring.whole is_ring.some l is_found
 
@@ -28,7 +28,7 @@ module _ (kind : Kind) (header : List ℕ) (h : Header) (ring : List (List ℕ))
   finds = subst (λ (n : ℕ). Finds (length ring) h.start (reading ring h.start) 0 n l.payloads) (sym first)
       (subst (λ (x : Header). Finds (length ring) x.start (reading ring x.start) 0 x.first l.payloads) same has.4)
 
-  module _ (new_header : List ℕ) (new : Header) (new_ring : List (List ℕ)) (is_new : IsRing new_ring) (repairs : Repairs kind header h ring l new_header new new_ring) where
+  module _ (new_header : List ℕ) (new : Header) (new_ring : List (List ℕ)) (is_new : AreRingBlocks new_ring) (repairs : Repairs kind header h ring l new_header new new_ring) where
     finds_new : Finds (length new_ring) new.start (reading new_ring new.start) 0 l.first l.payloads
     finds_new =
         subst (λ (n : ℕ). Finds n new.start (reading new_ring new.start) 0 l.first l.payloads) (sym repairs.size)
@@ -56,7 +56,7 @@ module _ (kind : Kind) (header : List ℕ) (h : Header) (ring : List (List ℕ))
 
     -- with zeros behind it, once all blocks outside it are zero
     pub repaired_holds : ((v : ℕ) → used_by l.payloads ≤ v → v < length new_ring → reading new_ring new.start v ≡ zero_block)
-        → Holds new_ring new (blocks_read (reading new_ring new.start) 0 (used_by l.payloads)) (blocks_read (reading new_ring new.start) 0 (used_by l.payloads))
+        → RingHolds new_ring new (blocks_read (reading new_ring new.start) 0 (used_by l.payloads)) (blocks_read (reading new_ring new.start) 0 (used_by l.payloads))
     repaired_holds zeros v lt = inl (elim (cases_lt v (used_by l.payloads)) [
       | inl inside ↦ let e : 0 + v ≡ v = omega arith in sym (at_read (length new_ring) new.start (reading new_ring new.start) 0 (used_by l.payloads) v inside ∙ ap (reading new_ring new.start) e)
       | inr past ↦ zeros v past lt

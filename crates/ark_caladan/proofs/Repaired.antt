@@ -16,7 +16,7 @@ use Rattle.ark_entry.specs.Repair.{used_by, blocks_read, Zeroes}
 use Rattle.ark_entry.proofs.Readings.{start_inside, found_stands}
 use Rattle.ark_entry.proofs.Repairing.{at_read, length-read, finds_fit, read_stands}
 use Rattle.ark_entry.specs.Writing.{at}
-use Rattle.ark_caladan.specs.Leaves.{IsRing, LiesInRing}
+use Rattle.ark_caladan.specs.Leaves.{AreRingBlocks, LiesInRing}
 use Rattle.ark_caladan.specs.Moving.{OnDisk, Moving, IsAtRest, view, view_of, area_of, repaired, Opens}
 use Rattle.ark_caladan.proofs.Moves.{image_has}
 use Rattle.ark_caladan.proofs.Opening.{repaired_is_found}
@@ -43,7 +43,7 @@ module _ (n0 : ℕ) (rest : List ℕ) (base : List (List ℕ)) (on_disk : OnDisk
   long : (x : List (List ℕ)) → length (view rest x) ≡ length rest
   long x = length-map rest (λ n. block x n)
 
-  ring_of : (x : List (List ℕ)) → AllBlocks x → length x ≡ length base → IsRing (view rest x)
+  ring_of : (x : List (List ℕ)) → AllBlocks x → length x ≡ length base → AreRingBlocks (view rest x)
   ring_of x x_full x_long = record {
     whole = ring_whole x rest x_full (λ u lt. omega (arith, on_disk.inside (suc u) (omega (arith, lt)), x_long));
     some = omega (arith, long x, some);

@@ -12,9 +12,9 @@ use Rattle.ark_entry.specs.Found.{Entries, found, found_of}
 use Rattle.ark_entry.specs.Reading.{reading}
 use Rattle.ark_entry.specs.Writing.{at, Between, zeroed}
 use Rattle.ark_entry.proofs.Readings.{start_inside}
-use Rattle.ark_caladan.specs.Chain.{Command, append, after, next_number}
-use Rattle.ark_caladan.specs.Numbers.{Fits}
-use Rattle.ark_caladan.specs.Leaves.{LiesInRing, IsRing, Holds, HasRoom, with_draft, with_entry, dropped_by, freed_by, HeaderAfter}
+use Rattle.ark_caladan.specs.Chain.{Command, append, after_command, next_number}
+use Rattle.ark_caladan.specs.Numbers.{CanFollow}
+use Rattle.ark_caladan.specs.Leaves.{LiesInRing, AreRingBlocks, RingHolds, HasRoom, with_draft, with_entry, dropped_by, freed_by, HeaderAfter}
 use Rattle.ark_caladan.specs.Moving.{OnDisk, Moving, IsAtRest, view, view_of}
 use Rattle.ark_caladan.proofs.Leaving.{rest_is_found, draft_is_found, marker_is_found, dropped_is_found}
 use Rattle.ark_caladan.proofs.Moves.{image_has}
@@ -53,7 +53,7 @@ module _ (n0 : ℕ) (rest : List ℕ) (base : List (List ℕ)) (j : List Event) 
   long : length (view rest image) ≡ length rest
   long = length-map rest (λ n. block image n)
 
-  is_ring : IsRing (view rest image)
+  is_ring : AreRingBlocks (view rest image)
   is_ring = record { whole = whole; some = omega (arith, long, some) }
     where
       whole : AreWhole (view rest image)
@@ -106,26 +106,26 @@ module _ (n0 : ℕ) (rest : List ℕ) (base : List (List ℕ)) (j : List Event) 
       draft_stop done moving =
           same_header header (header_is header header h.start stored (with_draft (length rest) h stored l payload) ls done moving)
           ∙ draft_is_found kind header h (view rest image) stored l is_ring lies_there payload room_there
-          (subst (λ (n : ℕ). Holds (view rest image) h stored (with_draft n h stored l payload)) (sym long) (ring_is header header h.start stored (with_draft (length rest) h stored l payload) ls done moving))
+          (subst (λ (n : ℕ). RingHolds (view rest image) h stored (with_draft n h stored l payload)) (sym long) (ring_is header header h.start stored (with_draft (length rest) h stored l payload) ls done moving))
 
       -- while its marker is written
       pub marker_stop : (done : ℕ → Bool)
           → Moving (n0 ∷ rest) base j (view_of (length rest) header h.start (with_draft (length rest) h stored l payload)) (view_of (length rest) header h.start (with_entry (length rest) h stored l payload)) done
-          → (found_of kind (view (n0 ∷ rest) image) ≡ found l) ⊎ (found_of kind (view (n0 ∷ rest) image) ≡ found (after l (append (next_number l) payload)))
+          → (found_of kind (view (n0 ∷ rest) image) ≡ found l) ⊎ (found_of kind (view (n0 ∷ rest) image) ≡ found (after_command l (append (next_number l) payload)))
       marker_stop done moving =
           let same = same_header header (header_is header header h.start (with_draft (length rest) h stored l payload) (with_entry (length rest) h stored l payload) ls done moving) in
           ⊎_elim (λ old. inl (same ∙ old)) (λ new. inr (same ∙ new))
           (marker_is_found kind header h (view rest image) stored l is_ring lies_there payload room_there
-          (subst (λ (n : ℕ). Holds (view rest image) h (with_draft n h stored l payload) (with_entry n h stored l payload)) (sym long)
+          (subst (λ (n : ℕ). RingHolds (view rest image) h (with_draft n h stored l payload) (with_entry n h stored l payload)) (sym long)
           (ring_is header header h.start (with_draft (length rest) h stored l payload) (with_entry (length rest) h stored l payload) ls done moving)))
 
-    module _ (c : Command) (fits : Fits l c) (drops : 1 ≤ dropped_by l c) (new_header : List ℕ) (new : Header) (written : HeaderAfter kind (length rest) new_header h l c new) where
+    module _ (c : Command) (fits : CanFollow l c) (drops : 1 ≤ dropped_by l c) (new_header : List ℕ) (new : Header) (written : HeaderAfter kind (length rest) new_header h l c new) where
       written_there : HeaderAfter kind (length (view rest image)) new_header h l c new
       written_there = subst (λ (n : ℕ). HeaderAfter kind n new_header h l c new) (sym long) written
 
       -- while the header of a trim or a pop is written
       pub header_stop : (done : ℕ → Bool) → Moving (n0 ∷ rest) base j (view_of (length rest) header h.start stored) (view_of (length rest) new_header h.start stored) done
-          → (found_of kind (view (n0 ∷ rest) image) ≡ found l) ⊎ (found_of kind (view (n0 ∷ rest) image) ≡ found (after l c))
+          → (found_of kind (view (n0 ∷ rest) image) ≡ found l) ⊎ (found_of kind (view (n0 ∷ rest) image) ≡ found (after_command l c))
       header_stop done moving =
           let holds = ring_is header new_header h.start stored stored ls done moving in
           ⊎_elim
@@ -136,7 +136,7 @@ module _ (n0 : ℕ) (rest : List ℕ) (base : List (List ℕ)) (j : List Event) 
 
       -- while the freed blocks are made zero
       pub zeros_stop : (done : ℕ → Bool) → Moving (n0 ∷ rest) base j (view_of (length rest) new_header h.start stored) (view_of (length rest) new_header h.start (zeroed (freed_by l c) stored)) done
-          → found_of kind (view (n0 ∷ rest) image) ≡ found (after l c)
+          → found_of kind (view (n0 ∷ rest) image) ≡ found (after_command l c)
       zeros_stop done moving =
           same_header new_header (header_is new_header new_header h.start stored (zeroed (freed_by l c) stored) ls done moving)
           ∙ dropped_is_found kind header new_header h new (view rest image) stored l c is_ring lies_there fits drops written_there (ring_is new_header new_header h.start stored (zeroed (freed_by l c) stored) ls done moving)

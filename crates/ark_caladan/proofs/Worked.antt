@@ -3,7 +3,7 @@ use Rattle.std.proofs.Common.{◌≡◌, ◌⊎◌, List, [], ◌∷◌, Bool, t
 use Rattle.std.specs.Prelude.{Contains}
 use Rattle.ark_base.specs.declared.kind.Kind.TheVariants as kinds
 use Rattle.ark_entry.specs.Found.{Entries, Found, found, damaged}
-use Rattle.ark_caladan.specs.Chain.{Command, append, trim, pop, after, after_all, next_number, phases_of, moves_of, Log, lists}
+use Rattle.ark_caladan.specs.Chain.{Command, append, trim, pop, after_command, after_all, next_number, phases_of, moves_of, Log, lists}
 use Rattle.ark_caladan.specs.Numbers.{AllFit, GoesOn}
 use Rattle.ark_caladan.proofs.Commands.{all_go_on, only_listed, none_else, damaged_alone}
 
@@ -52,11 +52,11 @@ before : Contains (lists (log (found three) (Some (pop 5, false)))) (found three
 unfolding log
 before = (0, omega arith, refl)
 
-behind : Contains (lists (log (found three) (Some (pop 5, true)))) (found (after three (pop 5)))
+behind : Contains (lists (log (found three) (Some (pop 5, true)))) (found (after_command three (pop 5)))
 unfolding log
 behind = (1, omega arith, refl)
 
-one_of_two : (m : Found) → Contains (lists (log (found three) (Some (pop 5, false)))) m → (m ≡ found three) ⊎ (m ≡ found (after three (pop 5)))
+one_of_two : (m : Found) → Contains (lists (log (found three) (Some (pop 5, false)))) m → (m ≡ found three) ⊎ (m ≡ found (after_command three (pop 5)))
 unfolding log
 one_of_two = only_listed (log (found three) (Some (pop 5, false))) three (pop 5, false) refl refl
 

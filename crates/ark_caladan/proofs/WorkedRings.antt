@@ -9,9 +9,9 @@ use Rattle.ark_entry.specs.Found.{Entries, found, found_of}
 use Rattle.ark_entry.specs.Reading.{reading}
 use Rattle.ark_entry.specs.Writing.{zeroed}
 use Rattle.ark_entry.proofs.WorkedRings.{acked, payload, stands, stored}
-use Rattle.ark_caladan.specs.Chain.{append, trim, after}
-use Rattle.ark_caladan.specs.Numbers.{Fits}
-use Rattle.ark_caladan.specs.Leaves.{LiesInRing, IsRing, Holds, HasRoom, with_draft, with_entry, HeaderAfter, Repairs}
+use Rattle.ark_caladan.specs.Chain.{append, trim, after_command}
+use Rattle.ark_caladan.specs.Numbers.{CanFollow}
+use Rattle.ark_caladan.specs.Leaves.{LiesInRing, AreRingBlocks, RingHolds, HasRoom, with_draft, with_entry, HeaderAfter, Repairs}
 use Rattle.ark_caladan.proofs.Leaving.{rest_is_found, draft_is_found, marker_is_found, entry_lies, dropped_is_found, rest_lies, rest_holds}
 use Rattle.ark_caladan.proofs.Opening.{repaired_is_found, repaired_lies, repaired_holds}
 
@@ -28,7 +28,7 @@ lies = record { read = refl; first = refl; count = omega arith; stands = stands;
 pub has_room : HasRoom 4 stored one payload
 has_room = record { short = omega arith; low = omega arith; fits = omega arith; few = omega arith }
 
-is_ring : IsRing ring
+is_ring : AreRingBlocks ring
 is_ring = record { whole = whole; some = omega arith }
   where
     whole : AreWhole ring
@@ -38,7 +38,7 @@ is_ring = record { whole = whole; some = omega arith }
     whole (suc (suc (suc zero))) lt = refl
     whole (suc (suc (suc (suc u)))) lt = absurd (omega (arith, lt))
 
-holds : Holds ring empty stored stored
+holds : RingHolds ring empty stored stored
 holds zero lt = inl refl
 holds (suc zero) lt = inl refl
 holds (suc (suc zero)) lt = inl refl
@@ -61,7 +61,7 @@ draft_ring = draft ++ zero_block ∷ []
 abbrev pub final_ring : List (List ℕ)
 final_ring = final ++ zero_block ∷ []
 
-is_draft_ring : IsRing draft_ring
+is_draft_ring : AreRingBlocks draft_ring
 unfolding blocks_in
 is_draft_ring = record { whole = whole; some = omega arith }
   where
@@ -72,7 +72,7 @@ is_draft_ring = record { whole = whole; some = omega arith }
     whole (suc (suc (suc zero))) lt = refl
     whole (suc (suc (suc (suc u)))) lt = absurd (omega (arith, lt))
 
-is_final_ring : IsRing final_ring
+is_final_ring : AreRingBlocks final_ring
 unfolding blocks_in
 is_final_ring = record { whole = whole; some = omega arith }
   where
@@ -83,7 +83,7 @@ is_final_ring = record { whole = whole; some = omega arith }
     whole (suc (suc (suc zero))) lt = refl
     whole (suc (suc (suc (suc u)))) lt = absurd (omega (arith, lt))
 
-holds_draft : Holds draft_ring empty stored draft
+holds_draft : RingHolds draft_ring empty stored draft
 unfolding blocks_in
 holds_draft zero lt = inr refl
 holds_draft (suc zero) lt = inr refl
@@ -91,7 +91,7 @@ holds_draft (suc (suc zero)) lt = inr refl
 holds_draft (suc (suc (suc zero))) lt = inr refl
 holds_draft (suc (suc (suc (suc u)))) lt = absurd (omega (arith, lt))
 
-holds_final : Holds final_ring empty draft final
+holds_final : RingHolds final_ring empty draft final
 unfolding blocks_in
 holds_final zero lt = inr refl
 holds_final (suc zero) lt = inr refl
@@ -103,15 +103,15 @@ pub with_draft_found : found_of Log (zero_block ∷ draft_ring) ≡ found one
 unfolding blocks_in
 with_draft_found = draft_is_found Log zero_block empty draft_ring stored one is_draft_ring lies payload has_room holds_draft
 
-one_or_two : (found_of Log (zero_block ∷ final_ring) ≡ found one) ⊎ (found_of Log (zero_block ∷ final_ring) ≡ found (after one (append 2 payload)))
+one_or_two : (found_of Log (zero_block ∷ final_ring) ≡ found one) ⊎ (found_of Log (zero_block ∷ final_ring) ≡ found (after_command one (append 2 payload)))
 unfolding blocks_in
 one_or_two = marker_is_found Log zero_block empty final_ring stored one is_final_ring lies payload has_room holds_final
 
-two_lie : LiesInRing Log 4 zero_block empty final (after one (append 2 payload))
+two_lie : LiesInRing Log 4 zero_block empty final (after_command one (append 2 payload))
 two_lie = entry_lies Log zero_block empty ring stored one is_ring lies payload has_room
 
 -- a trim of the entry, and its header
-pub fits : Fits one (trim 2)
+pub fits : CanFollow one (trim 2)
 fits = (omega arith, omega arith)
 
 abbrev pub trimmed : Header
@@ -123,20 +123,20 @@ trimmed_header = header_bytes Log 2 1 0 1
 pub header_after : HeaderAfter Log 4 trimmed_header empty one (trim 2) trimmed
 header_after = record { read = refl; first = refl; start = refl; count = omega arith }
 
-holds_zeroed : Holds ring empty stored (zeroed 1 stored)
+holds_zeroed : RingHolds ring empty stored (zeroed 1 stored)
 holds_zeroed zero lt = inl refl
 holds_zeroed (suc zero) lt = inl refl
 holds_zeroed (suc (suc zero)) lt = inl refl
 holds_zeroed (suc (suc (suc zero))) lt = inl refl
 holds_zeroed (suc (suc (suc (suc u)))) lt = absurd (omega (arith, lt))
 
-trimmed_found : found_of Log (trimmed_header ∷ ring) ≡ found (after one (trim 2))
+trimmed_found : found_of Log (trimmed_header ∷ ring) ≡ found (after_command one (trim 2))
 trimmed_found = dropped_is_found Log zero_block trimmed_header empty trimmed ring stored one (trim 2) is_ring lies fits (omega arith) header_after holds_zeroed
 
-none_lie : LiesInRing Log 4 trimmed_header trimmed [] (after one (trim 2))
+none_lie : LiesInRing Log 4 trimmed_header trimmed [] (after_command one (trim 2))
 none_lie = rest_lies Log zero_block trimmed_header empty trimmed ring stored one (trim 2) is_ring lies fits (omega arith) header_after
 
-zeros_ring : IsRing (replicate 4 zero_block)
+zeros_ring : AreRingBlocks (replicate 4 zero_block)
 zeros_ring = record { whole = all_whole; some = omega arith }
   where
     all_whole : AreWhole (replicate 4 zero_block)
@@ -146,14 +146,14 @@ zeros_ring = record { whole = all_whole; some = omega arith }
     all_whole (suc (suc (suc zero))) lt = refl
     all_whole (suc (suc (suc (suc u)))) lt = absurd (omega (arith, lt))
 
-holds_zeros : Holds (replicate 4 zero_block) empty (zeroed 1 stored) (zeroed 1 stored)
+holds_zeros : RingHolds (replicate 4 zero_block) empty (zeroed 1 stored) (zeroed 1 stored)
 holds_zeros zero lt = inl refl
 holds_zeros (suc zero) lt = inl refl
 holds_zeros (suc (suc zero)) lt = inl refl
 holds_zeros (suc (suc (suc zero))) lt = inl refl
 holds_zeros (suc (suc (suc (suc u)))) lt = absurd (omega (arith, lt))
 
-none_hold : Holds (replicate 4 zero_block) trimmed [] []
+none_hold : RingHolds (replicate 4 zero_block) trimmed [] []
 none_hold = rest_holds Log zero_block trimmed_header empty trimmed (replicate 4 zero_block) stored one (trim 2) zeros_ring lies fits (omega arith) header_after holds_zeros
 
 -- an opening that found the draft behind the list makes it zero, and writes a header that counts the entry
@@ -186,7 +186,7 @@ repaired_lie : LiesInRing Log 4 repaired_header repaired stored one
 unfolding blocks_in
 repaired_lie = repaired_lies Log zero_block empty draft_ring one is_draft_ring refl with_draft_found repaired_header repaired ring is_ring repairs
 
-repaired_hold : Holds ring repaired stored stored
+repaired_hold : RingHolds ring repaired stored stored
 unfolding blocks_in
 repaired_hold = repaired_holds Log zero_block empty draft_ring one is_draft_ring refl with_draft_found repaired_header repaired ring is_ring repairs behind
   where

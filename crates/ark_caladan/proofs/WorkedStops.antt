@@ -8,7 +8,7 @@ use Rattle.ark_entry.specs.Header.{empty}
 use Rattle.ark_entry.specs.Found.{found, found_of}
 use Rattle.ark_entry.specs.Writing.{zeroed}
 use Rattle.ark_entry.proofs.WorkedRings.{payload, stored}
-use Rattle.ark_caladan.specs.Chain.{append, trim, after}
+use Rattle.ark_caladan.specs.Chain.{append, trim, after_command}
 use Rattle.ark_caladan.specs.Moving.{Moving, view, view_of, area_of}
 use Rattle.ark_caladan.specs.Moving as spec
 use Rattle.ark_caladan.proofs.Moves.{begins, writes_next}
@@ -44,7 +44,7 @@ marking =
     writes_next blocks left_over (on_device left_over refl) [] (view_of 4 zero_block 0 draft) marked (λ k. false) 3 false (Write 4 (marked 3) false false) (omega arith) (false, (λ is. absurd (cc)), refl)
     (begins blocks left_over (on_device left_over refl) [] (view_of 4 zero_block 0 draft) marked (λ k. false) (λ k lt is. absurd (cc)) (rests_at left_over (view_of 4 zero_block 0 draft) draft_stands))
 
-stopped_at_marker : (found_of Log (view blocks left_over) ≡ found one) ⊎ (found_of Log (view blocks left_over) ≡ found (after one (append 2 payload)))
+stopped_at_marker : (found_of Log (view blocks left_over) ≡ found one) ⊎ (found_of Log (view blocks left_over) ≡ found (after_command one (append 2 payload)))
 unfolding blocks_in
 stopped_at_marker =
     marker_stop 1 rest left_over (wrote 4 (marked 3)) left_over (on_device left_over refl) (omega arith) (as_it_was left_over 4 (marked 3)) left_whole
@@ -59,7 +59,7 @@ heading =
     writes_next blocks device (on_device device refl) [] (view_of 4 zero_block 0 stored) trimming (λ k. false) 0 false (Write 1 trimmed_header false false) (omega arith) (false, (λ is. absurd (cc)), refl)
     (begins blocks device (on_device device refl) [] (view_of 4 zero_block 0 stored) trimming (λ k. false) (λ k lt is. absurd (cc)) (rests_at device (view_of 4 zero_block 0 stored) stands))
 
-stopped_at_header : (found_of Log (view blocks device) ≡ found one) ⊎ (found_of Log (view blocks device) ≡ found (after one (trim 2)))
+stopped_at_header : (found_of Log (view blocks device) ≡ found one) ⊎ (found_of Log (view blocks device) ≡ found (after_command one (trim 2)))
 stopped_at_header =
     header_stop 1 rest device (wrote 1 trimmed_header) device (on_device device refl) (omega arith) (as_it_was device 1 trimmed_header) whole
     Log zero_block empty stored one lies (trim 2) fits (omega arith) trimmed_header trimmed header_after (λ k. false) heading
@@ -93,7 +93,7 @@ freeing =
     writes_next blocks trimmed_device (on_device trimmed_device refl) [] trimming freed (λ k. false) 1 false (Write 2 zero_block false false) (omega arith) (false, (λ is. absurd (cc)), refl)
     (begins blocks trimmed_device (on_device trimmed_device refl) [] trimming freed (λ k. false) (λ k lt is. absurd (cc)) (rests_at trimmed_device trimming trimmed_stands))
 
-stopped_at_zeros : found_of Log (view blocks trimmed_device) ≡ found (after one (trim 2))
+stopped_at_zeros : found_of Log (view blocks trimmed_device) ≡ found (after_command one (trim 2))
 stopped_at_zeros =
     zeros_stop 1 rest trimmed_device (wrote 2 zero_block) trimmed_device (on_device trimmed_device refl) (omega arith) (as_it_was trimmed_device 2 zero_block) trimmed_whole
     Log zero_block empty stored one lies (trim 2) fits (omega arith) trimmed_header trimmed header_after (λ k. false) freeing

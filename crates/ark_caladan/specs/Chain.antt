@@ -10,14 +10,14 @@ pub data Command : Type 0 where
   trim : ℕ → Command
   pop : ℕ → Command
 
-abbrev pub after : Entries → Command → Entries
-after l (append n payload) = record l { payloads = l.payloads ++ payload ∷ [] }
-after l (trim n) = record { first = n; payloads = drop (n - l.first) l.payloads }
-after l (pop n) = record { first = l.first + 1; payloads = drop 1 l.payloads }
+abbrev pub after_command : Entries → Command → Entries
+after_command l (append n payload) = record l { payloads = l.payloads ++ payload ∷ [] }
+after_command l (trim n) = record { first = n; payloads = drop (n - l.first) l.payloads }
+after_command l (pop n) = record { first = l.first + 1; payloads = drop 1 l.payloads }
 
 abbrev pub after_all : Entries → List Command → Entries
 after_all l [] = l
-after_all l (c ∷ cs) = after_all (after l c) cs
+after_all l (c ∷ cs) = after_all (after_command l c) cs
 
 abbrev pub next_number : Entries → ℕ
 next_number l = l.first + length l.payloads
@@ -99,7 +99,7 @@ abbrev pub in_progress : Log → Option (Command × Bool)
 in_progress g = pending g.opened g.left
 
 abbrev pub stored_after : Found → Option (Command × Bool) → Found
-stored_after (found l) (Some c) = found (if c.1 then after l c.0 else l)
+stored_after (found l) (Some c) = found (if c.1 then after_command l c.0 else l)
 stored_after (found l) None = found l
 stored_after (damaged n) c = damaged n
 
@@ -108,7 +108,7 @@ abbrev pub stored : Log → Found
 stored g = stored_after g.list (in_progress g)
 
 abbrev pub list_choices : Found → Option (Command × Bool) → List Found
-list_choices (found l) (Some c) = found l ∷ found (after l c.0) ∷ []
+list_choices (found l) (Some c) = found l ∷ found (after_command l c.0) ∷ []
 list_choices (found l) None = found l ∷ []
 list_choices (damaged n) c = damaged n ∷ []
 

@@ -7,7 +7,7 @@ use Rattle.ark_entry.specs.Found.{Entries}
 use Rattle.ark_entry.specs.Reading.{reading, Stands}
 use Rattle.ark_entry.specs.Repair.{used_by, Zeroes}
 use Rattle.ark_entry.specs.Writing.{at, Between, drafted, finished}
-use Rattle.ark_caladan.specs.Chain.{Command, append, trim, pop, after, next_number, blocks_of}
+use Rattle.ark_caladan.specs.Chain.{Command, append, trim, pop, after_command, next_number, blocks_of}
 
 -- The list's entries stand in these blocks from the header's start on, and the header counts no more than there are.
 pub record LiesInRing (kind : Kind) (room : ℕ) (header : List ℕ) (h : Header) (stored : List (List ℕ)) (l : Entries) : Type 0 where
@@ -18,13 +18,13 @@ pub record LiesInRing (kind : Kind) (room : ℕ) (header : List ℕ) (h : Header
   pub fits : length stored ≤ room
 
 -- a ring of blocks
-pub record IsRing (ring : List (List ℕ)) : Type 0 where
+pub record AreRingBlocks (ring : List (List ℕ)) : Type 0 where
   pub whole : AreWhole ring
   pub some : 0 < length ring
 
 -- the ring holds at each place, read from the start on, the block of the one list of blocks or of the other, and zeros behind them
-abbrev pub Holds : List (List ℕ) → Header → List (List ℕ) → List (List ℕ) → Type 0
-Holds ring h a b = Between (length ring) a b (reading ring h.start)
+abbrev pub RingHolds : List (List ℕ) → Header → List (List ℕ) → List (List ℕ) → Type 0
+RingHolds ring h a b = Between (length ring) a b (reading ring h.start)
 
 -- the next entry has room behind these blocks
 pub record HasRoom (room : ℕ) (stored : List (List ℕ)) (l : Entries) (payload : List ℕ) : Type 0 where
@@ -52,9 +52,9 @@ freed_by l c = blocks_of (take (dropped_by l c) l.payloads)
 -- the header that a trim or pop writes: what is left begins behind the freed blocks
 pub record HeaderAfter (kind : Kind) (room : ℕ) (header : List ℕ) (h : Header) (l : Entries) (c : Command) (new : Header) : Type 0 where
   pub read : header_of kind room header ≡ Some new
-  pub first : new.first ≡ (after l c).first
+  pub first : new.first ≡ (after_command l c).first
   pub start : new.start ≡ (h.start + freed_by l c) % room
-  pub count : new.count ≤ length (after l c).payloads
+  pub count : new.count ≤ length (after_command l c).payloads
 
 -- A moment of an opening that found this list: some of the blocks outside it are zero already, and the header is the old one, or
 -- a new one for the same list.

@@ -9,8 +9,8 @@ ghost use Rattle.ark_entry.specs.Found.{Entries, found, found_of};
 ghost use Rattle.ark_entry.specs.Reading.{reading};
 ghost use Rattle.ark_entry.specs.Repair.{used_by, blocks_read};
 ghost use Rattle.ark_entry.specs.Writing.{at, zeroed};
-ghost use Rattle.ark_caladan.specs.Chain.{Command, append, after, next_number};
-ghost use Rattle.ark_caladan.specs.Numbers.{Fits};
+ghost use Rattle.ark_caladan.specs.Chain.{Command, append, after_command, next_number};
+ghost use Rattle.ark_caladan.specs.Numbers.{CanFollow};
 ghost use Rattle.ark_caladan.specs.Leaves.{LiesInRing, HasRoom, with_draft, with_entry, dropped_by, freed_by, HeaderAfter};
 ghost use Rattle.ark_caladan.specs.Moving.{OnDisk, Moving, IsAtRest, Elsewhere, and, view, view_of, area_of, repaired, Opens};
 
@@ -87,8 +87,8 @@ pub fn rest_stops()
         → found_of kind (view (n0 ∷ rest) image) ≡ found l }
 {}
 
-/// While the deciding write of a command is made: the list before the command or after it. While the blocks that a trim or pop freed
-/// are made zero: the list after it.
+/// While the deciding write of a command is made: the list before the command or after_command it. While the blocks that a trim or pop freed
+/// are made zero: the list after_command it.
 pub fn deciding_stops()
     ensures marker_stop { (n0 : ℕ) (rest : List ℕ) (base : List (List ℕ)) (j : List Event)
         (image : List (List ℕ)) → OnDisk (n0 ∷ rest) base → 0 < length rest
@@ -102,30 +102,30 @@ pub fn deciding_stops()
         (view_of (length rest) header h.start (with_entry (length rest) h stored l payload)) done
         → (found_of kind (view (n0 ∷ rest) image) ≡ found l)
         ⊎ (found_of kind (view (n0 ∷ rest) image)
-        ≡ found (after l (append (next_number l) payload))) }
+        ≡ found (after_command l (append (next_number l) payload))) }
     ensures header_stop { (n0 : ℕ) (rest : List ℕ) (base : List (List ℕ)) (j : List Event)
         (image : List (List ℕ)) → OnDisk (n0 ∷ rest) base → 0 < length rest
         → MayLeave Whole base j image → AllBlocks image
         → (kind : Kind) (header : List ℕ) (h : Header) (stored : List (List ℕ)) (l : Entries)
         → LiesInRing kind (length rest) header h stored l
-        → (c : Command) → Fits l c → 1 ≤ dropped_by l c
+        → (c : Command) → CanFollow l c → 1 ≤ dropped_by l c
         → (new_header : List ℕ) (new : Header) → HeaderAfter kind (length rest) new_header h l c new
         → (done : ℕ → Bool) → Moving (n0 ∷ rest) base j
         (view_of (length rest) header h.start stored)
         (view_of (length rest) new_header h.start stored) done
         → (found_of kind (view (n0 ∷ rest) image) ≡ found l)
-        ⊎ (found_of kind (view (n0 ∷ rest) image) ≡ found (after l c)) }
+        ⊎ (found_of kind (view (n0 ∷ rest) image) ≡ found (after_command l c)) }
     ensures zeros_stop { (n0 : ℕ) (rest : List ℕ) (base : List (List ℕ)) (j : List Event)
         (image : List (List ℕ)) → OnDisk (n0 ∷ rest) base → 0 < length rest
         → MayLeave Whole base j image → AllBlocks image
         → (kind : Kind) (header : List ℕ) (h : Header) (stored : List (List ℕ)) (l : Entries)
         → LiesInRing kind (length rest) header h stored l
-        → (c : Command) → Fits l c → 1 ≤ dropped_by l c
+        → (c : Command) → CanFollow l c → 1 ≤ dropped_by l c
         → (new_header : List ℕ) (new : Header) → HeaderAfter kind (length rest) new_header h l c new
         → (done : ℕ → Bool) → Moving (n0 ∷ rest) base j
         (view_of (length rest) new_header h.start stored)
         (view_of (length rest) new_header h.start (zeroed (freed_by l c) stored)) done
-        → found_of kind (view (n0 ∷ rest) image) ≡ found (after l c) }
+        → found_of kind (view (n0 ∷ rest) image) ≡ found (after_command l c) }
 {}
 
 /// What is found in an image that a stop inside an opening may leave: the list that the opening found. A sync leaves what is there;

@@ -9,10 +9,10 @@ use Rattle.ark_machine.specs.Replies.{system_after, EachAnswers, Begins}
 use Rattle.ark_machine.specs.Paced.{StandsPaced}
 use Rattle.ark_laws.proofs.Confining.{each_count, performs_confined, run_paced}
 use Rattle.ark_laws.proofs.FramesWithin.{sends_front, delivers_front}
-use Rattle.ark_cli.specs.Cut.{IsFront, IsCutConfined, Shows, ShowsConfined, CutReplies, CutConfined}
+use Rattle.ark_cli.specs.Cut.{IsFront, IsCutConfined, ShowsFront, ShowsConfined, CutReplies, CutConfined}
 
 -- nothing came of the lines that are left
-pub shows_none : (s : System) (lines : List (List ℕ)) → Shows s lines []
+pub shows_none : (s : System) (lines : List (List ℕ)) → ShowsFront s lines []
 shows_none s [] = refl
 shows_none s (line ∷ lines) = inl refl
 
@@ -22,7 +22,7 @@ behind (l ∷ lines) more n h = rw h (behind lines more (length lines) refl)
 
 -- lines that were answered, and what came of the next one
 pub cut_replies_of : (s : System) (lines more : List (List ℕ)) (ms : List Meaning) (whole : List (List Event)) (part : List Event) →
-    EachSays lines ms → length whole ≡ length ms → EachAnswers s ms whole → Begins (system_after s ms whole) more (device_events part) → Shows (system_after s ms whole) more part → CutReplies s (lines ++ more) whole part
+    EachSays lines ms → length whole ≡ length ms → EachAnswers s ms whole → Begins (system_after s ms whole) more (device_events part) → ShowsFront (system_after s ms whole) more part → CutReplies s (lines ++ more) whole part
 cut_replies_of s lines more ms whole part says count each begins shows =
     let left : more ≡ drop (length whole) (lines ++ more) = sym (behind lines more (length whole) (count ∙ sym (each_says_count lines ms says))) in
     record {
@@ -32,7 +32,7 @@ cut_replies_of s lines more ms whole part says count each begins shows =
         each = each;
         begins = subst (λ (l : List (List ℕ)). Begins (system_after s ms whole) l (device_events part)) left begins;
       };
-      shows = subst (λ (l : List (List ℕ)). Shows (system_after s ms whole) l part) left shows;
+      shows = subst (λ (l : List (List ℕ)). ShowsFront (system_after s ms whole) l part) left shows;
     }
 
 front_confined : (s : System) (m : Meaning) (part : List Event) → StandsPaced s → IsFront s m part → IsCutConfined s m part
@@ -42,7 +42,7 @@ front_confined s m part paced f = record {
   delivers = delivers_front s m (ends_of (device_events part)) f.lacked (output_of part) f.more paced f.front;
 }
 
-shows_confined : (s : System) (lines : List (List ℕ)) (part : List Event) → StandsPaced s → Shows s lines part → ShowsConfined s lines part
+shows_confined : (s : System) (lines : List (List ℕ)) (part : List Event) → StandsPaced s → ShowsFront s lines part → ShowsConfined s lines part
 shows_confined s [] part paced h = h
 shows_confined s (line ∷ lines) part paced (inl none) = inl none
 shows_confined s (line ∷ lines) part paced (inr f) = inr (f.0, f.1, front_confined s f.0 part paced f.2)

@@ -3,7 +3,7 @@ use Rattle.std.proofs.Common.{◌≡◌, ◌⊎◌, inl, inr, ℕ, List, [], ◌
 use Rattle.ark_base.specs.declared.status.Status.{Status}
 use Rattle.ark_base.specs.declared.status.Status.TheVariants.{Done}
 use Rattle.ark_media.specs.Journal.{Event, History, HasFailed, onto}
-use Rattle.ark_media.specs.Calls.{Told, Beside, Rose, Keeps, KeepsAtAttach, KeepsAtFetch, KeepsAtPut}
+use Rattle.ark_media.specs.Calls.{Told, Beside, Rose, KeepsBeside, KeepsAtAttach, KeepsAtFetch, KeepsAtPut}
 use Rattle.ark_cli.specs.Session.{NoneFailed}
 use Rattle.ark_cli.specs.Complete.{HasNoFault}
 use Rattle.ark_cli.specs.Opening.{SinceMake}
@@ -17,7 +17,7 @@ unfailed_then a b c p q = record { attach = q.attach ∙ p.attach; source = q.so
 
 module _ (a b : Beside) where
   -- the disk alone was called
-  pub unfailed_kept : Keeps a b → NoneFailed a b
+  pub unfailed_kept : KeepsBeside a b → NoneFailed a b
   unfailed_kept k = record { attach = k.attach; source = k.source; sink = k.sink }
 
   pub unfailed_made : KeepsAtAttach a b → b.attach_faults ≡ a.attach_faults → NoneFailed a b

@@ -4,7 +4,7 @@ use Rattle.std.proofs.Math.Nat.{le_trans}
 use Rattle.std.specs.Prelude.{◌⊎◌, IfSome, Ok, Err}
 use Rattle.ark_base.specs.declared.status.Status.TheVariants.{Sink}
 use Rattle.ark_media.specs.Journal.{Event, Out, History, onto, fresh}
-use Rattle.ark_media.specs.Calls.{Told, Beside, making, Goes, KeepsAtAttach, KeepsAtPut, Keeps, Makes, Puts, Tells}
+use Rattle.ark_media.specs.Calls.{Told, Beside, making, Goes, KeepsAtAttach, KeepsAtPut, KeepsBeside, Makes, Puts, Tells}
 use Rattle.ark_media.specs.Going.{onto-append, rose_later, rose_from, failed_append}
 use Rattle.ark_media.specs.Parts.{IsUnfinished}
 use Rattle.ark_media.proofs.Composing.{takes_none, takes_then, goes_kept, goes_put}
@@ -59,7 +59,7 @@ ready_line size reply shown line same is = is ∙ ap (λ (x : Said). text x show
 
 -- made, formatted, and its line put or not
 module _ (size : ℕ) (device : List ℕ) (t0 t1 t2 t3 : Told) (b0 b1 b2 b3 : Beside) (events : List Event) (calls : Makes (format_calls size) true events) (shown : List ℕ) (is : shown ≡ text (Ready size 0) [])
-    (made : SinceMake size device [] [] t0 t1 b0 b1) (tells : Tells events t1 t2) (keeps : Keeps b1 b2) (kept : KeepsAtPut b2 b3) (later : b2.sink_faults ≤ b3.sink_faults) where
+    (made : SinceMake size device [] [] t0 t1 b0 b1) (tells : Tells events t1 t2) (keeps : KeepsBeside b1 b2) (kept : KeepsAtPut b2 b3) (later : b2.sink_faults ≤ b3.sink_faults) where
   since_put : (ok : Bool) → (p : Puts t2 t3 shown ok) → SinceMake size device (events ++ Out p.part ∷ []) [] t0 t3 b0 b3
   since_put ok p = since_then size device events (Out p.part ∷ []) [] [] t0 t2 t3 b0 b2 b3 (since_then size device [] events [] [] t0 t1 t2 b0 b1 b2 made (goes_kept t1 t2 b1 b2 events tells keeps))
       (goes_put t2 t3 b2 b3 p.part p.rests kept later)

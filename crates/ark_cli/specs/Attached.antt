@@ -16,7 +16,7 @@ use Rattle.ark_cli.specs.Line.{limit, within_limit}
 use Rattle.ark_cli.specs.Cut.{CutReplies, CutConfined}
 use Rattle.ark_cli.specs.Session.{IsAtEnd}
 use Rattle.ark_cli.specs.Opening.{Asks}
-use Rattle.ark_cli.specs.Ending.{Closes, IsQuiet, IsRefused}
+use Rattle.ark_cli.specs.Ending.{Closes, IsQuiet, IsDeviceRefused}
 
 -- the last block of the table of grants
 abbrev pub last_slot : ℕ
@@ -102,5 +102,5 @@ pub record IsClosedOn (device : List ℕ) (base : List (List ℕ)) (told0 told :
 abbrev pub RunsAttached : List ℕ → Told → Told → Beside → Beside → Status → Type 0
 RunsAttached device told0 told1 beside0 beside1 status =
     ((status ≡ Memory) × IsQuiet told0 told1 beside0 beside1 status)
-    ⊎ ((status ≡ Device) × IsRefused (attaching device false) told0 told1 beside0 beside1 status)
+    ⊎ ((status ≡ Device) × IsDeviceRefused (attaching device false) told0 told1 beside0 beside1 status)
     ⊎ ((base : List (List ℕ)) × IsClosedOn device base told0 told1 beside0 beside1 status)

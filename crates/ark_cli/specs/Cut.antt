@@ -24,15 +24,15 @@ pub record IsFront (s : System) (m : Meaning) (part : List Event) : Type 0 where
   pub front : text (cut_turn s m part lacked).said (cut_turn s m part lacked).bytes ≡ output_of part ++ more
 
 -- behind the whole parts stands nothing, or what came of the next line
-abbrev pub Shows : System → List (List ℕ) → List Event → Type 0
-Shows s [] part = part ≡ []
-Shows s (line ∷ lines) part = (part ≡ []) ⊎ ((m : Meaning) × Says line m × IsFront s m part)
+abbrev pub ShowsFront : System → List (List ℕ) → List Event → Type 0
+ShowsFront s [] part = part ≡ []
+ShowsFront s (line ∷ lines) part = (part ≡ []) ⊎ ((m : Meaning) × Says line m × IsFront s m part)
 
 -- From a system on, the lines of a script are answered by whole parts in turn, and the next one by a front of its part: so
 -- the output is a front of what the machines reply.
 pub record CutReplies (s : System) (lines : List (List ℕ)) (whole : List (List Event)) (part : List Event) : Type 0 where
   pub replies : Replies s lines whole part
-  pub shows : Shows (system_after s replies.meanings whole) (drop (length whole) lines) part
+  pub shows : ShowsFront (system_after s replies.meanings whole) (drop (length whole) lines) part
 
 -- The part touches only what its line may touch, and the frame of which the first bytes of its reply show something was let out or
 -- in, within the rate of its card's queue.

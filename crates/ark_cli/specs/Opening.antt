@@ -14,7 +14,7 @@ abbrev pub Asks : Opening → Beside → Beside → Type 0
 Asks opening before after = after.openings ≡ before.openings ++ opening ∷ []
 
 -- the device of so many blocks and of this name could not be made
-pub record IsUnmade (size : ℕ) (device : List ℕ) (told0 told1 : Told) (beside0 beside1 : Beside) : Type 0 where
+pub record NoDeviceMade (size : ℕ) (device : List ℕ) (told0 told1 : Told) (beside0 beside1 : Beside) : Type 0 where
   pub adds : Adds told0.history told1.history []
   pub asks : Asks (making device size false) beside0 beside1
   pub risen : Rose beside0.attach_faults beside1.attach_faults
@@ -69,7 +69,7 @@ pub record IsUnshown (size : ℕ) (device : List ℕ) (told0 told1 : Told) (besi
 -- how an opening fails
 abbrev pub OpensNot : ℕ → List ℕ → Told → Told → Beside → Beside → Status → Type 0
 OpensNot size device told0 told1 beside0 beside1 status =
-    ((status ≡ Device) × IsUnmade size device told0 told1 beside0 beside1)
+    ((status ≡ Device) × NoDeviceMade size device told0 told1 beside0 beside1)
     ⊎ ((status ≡ Device) × IsUnformatted size device told0 told1 beside0 beside1)
     ⊎ ((status ≡ Sink) × IsUnshown size device told0 told1 beside0 beside1)
 

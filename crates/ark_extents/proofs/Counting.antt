@@ -12,10 +12,10 @@ use Rattle.std.proofs.lemmas.List.Elements.{Contains-get_or, Contains-append_cas
 use Rattle.std.proofs.Math.ListN.{get_or-append}
 use Rattle.std.proofs.Math.Seq.{get_or-append_right}
 use Rattle.ark_base.specs.declared.block.Span.{Span}
-use Rattle.ark_extents.specs.Blocks.{blocks_of, runs_of, AreDistinct, AreApart}
+use Rattle.ark_extents.specs.Blocks.{blocks_of, runs_of, AreDistinct, ShareNoBlock}
 use Rattle.ark_extents.specs.Runs.{are_spans, are_apart, share_none, are_longest, ends_before, is_count, fits}
 use Rattle.ark_extents.proofs.RunLemmas.{AreLongest, blocks_of-runs_of, longest-runs_of, length-blocks_of}
-use Rattle.ark_extents.specs.Free.{Has, AnyHas}
+use Rattle.ark_extents.specs.Free.{HasBlock, AnyHas}
 use Rattle.ark_extents.proofs.Holding.{has_contained, contains_had, range_contains, distinct_from, distinct_append}
 
 -- distinct numbers below a bound are no more than it
@@ -73,7 +73,7 @@ fit_true (run ∷ runs) h below =
     (and_from (nat_le 1 run.len) (nat_le (run.start + run.len) (2 ^ 32 - 1)) (le-leb 1 run.len h.0) (le-leb (run.start + run.len) (2 ^ 32 - 1) (omega (arith, last))))
     (fit_true runs h.2 (λ n has. below n (inr has)))
 
-apart_true : (r s : Span) → 1 ≤ r.len → 1 ≤ s.len → ((n : ℕ) → Has r n → Has s n → ⊥) → are_apart r s ≡ true
+apart_true : (r s : Span) → 1 ≤ r.len → 1 ≤ s.len → ((n : ℕ) → HasBlock r n → HasBlock s n → ⊥) → are_apart r s ≡ true
 apart_true r s lr ls none = elim (cases_lt s.start (r.start + r.len)) [
   | inr before ↦ or_left (nat_le (r.start + r.len) s.start) (nat_le (s.start + s.len) r.start) (le-leb (r.start + r.len) s.start before)
   | inl reaches ↦ elim (cases_lt r.start (s.start + s.len)) [
@@ -85,13 +85,13 @@ apart_true r s lr ls none = elim (cases_lt s.start (r.start + r.len)) [
   ]
 ]
 
-all_apart : (run : Span) (runs : List Span) → 1 ≤ run.len → AreLongest runs → ((n : ℕ) → Has run n → AnyHas runs n → ⊥) → list_all (λ s. are_apart run s) runs ≡ true
+all_apart : (run : Span) (runs : List Span) → 1 ≤ run.len → AreLongest runs → ((n : ℕ) → HasBlock run n → AnyHas runs n → ⊥) → list_all (λ s. are_apart run s) runs ≡ true
 all_apart run [] some h none = refl
 all_apart run (s ∷ runs) some h none =
     and_from (are_apart run s) (list_all (λ s. are_apart run s) runs) (apart_true run s some h.0 (λ n a b. none n a (inl b))) (all_apart run runs some h.2 (λ n a b. none n a (inr b)))
 
 -- of a list with no block twice, the first part and the rest
-pub distinct_apart : (xs ys : List ℕ) → AreDistinct (xs ++ ys) → AreApart xs ys
+pub distinct_apart : (xs ys : List ℕ) → AreDistinct (xs ++ ys) → ShareNoBlock xs ys
 distinct_apart xs ys d n a b =
     let i : a.0 < length (xs ++ ys) = omega (arith, length-append xs ys, a.1) in
     let k : length xs + b.0 < length (xs ++ ys) = omega (arith, length-append xs ys, b.1) in
@@ -153,7 +153,7 @@ spans_some runs h =
         omega (arith, length-blocks_of r rs, one)
 
 -- spans one after the other
-pub joined_spans : (xs ys : List Span) → are_spans xs ≡ true → are_spans ys ≡ true → AreApart (blocks_of xs) (blocks_of ys) → length (runs_of (blocks_of xs ++ blocks_of ys)) ≤ 16
+pub joined_spans : (xs ys : List Span) → are_spans xs ≡ true → are_spans ys ≡ true → ShareNoBlock (blocks_of xs) (blocks_of ys) → length (runs_of (blocks_of xs ++ blocks_of ys)) ≤ 16
     → are_spans (runs_of (blocks_of xs ++ blocks_of ys)) ≡ true
 joined_spans xs ys hx hy apart few =
     spans_from (blocks_of xs ++ blocks_of ys) (omega (arith, length-append (blocks_of xs) (blocks_of ys), spans_some xs hx))

@@ -1,7 +1,7 @@
 -- What is said of runs, said of their blocks.
 use Rattle.std.proofs.Common.{◌≡◌, ◌↔◌, ◌⊎◌, inl, inr, ⊎_elim, ℕ, List, length, sym, ◌∙◌, ap, subst, Contains}
 use Rattle.ark_base.specs.declared.block.Span.{Span}
-use Rattle.ark_extents.specs.Blocks.{blocks_of, runs_of, AreAmong, AreApart}
+use Rattle.ark_extents.specs.Blocks.{blocks_of, runs_of, AreAmong, ShareNoBlock}
 use Rattle.ark_extents.specs.Free.{AreRising, AnyHas, Loses, Gains}
 use Rattle.ark_extents.proofs.RunLemmas.{runs_of-blocks_of}
 use Rattle.ark_extents.proofs.Ascending.{longest_rising}
@@ -26,7 +26,7 @@ module _ (runs pieces : List Span) (free blocks : List ℕ) (is : blocks_of runs
   pub among_to : AreAmong blocks free → (n : ℕ) → AnyHas pieces n → AnyHas runs n
   among_to h n b = to_runs runs free is n (h n (to_blocks pieces blocks are n b))
 
-  pub apart_to : AreApart blocks free → (n : ℕ) → AnyHas pieces n → AnyHas runs n → ⊥
+  pub apart_to : ShareNoBlock blocks free → (n : ℕ) → AnyHas pieces n → AnyHas runs n → ⊥
   apart_to h n b f = h n (to_blocks pieces blocks are n b) (to_blocks runs free is n f)
 
   pub loses_from : (new : List Span) → ((n : ℕ) → AnyHas new n ↔ (AnyHas runs n × (AnyHas pieces n → ⊥))) → Loses free (blocks_of new) blocks

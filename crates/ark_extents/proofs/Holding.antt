@@ -8,9 +8,9 @@ use Rattle.std.proofs.lemmas.List.Elements.{Contains-append_left, Contains-appen
 use Rattle.std.proofs.Math.ListN.{get_or-append}
 use Rattle.std.proofs.Math.Seq.{get_or-append_right}
 use Rattle.ark_base.specs.declared.block.Span.{Span}
-use Rattle.ark_extents.specs.Blocks.{blocks_of, AreDistinct, AreApart}
+use Rattle.ark_extents.specs.Blocks.{blocks_of, AreDistinct, ShareNoBlock}
 use Rattle.ark_extents.specs.Runs.{share_none, are_apart, has}
-use Rattle.ark_extents.specs.Free.{Has, AnyHas}
+use Rattle.ark_extents.specs.Free.{HasBlock, AnyHas}
 
 pub range_contains : (s len n : ℕ) → s ≤ n → n < s + len → Contains (range_with_len s len) n
 range_contains s len n low high =
@@ -34,10 +34,10 @@ contains_had [] n h = absurd h
 contains_had (run ∷ runs) n (inl h) = Contains-append_left (range_with_len run.start run.len) (blocks_of runs) n (range_contains run.start run.len n h.0 h.1)
 contains_had (run ∷ runs) n (inr h) = Contains-append_right (range_with_len run.start run.len) (blocks_of runs) n (contains_had runs n h)
 
-has_true : (run : Span) (n : ℕ) → has run n ≡ true → Has run n
+has_true : (run : Span) (n : ℕ) → has run n ≡ true → HasBlock run n
 has_true run n h = let p = and_parts (nat_le run.start n) (nat_lt n (run.start + run.len)) h in (leb-true run.start n p.0, ltb-true n (run.start + run.len) p.1)
 
-true_has : (run : Span) (n : ℕ) → Has run n → has run n ≡ true
+true_has : (run : Span) (n : ℕ) → HasBlock run n → has run n ≡ true
 true_has run n h = and_from (nat_le run.start n) (nat_lt n (run.start + run.len)) (le-leb run.start n h.0) (lt-ltb n (run.start + run.len) h.1)
 
 any_true : (runs : List Span) (n : ℕ) → list_any (λ run. has run n) runs ≡ true → AnyHas runs n
@@ -57,7 +57,7 @@ pub contains_any : (runs : List Span) (n : ℕ) → Contains (blocks_of runs) n 
 contains_any runs n h = true_any runs n (has_contained runs n h)
 
 -- runs apart from one have none of its blocks
-pub none_shared : (run : Span) (runs : List Span) → list_all (λ s. are_apart run s) runs ≡ true → (n : ℕ) → Has run n → AnyHas runs n → ⊥
+pub none_shared : (run : Span) (runs : List Span) → list_all (λ s. are_apart run s) runs ≡ true → (n : ℕ) → HasBlock run n → AnyHas runs n → ⊥
 none_shared run [] h n a b = b
 none_shared run (s ∷ runs) h n a (inl b) =
     let p = and_parts (are_apart run s) (list_all (λ s. are_apart run s) runs) h in
@@ -68,7 +68,7 @@ none_shared run (s ∷ runs) h n a (inr b) =
     let p = and_parts (are_apart run s) (list_all (λ s. are_apart run s) runs) h in none_shared run runs p.1 n a b
 
 -- two lists with no block in both, each with none twice
-pub distinct_append : (xs ys : List ℕ) → AreDistinct xs → AreDistinct ys → AreApart xs ys → AreDistinct (xs ++ ys)
+pub distinct_append : (xs ys : List ℕ) → AreDistinct xs → AreDistinct ys → ShareNoBlock xs ys → AreDistinct (xs ++ ys)
 distinct_append xs ys dx dy apart i k li lk e = elim (cases_lt i (length xs)) [
   | inl a ↦ elim (cases_lt k (length xs)) [
     | inl b ↦ dx i k a b (sym (get_or-append xs ys 0 i a) ∙ e ∙ get_or-append xs ys 0 k b)

@@ -5,7 +5,7 @@ use Rattle.std.proofs.lemmas.List.{take-append-drop, take_more, get_or_default, 
 use Rattle.std.proofs.Math.Seq.{drop-cons, take-append_seam}
 use Rattle.ark_base.specs.declared.block.Span.{Span}
 use Rattle.ark_extents.specs.Runs.{no_run}
-use Rattle.ark_extents.specs.Free.{AreRising, EndBy, IsPlace, Has, AnyHas, with_run}
+use Rattle.ark_extents.specs.Free.{AreRising, EndBy, IsRunPlace, HasBlock, AnyHas, with_run}
 
 -- each run ends before block n
 abbrev pub EndBefore : List Span → ℕ → Type 0
@@ -77,10 +77,10 @@ end_before_weaker m n [] le h = tt
 end_before_weaker m n (run ∷ runs) le h = (omega (arith, h.0), end_before_weaker m n runs le h.1)
 
 -- a run that may be empty, before others
-pub any_with_run : (run : Span) (runs : List Span) (n : ℕ) → AnyHas (with_run run runs) n ↔ (Has run n ⊎ AnyHas runs n)
+pub any_with_run : (run : Span) (runs : List Span) (n : ℕ) → AnyHas (with_run run runs) n ↔ (HasBlock run n ⊎ AnyHas runs n)
 any_with_run run runs n = by (run.len == 0) refl
   where
-    by : (b : Bool) → (run.len == 0) ≡ b → AnyHas (if b then runs else run ∷ runs) n ↔ (Has run n ⊎ AnyHas runs n)
+    by : (b : Bool) → (run.len == 0) ≡ b → AnyHas (if b then runs else run ∷ runs) n ↔ (HasBlock run n ⊎ AnyHas runs n)
     by true e = let none = eqb-true run.len 0 e in (λ a. inr a, λ a. ⊎_elim (λ h. absurd (omega (arith, h.0, h.1, none))) (λ h. h) a)
     by false e = (λ a. a, λ a. a)
 
@@ -108,7 +108,7 @@ at_place runs i d lt =
 
 -- a piece of the run between xs and ys, taken out
 module _ (xs : List Span) (run : Span) (ys : List Span) (piece : Span) (rising : AreRising 0 (xs ++ run ∷ ys)) (by : EndBy xs piece.start) (reaches : piece.start < run.start + run.len)
-    (some : 1 ≤ piece.len) (had : (n : ℕ) → Has piece n → AnyHas (xs ++ run ∷ ys) n) where
+    (some : 1 ≤ piece.len) (had : (n : ℕ) → HasBlock piece n → AnyHas (xs ++ run ∷ ys) n) where
   rest : AreRising 0 (run ∷ ys)
   rest = rising_rest 0 xs (run ∷ ys) rising
 
@@ -144,7 +144,7 @@ module _ (xs : List Span) (run : Span) (ys : List Span) (piece : Span) (rising :
       rising_with_run before (with_run behind ys) run.start (omega arith) (omega (arith, rest.2, b, e)) (rising_weaker (piece.start + piece.len) (before.start + before.len + 1) (with_run behind ys) (omega (arith, b, some)) right) in
       rising_append 0 run.start xs (with_run before (with_run behind ys)) (omega arith) (rising_front 0 xs (run ∷ ys) rising) (rising_before 0 xs run ys rising) left
 
-  pub cut_loses : (n : ℕ) → AnyHas (xs ++ with_run before (with_run behind ys)) n ↔ (AnyHas (xs ++ run ∷ ys) n × (Has piece n → ⊥))
+  pub cut_loses : (n : ℕ) → AnyHas (xs ++ with_run before (with_run behind ys)) n ↔ (AnyHas (xs ++ run ∷ ys) n × (HasBlock piece n → ⊥))
   cut_loses n = (
     λ a. ⊎_elim (λ x. ((any_append xs (run ∷ ys) n).1 (inl x), λ p. none_by piece.start n xs by p.0 x))
         (λ r. ⊎_elim (λ h. ((any_append xs (run ∷ ys) n).1 (inr (inl (h.0, omega (arith, h.1, b, reaches)))), λ p. omega (arith, h.1, p.0, b)))
@@ -166,7 +166,7 @@ module _ (xs : List Span) (run : Span) (ys : List Span) (piece : Span) (rising :
       e : piece.start + piece.len ≤ run.start + run.len
       e = piece_ends
 
-      kept : Has run n → (Has piece n → ⊥) → Has before n ⊎ AnyHas (with_run behind ys) n
+      kept : HasBlock run n → (HasBlock piece n → ⊥) → HasBlock before n ⊎ AnyHas (with_run behind ys) n
       kept h none = elim (cases_lt n piece.start) [
         | inl lt ↦ inl (h.0, omega (arith, lt, b))
         | inr le ↦ elim (cases_lt n (piece.start + piece.len)) [
@@ -193,7 +193,7 @@ piece_inside runs i n le by has = elim (cases_lt i (length runs)) [
 
 -- a run whose blocks the runs lack: those behind it begin at its end or later
 pub next_behind : (m : ℕ) (run : Span) (runs : List Span) → AreRising m runs → 1 ≤ run.len → ((d : Span) → 0 < length runs → run.start < (get_or runs 0 d).start + (get_or runs 0 d).len)
-    → ((n : ℕ) → Has run n → AnyHas runs n → ⊥) → AreRising (run.start + run.len) runs
+    → ((n : ℕ) → HasBlock run n → AnyHas runs n → ⊥) → AreRising (run.start + run.len) runs
 next_behind m run [] h some here apart = tt
 next_behind m run (next ∷ runs) h some here apart = (begins, h.1, h.2, h.3)
   where
@@ -226,7 +226,7 @@ module _ (run : Span) (zs : List Span) (some : 1 ≤ run.len) (fits : run.start 
   merged_rising m (x ∷ y ∷ xs) (suc k) d at h e hz = (h.0, h.1, h.2, merged_rising (x.start + x.len + 1) (y ∷ xs) k d (omega (arith, at)) h.3 e hz)
 
   pub merged_has : (n : ℕ) (xs : List Span) (k : ℕ) (d : Span) → suc k ≡ length xs → (get_or xs k d).start + (get_or xs k d).len ≡ run.start
-      → AnyHas (set xs k (record { start = (get_or xs k d).start; len = (get_or xs k d).len + run.len }) ++ zs) n ↔ (AnyHas xs n ⊎ (Has run n ⊎ AnyHas zs n))
+      → AnyHas (set xs k (record { start = (get_or xs k d).start; len = (get_or xs k d).len + run.len }) ++ zs) n ↔ (AnyHas xs n ⊎ (HasBlock run n ⊎ AnyHas zs n))
   merged_has n [] k d at e = absurd (omega arith)
   merged_has n (x ∷ []) zero d at e = (
     λ a. ⊎_elim (λ h. elim (cases_lt n run.start) [ inl lt ↦ inl (inl (h.0, omega (arith, e, lt))) | inr ge ↦ inr (inl (ge, omega (arith, h.1, e))) ]) (λ z. inr (inr z)) a,
@@ -259,7 +259,7 @@ put_twice xs ys l1 l2 l3 i a b at e1 e2 e3 =
     ∙ ap (λ t. xs ++ with_run a t) (drop_front xs (with_run b ys) i at)
 
 -- a piece of a run of the list, taken out
-module _ (runs : List Span) (i : ℕ) (piece : Span) (rising : AreRising 0 runs) (place : IsPlace runs piece.start i) (some : 1 ≤ piece.len) (had : (n : ℕ) → Has piece n → AnyHas runs n) where
+module _ (runs : List Span) (i : ℕ) (piece : Span) (rising : AreRising 0 runs) (place : IsRunPlace runs piece.start i) (some : 1 ≤ piece.len) (had : (n : ℕ) → HasBlock piece n → AnyHas runs n) where
   pub cut_inside : i < length runs
   cut_inside = piece_inside runs i piece.start place.within place.before (had piece.start (omega arith, omega (arith, some)))
 
@@ -270,7 +270,7 @@ module _ (runs : List Span) (i : ℕ) (piece : Span) (rising : AreRising 0 runs)
     split_rising : AreRising 0 (take i runs ++ run ∷ drop (i + 1) runs)
     split_rising = subst (AreRising 0) (sym split) rising
 
-    split_had : (n : ℕ) → Has piece n → AnyHas (take i runs ++ run ∷ drop (i + 1) runs) n
+    split_had : (n : ℕ) → HasBlock piece n → AnyHas (take i runs ++ run ∷ drop (i + 1) runs) n
     split_had n h = subst (λ (l : List Span). AnyHas l n) (sym split) (had n h)
 
     reaches : piece.start < run.start + run.len
@@ -291,8 +291,8 @@ module _ (runs : List Span) (i : ℕ) (piece : Span) (rising : AreRising 0 runs)
     pub left_rising : AreRising 0 left
     left_rising = cut_rising (take i runs) run (drop (i + 1) runs) piece split_rising place.before reaches some split_had
 
-    pub left_loses : (n : ℕ) → AnyHas left n ↔ (AnyHas runs n × (Has piece n → ⊥))
-    left_loses n = subst (λ (l : List Span). AnyHas left n ↔ (AnyHas l n × (Has piece n → ⊥))) split (cut_loses (take i runs) run (drop (i + 1) runs) piece split_rising place.before reaches some split_had n)
+    pub left_loses : (n : ℕ) → AnyHas left n ↔ (AnyHas runs n × (HasBlock piece n → ⊥))
+    left_loses n = subst (λ (l : List Span). AnyHas left n ↔ (AnyHas l n × (HasBlock piece n → ⊥))) split (cut_loses (take i runs) run (drop (i + 1) runs) piece split_rising place.before reaches some split_had n)
 
 -- a run behind the first i, in one with the last of them
 module _ (runs : List Span) (i : ℕ) (run last : Span) (le : i ≤ length runs) (pos : 0 < i) (is : last ≡ get_or runs (i - 1) last) (ends : last.start + last.len ≡ run.start)
@@ -314,9 +314,9 @@ module _ (runs : List Span) (i : ℕ) (run last : Span) (le : i ≤ length runs)
       (subst (λ (l : Span). l.start + l.len ≡ run.start → AreRising 0 (set (take i runs) (i - 1) (record { start = l.start; len = l.len + run.len }) ++ drop i runs)) is_last
       (λ e. merged_rising run (drop i runs) some fits 0 (take i runs) (i - 1) last at_last front e rest) ends)
 
-  pub joined_has : (n : ℕ) → AnyHas (set runs (i - 1) joined) n ↔ (AnyHas (take i runs) n ⊎ (Has run n ⊎ AnyHas (drop i runs) n))
-  joined_has n = subst (λ (l : List Span). AnyHas l n ↔ (AnyHas (take i runs) n ⊎ (Has run n ⊎ AnyHas (drop i runs) n))) (sym set_last)
-      (subst (λ (l : Span). l.start + l.len ≡ run.start → AnyHas (set (take i runs) (i - 1) (record { start = l.start; len = l.len + run.len }) ++ drop i runs) n ↔ (AnyHas (take i runs) n ⊎ (Has run n ⊎ AnyHas (drop i runs) n))) is_last
+  pub joined_has : (n : ℕ) → AnyHas (set runs (i - 1) joined) n ↔ (AnyHas (take i runs) n ⊎ (HasBlock run n ⊎ AnyHas (drop i runs) n))
+  joined_has n = subst (λ (l : List Span). AnyHas l n ↔ (AnyHas (take i runs) n ⊎ (HasBlock run n ⊎ AnyHas (drop i runs) n))) (sym set_last)
+      (subst (λ (l : Span). l.start + l.len ≡ run.start → AnyHas (set (take i runs) (i - 1) (record { start = l.start; len = l.len + run.len }) ++ drop i runs) n ↔ (AnyHas (take i runs) n ⊎ (HasBlock run n ⊎ AnyHas (drop i runs) n))) is_last
       (λ e. merged_has run (drop i runs) some fits n (take i runs) (i - 1) last at_last e) ends)
 
 -- a run of its own behind the first i
@@ -333,8 +333,8 @@ module _ (runs now : List Span) (i : ℕ) (run : Span) (is : now ≡ take i runs
           let same : get_or (take i runs) k d ≡ get_or runs (i - 1) no_run = get_or-take i runs k d (omega (arith, size, at)) ∙ get_or_default runs k d no_run (omega (arith, size, at, le)) ∙ ap (λ j. get_or runs j no_run) place in
           apart (omega (arith, size, at)) (sym (ap (λ (s : Span). s.start + s.len) same) ∙ e)
 
-  pub put_has : (n : ℕ) → AnyHas now n ↔ (AnyHas (take i runs) n ⊎ (Has run n ⊎ AnyHas (drop i runs) n))
-  put_has n = subst (λ (l : List Span). AnyHas l n ↔ (AnyHas (take i runs) n ⊎ (Has run n ⊎ AnyHas (drop i runs) n))) (sym is) (
+  pub put_has : (n : ℕ) → AnyHas now n ↔ (AnyHas (take i runs) n ⊎ (HasBlock run n ⊎ AnyHas (drop i runs) n))
+  put_has n = subst (λ (l : List Span). AnyHas l n ↔ (AnyHas (take i runs) n ⊎ (HasBlock run n ⊎ AnyHas (drop i runs) n))) (sym is) (
     λ a. ⊎_elim (λ x. inl x) (λ r. inr ((any_with_run run (drop i runs) n).0 r)) ((any_append (take i runs) (with_run run (drop i runs)) n).0 a),
     λ a. (any_append (take i runs) (with_run run (drop i runs)) n).1 (⊎_elim (λ x. inl x) (λ r. inr ((any_with_run run (drop i runs) n).1 r)) a),
   )
@@ -346,7 +346,7 @@ front_length [] (suc i) e = absurd (omega (arith, e))
 front_length (x ∷ xs) (suc i) e = omega (arith, front_length xs i (omega (arith, e)))
 
 -- a run whose blocks the runs lack, at its place among them
-module _ (runs : List Span) (i : ℕ) (run : Span) (rising : AreRising 0 runs) (place : IsPlace runs run.start i) (some : 1 ≤ run.len) (apart : (n : ℕ) → Has run n → AnyHas runs n → ⊥) where
+module _ (runs : List Span) (i : ℕ) (run : Span) (rising : AreRising 0 runs) (place : IsRunPlace runs run.start i) (some : 1 ≤ run.len) (apart : (n : ℕ) → HasBlock run n → AnyHas runs n → ⊥) where
   pub place_front : AreRising 0 (take i runs)
   place_front = rising_front 0 (take i runs) (drop i runs) (subst (AreRising 0) (sym (take-append-drop i runs)) rising)
 

@@ -24,8 +24,8 @@ abbrev pub AreDistinct : List ℕ → Type 0
 AreDistinct blocks = (i k : ℕ) → i < length blocks → k < length blocks → get_or blocks i 0 ≡ get_or blocks k 0 → i ≡ k
 
 -- no block is in both
-abbrev pub AreApart : List ℕ → List ℕ → Type 0
-AreApart xs ys = (n : ℕ) → Contains xs n → Contains ys n → ⊥
+abbrev pub ShareNoBlock : List ℕ → List ℕ → Type 0
+ShareNoBlock xs ys = (n : ℕ) → Contains xs n → Contains ys n → ⊥
 
 -- each of these blocks is among those
 abbrev pub AreAmong : List ℕ → List ℕ → Type 0

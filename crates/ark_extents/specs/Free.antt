@@ -29,16 +29,16 @@ EndBy [] n = Unit {0}
 EndBy (run ∷ runs) n = (run.start + run.len ≤ n) × EndBy runs n
 
 -- the block is one of the run's
-abbrev pub Has : Span → ℕ → Type 0
-Has run n = (run.start ≤ n) × (n < run.start + run.len)
+abbrev pub HasBlock : Span → ℕ → Type 0
+HasBlock run n = (run.start ≤ n) × (n < run.start + run.len)
 
 -- one of the runs has the block
 abbrev pub AnyHas : List Span → ℕ → Type 0
 AnyHas [] n = ⊥
-AnyHas (run ∷ runs) n = Has run n ⊎ AnyHas runs n
+AnyHas (run ∷ runs) n = HasBlock run n ⊎ AnyHas runs n
 
 -- the place of the first of these runs that ends behind block n, or their number where none does
-pub record IsPlace (runs : List Span) (n i : ℕ) : Type 0 where
+pub record IsRunPlace (runs : List Span) (n i : ℕ) : Type 0 where
   pub within : i ≤ length runs
   pub before : EndBy (take i runs) n
   pub here : i < length runs → n < (get_or runs i no_run).start + (get_or runs i no_run).len

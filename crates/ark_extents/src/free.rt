@@ -1,6 +1,6 @@
 ghost use Rattle.std.specs.Prelude.{◌≡◌, ◌≤◌, ◌<◌, ◌+◌, ◌-◌, ◌^◌, ◌↔◌, true, false, All, length, take, drop, Err, IsTrue, IfOk, OnOk, OnErr};
 ghost use Rattle.std.specs.List.Sorted.{IsStrictlyIncreasing};
-ghost use Rattle.ark_extents.specs.Blocks.{runs_of, AreAmong, AreApart};
+ghost use Rattle.ark_extents.specs.Blocks.{runs_of, AreAmong, ShareNoBlock};
 ghost use Rattle.ark_extents.specs.Runs as spec;
 ghost use Rattle.ark_extents.specs.Free.{free_at_first, Loses, Gains};
 
@@ -124,7 +124,7 @@ impl FreeMap {
     /// Gives these blocks back, none of which is free.
     pub fn give(&mut self, spans: &Spans)
         requires room { length (runs_of self.old) + 16 ≤ 4096 }
-        requires taken { AreApart spans.now self.old }
+        requires taken { ShareNoBlock spans.now self.old }
         ensures given { Gains self.old self.new spans.now }
     {
         add_all(&mut self.runs, spans.as_slice());

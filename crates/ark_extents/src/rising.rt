@@ -1,13 +1,13 @@
 ghost use Rattle.std.specs.Prelude.{◌≡◌, ◌≤◌, ◌<◌, ◌+◌, ◌-◌, ◌^◌, ◌⊎◌, ◌↔◌, ◌++◌, ℕ, true, IsTrue, length, take, drop, vec_len, vec_capacity};
 ghost use Rattle.ark_extents.specs.Runs.{are_spans};
-ghost use Rattle.ark_extents.specs.Free.{AreRising, EndBy, IsPlace, Has, AnyHas, with_run};
+ghost use Rattle.ark_extents.specs.Free.{AreRising, EndBy, IsRunPlace, HasBlock, AnyHas, with_run};
 
 use crate::runs::end;
 use ark_base::Span;
 
 /// The place of the first run that ends behind block `n`, or the number of runs where none does.
 fn place_of(runs: &[Span], n: u32) -> usize
-    ensures place { IsPlace runs.now n result }
+    ensures place { IsRunPlace runs.now n result }
 {
     for i in 0..runs.len() {
         if u64::from(n) < end(runs[i]) {
@@ -38,11 +38,11 @@ pub fn put(runs: &mut Vec<Span>, i: usize, run: Span)
 fn cut(runs: &mut Vec<Span>, piece: Span)
     requires rising { AreRising 0 runs.old.items }
     requires some { 1 ≤ piece.len }
-    requires had { (n : ℕ) → Has piece n → AnyHas runs.old.items n }
+    requires had { (n : ℕ) → HasBlock piece n → AnyHas runs.old.items n }
     requires room { length runs.old.items < vec_capacity runs.old }
     ensures rising { AreRising 0 runs.new.items }
     ensures lost { (n : ℕ) → AnyHas runs.new.items n
-        ↔ (AnyHas runs.old.items n × (Has piece n → ⊥)) }
+        ↔ (AnyHas runs.old.items n × (HasBlock piece n → ⊥)) }
     ensures len { length runs.new.items ≤ length runs.old.items + 1 }
     ensures capacity { vec_capacity runs.old ≤ vec_capacity runs.new }
 {
@@ -73,8 +73,8 @@ fn with_next(runs: &mut Vec<Span>, i: usize, run: Span) -> Span
     ensures fits { result.start + result.len ≤ 2 ^ 32 - 1 }
     ensures rising { AreRising (result.start + result.len + 1) (drop i runs.new.items) }
     ensures blocks { (n : ℕ)
-        → (Has result n ⊎ AnyHas (drop i runs.new.items) n)
-        ↔ (Has run n ⊎ AnyHas (drop i runs.old.items) n) }
+        → (HasBlock result n ⊎ AnyHas (drop i runs.new.items) n)
+        ↔ (HasBlock run n ⊎ AnyHas (drop i runs.old.items) n) }
     ensures place { i ≤ vec_len runs.new }
     ensures len { vec_len runs.new ≤ vec_len runs.old }
     ensures size { length runs.new.items ≤ length runs.old.items }
@@ -107,7 +107,7 @@ fn put_behind(runs: &mut Vec<Span>, i: usize, run: Span)
     ensures rising { AreRising 0 runs.new.items }
     ensures blocks { (n : ℕ)
         → AnyHas runs.new.items n
-        ↔ (AnyHas (take i runs.old.items) n ⊎ (Has run n ⊎ AnyHas (drop i runs.old.items) n)) }
+        ↔ (AnyHas (take i runs.old.items) n ⊎ (HasBlock run n ⊎ AnyHas (drop i runs.old.items) n)) }
     ensures len { length runs.new.items ≤ length runs.old.items + 1 }
     ensures capacity { vec_capacity runs.old ≤ vec_capacity runs.new }
 {
@@ -129,10 +129,10 @@ fn add(runs: &mut Vec<Span>, run: Span)
     requires rising { AreRising 0 runs.old.items }
     requires some { 1 ≤ run.len }
     requires fits { run.start + run.len ≤ 2 ^ 32 - 1 }
-    requires apart { (n : ℕ) → Has run n → AnyHas runs.old.items n → ⊥ }
+    requires apart { (n : ℕ) → HasBlock run n → AnyHas runs.old.items n → ⊥ }
     requires room { length runs.old.items < vec_capacity runs.old }
     ensures rising { AreRising 0 runs.new.items }
-    ensures gained { (n : ℕ) → AnyHas runs.new.items n ↔ (AnyHas runs.old.items n ⊎ Has run n) }
+    ensures gained { (n : ℕ) → AnyHas runs.new.items n ↔ (AnyHas runs.old.items n ⊎ HasBlock run n) }
     ensures len { length runs.new.items ≤ length runs.old.items + 1 }
     ensures capacity { vec_capacity runs.old ≤ vec_capacity runs.new }
 {
@@ -145,7 +145,7 @@ fn add(runs: &mut Vec<Span>, run: Span)
 fn has_piece(runs: &[Span], piece: Span) -> bool
     requires rising { AreRising 0 runs.now }
     requires some { 1 ≤ piece.len }
-    ensures had { IsTrue result ↔ ((n : ℕ) → Has piece n → AnyHas runs.now n) }
+    ensures had { IsTrue result ↔ ((n : ℕ) → HasBlock piece n → AnyHas runs.now n) }
 {
     let i = place_of(runs, piece.start);
     if i >= runs.len() {

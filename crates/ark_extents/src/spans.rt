@@ -1,5 +1,5 @@
 ghost use Rattle.std.specs.Prelude.{◌≡◌, ◌≤◌, ◌<◌, ◌-◌, ◌^◌, ◌++◌, ◌↔◌, true, All, Contains, length, slice_get, IsTrue, IsSome, IfSome};
-ghost use Rattle.ark_extents.specs.Blocks.{blocks_of, runs_of, AreDistinct, AreApart};
+ghost use Rattle.ark_extents.specs.Blocks.{blocks_of, runs_of, AreDistinct, ShareNoBlock};
 ghost use Rattle.ark_extents.specs.Runs as spec;
 
 use crate::builder::RunBuilder;
@@ -109,7 +109,7 @@ impl Spans {
 
     /// These blocks and then those of `more`; `None` where they form more than 16 runs.
     pub fn join(&self, more: &Spans) -> Option<Spans>
-        requires apart { AreApart self.now more.now }
+        requires apart { ShareNoBlock self.now more.now }
         ensures blocks { IfSome result (λ s. s ≡ self.now ++ more.now) }
         ensures found { IsSome result ↔ (length (runs_of (self.now ++ more.now)) ≤ 16) }
     {

@@ -9,7 +9,7 @@ use Rattle.ark_media.specs.Parts.{parts}
 use Rattle.ark_script.specs.Lines.{lines_of}
 use Rattle.ark_cli.specs.Words.{IsRun}
 use Rattle.ark_cli.specs.Ending as ending
-use Rattle.ark_cli.specs.Ending.{Does, HasRun, Ends, Closes, IsQuiet, IsRefused, IsClosed}
+use Rattle.ark_cli.specs.Ending.{Does, HasRun, Ends, Closes, IsQuiet, IsDeviceRefused, IsClosed}
 use Rattle.ark_record.specs.Replay.{Model}
 use Rattle.ark_record.specs.Watch.{told_if, told_of, beside_of}
 use Rattle.ark_file.specs.Ended.{IsUnopened, EndsBy, IsRunOn, HasEnded, no_command, no_memory, no_device, ran, IsDone}
@@ -69,7 +69,7 @@ module _ (old now : Model) (honest : now.is_honest ≡ true) where
     taken = taken [] quiet.goes.takes ∙ append-nil old.taken;
   }
 
-  refused : (opening : Opening) (status : Status) → IsRefused opening (told_of old) (told_of now) (beside_of old) (beside_of now) status → IsUnopened (opening ∷ []) status old now
+  refused : (opening : Opening) (status : Status) → IsDeviceRefused opening (told_of old) (told_of now) (beside_of old) (beside_of now) status → IsUnopened (opening ∷ []) status old now
   refused opening status r = record {
     closing = r.closing;
     closes = r.closes;

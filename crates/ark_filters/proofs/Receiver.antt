@@ -5,7 +5,7 @@ use Rattle.std.specs.List.{Contains, find}
 use Rattle.std.proofs.lemmas.Bool.{false_from_ne_true}
 use Rattle.std.proofs.lemmas.List.Elements.{All-get_or, All-from_recursion}
 use Rattle.ark_packet.specs.Ip.{seen}
-use Rattle.ark_packet.specs.Frame.{target_of, source_of, proto_of, Says}
+use Rattle.ark_packet.specs.Frame.{target_of, source_of, proto_of, ReadsFrame}
 use Rattle.ark_packet.specs.declared.frame.Frame.{Frame}
 use Rattle.ark_packet.specs.declared.own.Own.{Own}
 use Rattle.ark_filters.specs.declared.live.Live.{Live}
@@ -14,7 +14,7 @@ use Rattle.ark_filters.specs.Rules.{receiver, classified, IsFor, Precedes, InOrd
 use Rattle.ark_filters.proofs.OneTakes.{taken, apart}
 
 -- by the frame as it was read
-pub classified_by : (bytes : List ℕ) (frame : Frame) (own : Own) (rules : List Live) → Says bytes frame
+pub classified_by : (bytes : List ℕ) (frame : Frame) (own : Own) (rules : List Live) → ReadsFrame bytes frame
     → classified (λ f. frame_matches f frame own) rules ≡ classified (λ f. is_in f bytes own) rules
 classified_by bytes frame own rules says =
     ap (λ x. classified (λ f. parts_match f x frame.to frame.proto (seen frame.ip) own) rules) says.from

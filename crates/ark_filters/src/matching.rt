@@ -1,6 +1,6 @@
 ghost use Rattle.std.specs.Prelude.{◌≡◌, ◌≤◌, List, ℕ};
 ghost use Rattle.ark_packet.specs.Ip.{plain, seen};
-ghost use Rattle.ark_packet.specs.Frame.{Says};
+ghost use Rattle.ark_packet.specs.Frame.{ReadsFrame};
 ghost use Rattle.ark_filters.specs.Filter.{Counted};
 ghost use Rattle.ark_filters.specs.Layer.{layer_of};
 ghost use Rattle.ark_filters.specs.In as spec;
@@ -93,7 +93,7 @@ fn parts_match(filter: &Filter, frame: &Frame<'_>, own: &Own) -> bool
 /// the payload has 8 or 20 bytes at least, and the own side's port is one of the services. Checksums are not looked at.
 pub fn matches(filter: &Filter, frame: &Frame<'_>, own: &Own) -> bool
     requires counted { Counted filter.now }
-    ensures matched { (bytes : List ℕ) → Says bytes frame.now
+    ensures matched { (bytes : List ℕ) → ReadsFrame bytes frame.now
         → result ≡ spec.is_in filter.now bytes own.now }
     ensures read { result ≡ spec.frame_matches filter.now frame.now own.now }
 {

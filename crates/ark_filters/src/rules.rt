@@ -1,6 +1,6 @@
 ghost use Rattle.std.specs.Prelude.{◌≡◌, ◌↔◌, ◌≤◌, ◌<◌, ℕ, List, [], ◌∷◌, ◌++◌, Some, None, Err, map, Contains, IfOk, IfErr, OnOk, OnErr};
 ghost use Rattle.std.specs.List.{All, list_any, count_by};
-ghost use Rattle.ark_packet.specs.Frame.{Says};
+ghost use Rattle.ark_packet.specs.Frame.{ReadsFrame};
 ghost use Rattle.ark_packet.specs.declared.own.Own.{Own};
 ghost use Rattle.ark_filters.specs.In.{is_in};
 ghost use Rattle.ark_filters.specs.Rule.{IsReceive, IsRule, IsOwn};
@@ -124,9 +124,9 @@ impl Rules {
     /// Whom a frame that comes in is for: owner and VNIC of the one receive filter that is assigned and that it matches;
     /// `None` exactly where there is none.
     pub fn classify(&self, frame: &Frame<'_>, own: &Own) -> Option<(u8, u64)>
-        ensures found { (bytes : List ℕ) → Says bytes frame.now
+        ensures found { (bytes : List ℕ) → ReadsFrame bytes frame.now
             → result ≡ spec.classified (λ f. is_in f bytes own.now) self.now }
-        ensures receiver { (bytes : List ℕ) → Says bytes frame.now → (owner vnic : ℕ)
+        ensures receiver { (bytes : List ℕ) → ReadsFrame bytes frame.now → (owner vnic : ℕ)
             → (result ≡ Some (owner, vnic))
             ↔ spec.IsFor (λ f. is_in f bytes own.now) self.now owner vnic }
         ensures one { (bytes : List ℕ)
@@ -137,7 +137,7 @@ impl Rules {
 
     /// Whether a VNIC may send a frame: a transmit filter that is assigned to it matches.
     pub fn allows(&self, vnic: u64, frame: &Frame<'_>, own: &Own) -> bool
-        ensures any { (bytes : List ℕ) → Says bytes frame.now
+        ensures any { (bytes : List ℕ) → ReadsFrame bytes frame.now
             → result ≡ list_any (spec.sends (λ f. is_in f bytes own.now) vnic) self.now }
     {
         among::allows(&self.live, vnic, frame, own)

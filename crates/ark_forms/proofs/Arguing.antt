@@ -6,7 +6,7 @@ use Rattle.std.proofs.lemmas.Option.{cond_some, same_Some}
 use Rattle.std.proofs.lemmas.Slice.Eq.{bytes_eq-Decides}
 use Rattle.hex.specs.Hex.{is_hex_digit}
 use Rattle.ark_base.specs.Name.{is_name}
-use Rattle.ark_script.specs.Arguments.{IsName, IsOptional, IsNumber, IsSize, IsHex, IsHex0}
+use Rattle.ark_script.specs.Arguments.{IsName, IsOptional, IsNumber, IsRingSize, IsHex, IsHex0}
 use Rattle.ark_script.specs.Line.{spelled}
 use Rattle.ark_forms.specs.Reading.{name_of, optional_of, number_of, size_of, hex_of, hex0_of}
 use Rattle.ark_script.proofs.Digits.{length-spelled}
@@ -62,17 +62,17 @@ optional_reads = record { sound = sound; complete = complete }
         let other : bytes_eq word (codes "-") ≡ false = other_text word (codes "-") (λ e. no_dash (rw (← h.0, e) at h.1)) in
         rw (other, name_reads.complete word name h) refl
 
-pub size_reads : Reads size_of IsSize
+pub size_reads : Reads size_of IsRingSize
 unfolding size_of
 size_reads = record { sound = sound; complete = complete }
   where
-    sound : (word : List ℕ) (n : ℕ) → size_of word ≡ Some n → IsSize n word
+    sound : (word : List ℕ) (n : ℕ) → size_of word ≡ Some n → IsRingSize n word
     sound word n h =
         let found = bind_some (number_of 2 256 word) _ n h in
         let size = cond_some _ _ _ found.2 in
-        subst (λ (m : ℕ). IsSize m word) size.1 (number_read 2 256 word found.0 found.1, size.0)
+        subst (λ (m : ℕ). IsRingSize m word) size.1 (number_read 2 256 word found.0 found.1, size.0)
 
-    complete : (word : List ℕ) (n : ℕ) → IsSize n word → size_of word ≡ Some n
+    complete : (word : List ℕ) (n : ℕ) → IsRingSize n word → size_of word ≡ Some n
     complete word n h = rw (number_gives 2 256 word n (omega arith) h.0, h.1) refl
 
 pub hex_reads : (fewest most : ℕ) → Reads (hex_of fewest most) (IsHex fewest most)

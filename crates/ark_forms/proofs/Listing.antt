@@ -2,7 +2,7 @@
 use Rattle.std.proofs.Common.{◌≡◌, ℕ, suc, ◌+◌, ◌-◌, ◌<◌, ◌≤◌, List, [], ◌∷◌, ◌++◌, length, take, drop, get_or, set, replicate, Option, Some, None, refl, sym, ap, ◌∙◌, arith}
 use Rattle.std.proofs.lemmas.List.{append_assoc, append-nil, drop_all, drop_more, take_more_set, length-set, length-replicate, length-take-le, drop-set-lt, drop-replicate, take-append-drop}
 use Rattle.std.proofs.Math.Nat.{sub-zero}
-use Rattle.ark_script.specs.Lists.{filled}
+use Rattle.ark_script.specs.Lists.{eight_places}
 use Rattle.ark_forms.specs.Listed.{each_of}
 use Rattle.ark_forms.specs.Reading.{◌>>=◌}
 
@@ -69,7 +69,7 @@ all_read f room words none count places all h =
 
 -- the places are those of the items that were read
 pub places_filled : {A : Type 0} (f : List ℕ → Option A) (words : List (List ℕ)) (none : A) (count : ℕ) (places : List A)
-    → Read f 8 words none count places → (length (take count places) ≡ count) × (filled none (take count places) ≡ places)
+    → Read f 8 words none count places → (length (take count places) ≡ count) × (eight_places none (take count places) ≡ places)
 places_filled f words none count places h =
     let len : length (take count places) ≡ count = length-take-le count places (let size = h.size in let within = h.within in omega arith) in
     (len, rw (len, ← h.free) (take-append-drop count places))

@@ -15,9 +15,9 @@ use Rattle.ark_filters.specs.declared.filter.Peers.{Peers}
 use Rattle.ark_filters.specs.declared.filter.Services.{Services}
 use Rattle.ark_filters.specs.declared.filter.Proto.{Proto}
 use Rattle.ark_filters.specs.declared.filter.Proto.TheVariants as proto
-use Rattle.ark_script.specs.Arguments.{IsHex, IsMac, AreOctets}
+use Rattle.ark_script.specs.Arguments.{IsHex, IsMacWord, AreOctets}
 use Rattle.ark_script.specs.Line.{digit, spelled}
-use Rattle.ark_script.specs.Lists.{EachIs, filled, no_peer, IsPeer, ArePeers, ArePorts, IsService, AreServices}
+use Rattle.ark_script.specs.Lists.{EachIs, eight_places, no_peer, IsPeer, ArePeers, ArePorts, IsService, AreServices}
 use Rattle.ark_script.specs.Words.{parts_of}
 
 -- Octets.
@@ -41,7 +41,7 @@ hex_octets low high bytes word h i = subst (λ (xs : List ℕ). get_or xs i 0 < 
 
 -- Peers.
 
-mac_is : (mac word : List ℕ) → IsMac mac word → rule.IsMac mac
+mac_is : (mac word : List ℕ) → IsMacWord mac word → rule.IsMac mac
 mac_is mac word h = record { six = omega (arith, h.3, h.4); octets = hex_octets 6 6 mac word h }
 
 ip_is : (ip : List ℕ) (words : List (List ℕ)) → AreOctets ip words → IsPadded (ip ++ (0 ∷ (0 ∷ [])))
@@ -109,7 +109,7 @@ record Places {A : Type 0} (Q : A → Type 0) (none : A) (count : ℕ) (items : 
   used : All Q (take count items)
   free : drop count items ≡ replicate (8 - count) none
 
-places_of : {A : Type 0} (Q : A → Type 0) (none : A) (items : List A) → All Q items → length items ≤ 8 → Places Q none (length items) (filled none items)
+places_of : {A : Type 0} (Q : A → Type 0) (none : A) (items : List A) → All Q items → length items ≤ 8 → Places Q none (length items) (eight_places none items)
 places_of Q none items all few = record {
   few = few;
   room = length-append items (replicate (8 - length items) none) ∙ ap (λ n. length items + n) (length-replicate (8 - length items) none) ∙ omega (arith, few);

@@ -14,7 +14,7 @@ use Rattle.ark_held.specs.Words.{AreaList}
 use Rattle.ark_held.specs.Totals.{bit, total, uses}
 use Rattle.ark_held.specs.Kept.{BufferKept}
 use Rattle.ark_held.specs.Stored.{buffer_kept}
-use Rattle.ark_held.specs.Held.{Fits, Holds}
+use Rattle.ark_held.specs.Held.{IsObjectOf, Holds}
 use Rattle.ark_held.specs.Keeps.{Keeps}
 use Rattle.ark_held.specs.Beyond.{Beyond, around}
 use Rattle.ark_held.specs.declared.app.App.{App}
@@ -58,7 +58,7 @@ module _ (r : Beyond) (app app1 : App) (numbers : List ℕ) (machine : Machine) 
 
 -- a buffer's key has an entry
 module _ (r : Beyond) (app : App) where
-  in_use : (l : List ℕ) (c : Capability) (o : Object) → c.kind ≡ cap_kind.Buf → Fits (around r app) l c o → buffer_kept app.store.buffers c.key ≡ None → ⊥
+  in_use : (l : List ℕ) (c : Capability) (o : Object) → c.kind ≡ cap_kind.Buf → IsObjectOf (around r app) l c o → buffer_kept app.store.buffers c.key ≡ None → ⊥
   in_use l c (Objects.buffer b) kind f gone = not_some (buffer_kept app.store.buffers c.key) f.entry gone f.kept
   in_use l c (Objects.raw z) kind f gone = absurd (cc (kind, f.its_kind))
   in_use l c (Objects.log z) kind f gone = absurd (cc (kind, f.its_kind))

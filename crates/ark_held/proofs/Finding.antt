@@ -5,16 +5,16 @@ use Rattle.ark_caps.specs.Labels.{value_at}
 use Rattle.ark_caps.specs.declared.capability.Capability.{Capability}
 use Rattle.ark_machine.specs.Objects
 use Rattle.ark_machine.specs.Objects.{Object, is_vsa}
-use Rattle.ark_machine.specs.Machine.{Held, at, is_full, count_of}
+use Rattle.ark_machine.specs.Machine.{Held, at, is_full, held_count}
 use Rattle.ark_held.specs.Words.{Labels}
 use Rattle.ark_held.specs.Around.{Around}
-use Rattle.ark_held.specs.Held.{Fits, Matches, AllMatch, AtLabel, Holds, is_area, area_labels}
+use Rattle.ark_held.specs.Held.{IsObjectOf, Matches, AllMatch, AtLabel, Holds, is_area, area_labels}
 use Rattle.ark_held.proofs.Lists.{by_test, same_name, not_some, some_same}
 
 -- Under one label.
 
 matches_at : (x : Around) (p : List ℕ × Capability) (h : Held) (l : List ℕ) → p.0 ≡ l → Matches x p h → Matches x (l, p.1) h
-matches_at x p h l same m = record { label = m.label ∙ same; serial = m.serial; object = subst (λ (k : List ℕ). Fits x k p.1 h.object) same m.object }
+matches_at x p h l same m = record { label = m.label ∙ same; serial = m.serial; object = subst (λ (k : List ℕ). IsObjectOf x k p.1 h.object) same m.object }
 
 pub found : (x : Around) (l : List ℕ) (ps : Labels) (hs : List Held) → AllMatch x ps hs → AtLabel x l (value_at ps l) (find (λ h. bytes_eq l h.label) hs)
 found x l [] [] all = tt
@@ -64,7 +64,7 @@ there_same x l h = by (value_at x.labels l) (at x.machine l) (found x l x.labels
 
 -- Counts.
 
-kind_is : (x : Around) (l : List ℕ) (c : Capability) (o : Object) → Fits x l c o → is_vsa o ≡ is_area c.kind
+kind_is : (x : Around) (l : List ℕ) (c : Capability) (o : Object) → IsObjectOf x l c o → is_vsa o ≡ is_area c.kind
 kind_is x l c (Objects.raw r) f = sym (ap is_area f.its_kind)
 kind_is x l c (Objects.log g) f = sym (ap is_area f.its_kind)
 kind_is x l c (Objects.vsic v) f = sym (ap is_area f.its_kind)
@@ -87,7 +87,7 @@ count_held x (p ∷ ps) (h ∷ hs) all =
 count_held x [] (h ∷ hs) all = absurd all
 count_held x (p ∷ ps) [] all = absurd all
 
-pub count_areas : (x : Around) → Holds x → count_of is_vsa x.machine ≡ length x.areas
+pub count_areas : (x : Around) → Holds x → held_count is_vsa x.machine ≡ length x.areas
 count_areas x h = count_held x x.labels x.machine.held h.held ∙ sym h.areas
 
 pub count_labels : (x : Around) (ps : Labels) (hs : List Held) → AllMatch x ps hs → length hs ≡ length ps

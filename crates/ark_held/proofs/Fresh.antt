@@ -6,7 +6,7 @@ use Rattle.ark_machine.specs.Machine.{Held}
 use Rattle.ark_held.specs.Words.{Labels, AreaList}
 use Rattle.ark_held.specs.Totals.{bit, total, object_covers}
 use Rattle.ark_held.specs.Around.{Around, slot_at}
-use Rattle.ark_held.specs.Held.{AllMatch, AreApart, AreOwn, Holds, area_labels}
+use Rattle.ark_held.specs.Held.{AllMatch, AreDistinctLabels, AreOwn, Holds, area_labels}
 use Rattle.ark_held.proofs.Lists.{not_some}
 
 all_free : (n j : ℕ) → slice_index_or (replicate n false) j false ≡ false
@@ -28,7 +28,7 @@ holds_none x made now serial held numbers labels areas slots taken = record {
   serials = ap (λ (l : List ℕ). length l) numbers ∙ sym serial;
   one = subst (λ (n : List ℕ). (i j g : ℕ) → slice_get n i ≡ Some g → slice_get n j ≡ Some g → i ≡ j) (sym numbers) (λ i j g is. absurd (not_some None g refl is));
   held = subst (λ (hs : List Held). AllMatch x x.labels hs) (sym held) (subst (λ (ls : Labels). AllMatch x ls []) (sym labels) tt);
-  apart = subst (λ (ls : Labels). AreApart ls) (sym labels) tt;
+  apart = subst (λ (ls : Labels). AreDistinctLabels ls) (sym labels) tt;
   own = subst (λ (ls : Labels). AreOwn ls) (sym labels) none_own;
   areas = ap (λ (es : AreaList). length es) areas ∙ sym (ap (λ (ls : Labels). length (area_labels ls)) labels);
   unlisted = λ l none. slots l;

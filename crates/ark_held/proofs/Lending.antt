@@ -22,8 +22,8 @@ use Rattle.ark_held.specs.Kept.{PaceKept, ChainKept}
 use Rattle.ark_held.specs.Around.{Around, Names, IsGranted, Each, Both}
 use Rattle.ark_held.specs.Areas.{IsOpened}
 use Rattle.ark_held.specs.Cards.{IsPaced, IsWatched, IsJob, IsEnded}
-use Rattle.ark_held.specs.Network.{IsPlace, IsReceiving, IsReceived, IsSending, IsSent}
-use Rattle.ark_held.specs.Held.{Fits, AllMatch}
+use Rattle.ark_held.specs.Network.{IsFramePlace, IsReceiving, IsReceived, IsSending, IsSent}
+use Rattle.ark_held.specs.Held.{IsObjectOf, AllMatch}
 use Rattle.ark_held.specs.Keeps.{JobWithin, PlaceWithin, PacedWithin, LabelWithin, OpenedWithin, Within, any_label}
 use Rattle.ark_held.proofs.Lists.{by_test, name_other, not_some, some_same}
 use Rattle.ark_held.proofs.Creating.{but}
@@ -89,7 +89,7 @@ module _ (x : Around) (l : List ℕ) (absent : value_at x.labels l ≡ None) whe
   ended_none c (flush, o) is = refl
   ended_none c (phase p, o) is = refl
 
-  place_none : (tag : ℕ) (given : Option Piece) (p : Place) → IsPlace x tag given p → bit (place_has l p) ≡ 0
+  place_none : (tag : ℕ) (given : Option Piece) (p : Place) → IsFramePlace x tag given p → bit (place_has l p) ≡ 0
   place_none tag given (in_buffer b) is = name_none b cap_kind.Buf tag is.named
   place_none tag given (taken b) is = refl
 
@@ -102,7 +102,7 @@ module _ (x : Around) (l : List ℕ) (absent : value_at x.labels l ≡ None) whe
   sent_none : (c : Completion) (u : Place × Outcome) → IsSent x c u → bit (place_has l u.0) ≡ 0
   sent_none c (p, o) is = place_none c.tag c.buf p is.1
 
-  none_uses : (k : List ℕ) (c : Capability) (o : Object) → Fits x k c o → uses l o ≡ 0
+  none_uses : (k : List ℕ) (c : Capability) (o : Object) → IsObjectOf x k c o → uses l o ≡ 0
   none_uses k c (Objects.vsic v) f =
       let a = each_zero (IsJob x f.card.log) (λ j. bit (job_has l j)) (job_none f.card.log) f.card.ring.posted v.queue.posted f.posted in
       let b = each_zero (IsEnded x) (λ u. bit (job_has l u.0)) ended_none f.card.ring.unreaped v.queue.unreaped f.unreaped in
@@ -174,7 +174,7 @@ module _ (x : Around) (l : List ℕ) (cap : Capability) (there : value_at x.labe
   opened_narrow grant None (Some o) is w = absurd is
   opened_narrow grant (Some k) None is w = absurd is
 
-  pub narrowed : (k : List ℕ) (c : Capability) (o : Object) → Fits x k c o → uses l o ≡ 0 → Within any_label rests o → Within (but l) rests o
+  pub narrowed : (k : List ℕ) (c : Capability) (o : Object) → IsObjectOf x k c o → uses l o ≡ 0 → Within any_label rests o → Within (but l) rests o
   narrowed k c (Objects.raw z) f none w = tt
   narrowed k c (Objects.log g) f none w = opened_narrow c.grant (x.tables.chains c.grant) g.opened f.opened w
   narrowed k c (Objects.vsic v) f none w = (

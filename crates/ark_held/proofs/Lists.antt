@@ -12,7 +12,7 @@ use Rattle.ark_caps.specs.declared.capability.Capability.{Capability}
 use Rattle.ark_held.specs.Words.{Labels}
 use Rattle.ark_held.specs.Totals.{total}
 use Rattle.ark_held.specs.Around.{Each}
-use Rattle.ark_held.specs.Held.{AreApart}
+use Rattle.ark_held.specs.Held.{AreDistinctLabels}
 
 -- by what a test gives
 pub by_test : (P : Bool → Type 0) (t : Bool) → (t ≡ true → P true) → (t ≡ false → P false) → P t
@@ -116,14 +116,14 @@ pub head_apart : (p : List ℕ × Capability) (ps : Labels) (l : List ℕ) → v
 head_apart p ps l none = by_test (λ b. bytes_eq l p.0 ≡ b → cond b (Some p.1) (value_at ps l) ≡ None → (bytes_eq l p.0 ≡ false) × (value_at ps l ≡ None)) (bytes_eq l p.0)
     (λ yes q h. absurd (not_some (Some p.1) p.1 h refl)) (λ no q h. (q, h)) refl none
 
-pub apart_last : (ps : Labels) (l : List ℕ) (c : Capability) → AreApart ps → value_at ps l ≡ None → AreApart (ps ++ (l, c) ∷ [])
+pub apart_last : (ps : Labels) (l : List ℕ) (c : Capability) → AreDistinctLabels ps → value_at ps l ≡ None → AreDistinctLabels (ps ++ (l, c) ∷ [])
 apart_last [] l c apart none = (refl, tt)
 apart_last (p ∷ ps) l c apart none =
     let n = head_apart p ps l none in
     (value_other ps l p.0 c n.0 ∙ apart.0, apart_last ps l c apart.1 n.1)
 
 -- in a list whose labels are apart, what is found behind the first is found in the whole
-pub value_behind : (p : List ℕ × Capability) (ps : Labels) (l : List ℕ) (c : Capability) → AreApart (p ∷ ps) → value_at ps l ≡ Some c → value_at (p ∷ ps) l ≡ Some c
+pub value_behind : (p : List ℕ × Capability) (ps : Labels) (l : List ℕ) (c : Capability) → AreDistinctLabels (p ∷ ps) → value_at ps l ≡ Some c → value_at (p ∷ ps) l ≡ Some c
 value_behind p ps l c apart is = by_test (λ b. bytes_eq l p.0 ≡ b → cond b (Some p.1) (value_at ps l) ≡ Some c) (bytes_eq l p.0)
     (λ yes q. absurd (not_some (value_at ps l) c (ap (λ k. value_at ps k) (same_name l p.0 q) ∙ apart.0) is)) (λ no q. is) refl
 

@@ -11,7 +11,7 @@ use Rattle.ark_machine.specs.Areas.{raw_written}
 use Rattle.ark_machine.specs.Machine.{Held, at}
 use Rattle.ark_held.specs.Around.{Around, slot_at}
 use Rattle.ark_held.specs.Areas.{IsRaw}
-use Rattle.ark_held.specs.Held.{Fits, AtLabel, Holds}
+use Rattle.ark_held.specs.Held.{IsObjectOf, AtLabel, Holds}
 use Rattle.ark_held.specs.Writes.{IsOwnWrite, with_write}
 use Rattle.ark_held.proofs.Lists.{some_same}
 use Rattle.ark_held.proofs.Besides.{same_beside}
@@ -23,7 +23,7 @@ module _ (x : Around) (l : List ℕ) (r : Raw) (off n : ℕ) (b : List ℕ) (too
   -- the area as it stands before
   area_of : (c : Option Capability) (o : Option Held) → o ≡ Some w.held → AtLabel x l c o → IsRaw x.history w.slot.blocks r
   area_of (Some c) (Some g) is m =
-      let f = subst (λ (o : Object). Fits x l c o) w.object (subst (λ (z : Held). Fits x l c z.object) (some_same (Some g) g w.held refl is) m.object) in
+      let f = subst (λ (o : Object). IsObjectOf x l c o) w.object (subst (λ (z : Held). IsObjectOf x l c z.object) (some_same (Some g) g w.held refl is) m.object) in
       subst (λ (t : Slot). IsRaw x.history t.blocks r) (some_same (slot_at x l) f.slot w.slot f.there w.placed) f.fits
   area_of None None is m = absurd (none_held is)
     where

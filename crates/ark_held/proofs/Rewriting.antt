@@ -4,7 +4,7 @@ use Rattle.std.specs.Prelude.{Option, Some, slice_index_or}
 use Rattle.std.proofs.lemmas.List.{append_assoc}
 use Rattle.ark_caps.specs.Labels.{value_at}
 use Rattle.ark_caps.specs.declared.capability.Capability.{Capability}
-use Rattle.ark_region.specs.Frames.{Piece, Apart, Wrote, Lies, bytes_of, frames_of, put}
+use Rattle.ark_region.specs.Frames.{Piece, Apart, Wrote, LiesInRegion, bytes_of, frames_of, put}
 use Rattle.ark_region.proofs.Putting.{length_put}
 use Rattle.ark_machine.specs.Bytes.{written}
 use Rattle.ark_machine.specs.Objects
@@ -15,7 +15,7 @@ use Rattle.ark_held.specs.Totals.{bit, uses, covers, object_covers}
 use Rattle.ark_held.specs.Stored.{buffer_kept}
 use Rattle.ark_held.specs.Around.{Around, piece_of}
 use Rattle.ark_held.specs.Cards.{IsBuffer}
-use Rattle.ark_held.specs.Held.{Fits, Holds}
+use Rattle.ark_held.specs.Held.{IsObjectOf, Holds}
 use Rattle.ark_held.specs.Keeps.{Keeps, any_label}
 use Rattle.ark_held.specs.Beyond.{Beyond, around}
 use Rattle.ark_held.specs.declared.app.App.{App}
@@ -62,7 +62,7 @@ module _ (r : Beyond) (app app1 : App) (l : List ℕ) (b : Buffer) (held : Held)
       entry = f.entry;
       kept = entries c.key ∙ f.kept;
       place = f.place ∙ place;
-      lies = subst (λ (p : Piece). Lies app1.store.region.taken p) place (subst (λ (t : List Bool). Lies t (piece_of b)) (sym wrote.taken) f.lies);
+      lies = subst (λ (p : Piece). LiesInRegion app1.store.region.taken p) place (subst (λ (t : List Bool). LiesInRegion t (piece_of b)) (sym wrote.taken) f.lies);
       bytes = same_bytes ∙ ap (λ (z : List ℕ). put z off bytes) f.bytes ∙ sym wrote.here ∙ ap (λ (p : Piece). bytes_of app1.store.region p) place;
       some = subst (λ (n : ℕ). 0 < n) (sym long) f.some;
       owned = f.owned;
@@ -79,4 +79,4 @@ module _ (r : Beyond) (app app1 : App) (l : List ℕ) (b : Buffer) (held : Held)
         let was : object_covers j held.object ≡ object_covers j (Objects.buffer b) = ap (object_covers j) object in
         let bits : bit (slice_index_or app1.store.region.taken j false) ≡ bit (slice_index_or app.store.region.taken j false) = ap (λ (t : List Bool). bit (slice_index_or t j false)) wrote.taken in
         omega (arith, size, was, bits))
-        (λ c is m. its c (subst (λ (o : Object). Fits x l c o) object m.object))
+        (λ c is m. its c (subst (λ (o : Object). IsObjectOf x l c o) object m.object))

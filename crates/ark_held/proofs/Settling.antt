@@ -18,7 +18,7 @@ use Rattle.ark_held.specs.Around.{Around, slot_at}
 use Rattle.ark_held.specs.Areas.{IsRaw}
 use Rattle.ark_media.specs.Standing.{MayStand}
 use Rattle.ark_held.specs.Beside.{AreBeside}
-use Rattle.ark_held.specs.Held.{Fits, Holds}
+use Rattle.ark_held.specs.Held.{IsObjectOf, Holds}
 use Rattle.ark_held.specs.Keeps.{Keeps, any_label, any_piece}
 use Rattle.ark_held.proofs.Besides.{same_history, current_beside, may_beside}
 use Rattle.ark_held.proofs.Keeping.{fits_kept}
@@ -121,7 +121,7 @@ module _ (x : Around) (h : Holds x)
         subst (λ (cs : List (List ℕ)). Contains cs c) (sym (get_or-map (λ b. b ∷ []) r.content k [] [] (omega (arith, is.size, lt)))) (0, omega arith, sym stands);
   }
 
-  fits_settled : (l : List ℕ) (c : Capability) (o : Object) → value_at x.labels l ≡ Some c → Fits x l c o → Fits y l c (settled o)
+  fits_settled : (l : List ℕ) (c : Capability) (o : Object) → value_at x.labels l ≡ Some c → IsObjectOf x l c o → IsObjectOf y l c (settled o)
   fits_settled l c (Objects.raw r) at f = record {
     slot = f.slot;
     its_kind = f.its_kind;

@@ -14,7 +14,7 @@ use Rattle.ark_held.specs.Words.{Labels}
 use Rattle.ark_held.specs.Kept.{ChainKept}
 use Rattle.ark_held.specs.Around.{Around, Both}
 use Rattle.ark_held.specs.Areas.{IsOpened}
-use Rattle.ark_held.specs.Held.{Fits, AllMatch, Holds}
+use Rattle.ark_held.specs.Held.{IsObjectOf, AllMatch, Holds}
 use Rattle.ark_held.specs.Beyond.{Beyond, around}
 use Rattle.ark_held.specs.declared.app.App.{App}
 use Rattle.ark_held.proofs.Lists.{not_some}
@@ -35,7 +35,7 @@ module _ (r : Beyond) (app : App) where
   closed grant None b = refl
   closed grant (Some o) b = absurd b
 
-  sized_object : (l : List ℕ) (c : Capability) (o : Object) → Fits x l c o → AreSized (object_frames o)
+  sized_object : (l : List ℕ) (c : Capability) (o : Object) → IsObjectOf x l c o → AreSized (object_frames o)
   sized_object l c (Objects.raw z) f = tt
   sized_object l c (Objects.log z) f = let e = closed c.grant z.opened f.opened in rw e tt
   sized_object l c (Objects.vsic z) f = tt

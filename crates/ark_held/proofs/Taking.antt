@@ -3,7 +3,7 @@ use Rattle.std.proofs.Common.{◌≡◌, inl, inr, ℕ, ◌+◌, ◌≤◌, Bool
 use Rattle.std.specs.Prelude.{slice_index_or}
 use Rattle.std.proofs.lemmas.Bool.{false≢true}
 use Rattle.std.proofs.lemmas.List.{length-replicate}
-use Rattle.ark_region.specs.Frames.{IsTaken, Fits, put}
+use Rattle.ark_region.specs.Frames.{IsTaken, IsFreeRun, put}
 use Rattle.ark_region.proofs.Putting.{at_or_below, put_below, put_above, put_copies}
 use Rattle.ark_held.specs.Totals.{bit, covers}
 use Rattle.ark_held.proofs.Lists.{by_test, plus_zero}
@@ -30,7 +30,7 @@ put_at old s k j now inside = by_test (λ b. covers j (s, k) ≡ b → slice_ind
     ]) refl
 
 -- free frames are taken
-pub taken_bit : (old : List Bool) (s k j : ℕ) → Fits (IsTaken old) (length old) k s → bit (slice_index_or old j false) + bit (covers j (s, k)) ≡ bit (slice_index_or (put old s (replicate k true)) j false)
+pub taken_bit : (old : List Bool) (s k j : ℕ) → IsFreeRun (IsTaken old) (length old) k s → bit (slice_index_or old j false) + bit (covers j (s, k)) ≡ bit (slice_index_or (put old s (replicate k true)) j false)
 taken_bit old s k j room = by_test (λ b. covers j (s, k) ≡ b → bit (slice_index_or old j false) + bit b ≡ bit (cond b true (slice_index_or old j false))) (covers j (s, k))
     (λ yes q. let has = covers_has j (s, k) q in ap (λ n. n + 1) (bit_zero (slice_index_or old j false) (room.free j has.0 has.1)))
     (λ no q. plus_zero (bit (slice_index_or old j false))) refl

@@ -8,11 +8,11 @@ use Rattle.ark_table.specs.Slots.{Slot}
 use Rattle.ark_entry.specs.Found.{found_of}
 use Rattle.ark_caps.specs.declared.capability.CapKind.TheVariants as cap_kind
 use Rattle.ark_caps.specs.declared.capability.Capability.{Capability}
-use Rattle.ark_region.specs.Frames.{Piece, Lies, bytes_of}
+use Rattle.ark_region.specs.Frames.{Piece, LiesInRegion, bytes_of}
 use Rattle.ark_caladan.specs.Chain.{Log, Opened, Waiting, Command, append, trim, pop, stored, lists}
 use Rattle.ark_machine.specs.Objects.{Raw}
 use Rattle.ark_machine.specs.Bytes.{Frames}
-use Rattle.ark_machine.specs.Start.{view}
+use Rattle.ark_machine.specs.Start.{contents_at}
 use Rattle.ark_held.specs.Words.{area_in}
 use Rattle.ark_held.specs.Kept.{BufferKept, ChainKept, CommandKept, appends, trims, pops, WaitingKept}
 use Rattle.ark_held.specs.Around.{Around, slot_at, Names, Each, Both}
@@ -46,7 +46,7 @@ OpensToLists h blocks g = (contents : List (List ℕ)) → MayShow h blocks cont
 
 -- a log's stored list is found in its blocks, and whatever a stop may leave of them opens to one of its lists
 pub record IsListed (h : History) (blocks : List ℕ) (g : Log) : Type 0 where
-  pub now : found_of g.kind (view (current h.base h.journal) blocks) ≡ stored g
+  pub now : found_of g.kind (contents_at (current h.base h.journal) blocks) ≡ stored g
   pub left : OpensToLists h blocks g
 
 -- the bytes of so many frames
@@ -56,7 +56,7 @@ frames_piece f = record { start = f.0; len = 512 * f.1 }
 -- a buffer has these frames of the region
 pub record IsRoom (x : Around) (b : BufferKept) (f : Frames) : Type 0 where
   pub piece : b.piece ≡ frames_piece f
-  pub lies : Lies x.tables.memory.taken (frames_piece f)
+  pub lies : LiesInRegion x.tables.memory.taken (frames_piece f)
 
 -- the buffer of a command, as the frames that it takes
 abbrev pub IsRooms : Around → Option BufferKept → List Frames → Type 0
@@ -73,16 +73,16 @@ abbrev pub HoldsPayload : Around → List Frames → List ℕ → Type 0
 HoldsPayload x [] payload = ⊥
 HoldsPayload x (f ∷ fs) payload = slice_range (bytes_of x.tables.memory (frames_piece f)) entry_head (entry_head + length payload) ≡ payload
 
-abbrev pub IsCommand : Around → List Frames → CommandKept → Command → Type 0
-IsCommand x room (appends n) (append m payload) = (n ≡ m) × HoldsPayload x room payload
-IsCommand x room (trims n) (trim m) = n ≡ m
-IsCommand x room (pops n) (pop m) = n ≡ m
-IsCommand x room _ _ = ⊥
+abbrev pub IsCommandKept : Around → List Frames → CommandKept → Command → Type 0
+IsCommandKept x room (appends n) (append m payload) = (n ≡ m) × HoldsPayload x room payload
+IsCommandKept x room (trims n) (trim m) = n ≡ m
+IsCommandKept x room (pops n) (pop m) = n ≡ m
+IsCommandKept x room _ _ = ⊥
 
 -- a command that waits
 pub record IsWaiting (x : Around) (k : WaitingKept) (w : Waiting) : Type 0 where
   pub room : IsRooms x k.room w.room
-  pub command : IsCommand x w.room k.command w.command
+  pub command : IsCommandKept x w.room k.command w.command
 
 -- the log of this grant as it is open on its card
 pub record IsOpened (x : Around) (grant : ℕ) (k : ChainKept) (o : Opened) : Type 0 where

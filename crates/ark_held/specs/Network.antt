@@ -5,7 +5,7 @@ use Rattle.ark_caps.specs.declared.capability.CapKind.TheVariants as cap_kind
 use Rattle.ark_caps.specs.declared.capability.Capability.{Capability}
 use Rattle.ark_filters.specs.declared.filter.Filter.{Filter}
 use Rattle.ark_filters.specs.declared.live.Live.{Live}
-use Rattle.ark_region.specs.Frames.{Piece, bytes_of, Lies}
+use Rattle.ark_region.specs.Frames.{Piece, bytes_of, LiesInRegion}
 use Rattle.ark_vic.specs.declared.descriptor.Descriptor.{Descriptor}
 use Rattle.ark_vic.specs.declared.descriptor.Completion.{Completion}
 use Rattle.ark_vic.specs.declared.descriptor.Job.TheVariants as vic
@@ -16,21 +16,21 @@ use Rattle.ark_held.specs.Around.{Around, Names, IsGranted, Each, Both, piece_of
 use Rattle.ark_held.specs.Cards.{IsPaced, IsWatched, HasBuffer}
 
 -- the frame of a descriptor with this tag and buffer stands in this place
-abbrev pub IsPlace : Around → ℕ → Option Piece → Place → Type 0
-IsPlace x tag given (named b) = HasBuffer x tag given b
-IsPlace x tag given (taken b) = (given ≡ Some (piece_of b)) × Lies x.tables.memory.taken (piece_of b) × (b.bytes ≡ bytes_of x.tables.memory (piece_of b))
+abbrev pub IsFramePlace : Around → ℕ → Option Piece → Place → Type 0
+IsFramePlace x tag given (named b) = HasBuffer x tag given b
+IsFramePlace x tag given (taken b) = (given ≡ Some (piece_of b)) × LiesInRegion x.tables.memory.taken (piece_of b) × (b.bytes ≡ bytes_of x.tables.memory (piece_of b))
 
 abbrev pub IsReceiving : Around → Descriptor → Place → Type 0
-IsReceiving x d p = (d.job ≡ vic.Receive) × IsPlace x d.tag d.buf p
+IsReceiving x d p = (d.job ≡ vic.Receive) × IsFramePlace x d.tag d.buf p
 
 abbrev pub IsReceived : Around → Completion → Place × ℕ → Type 0
-IsReceived x c (p, len) = (c.len ≡ len) × IsPlace x c.tag c.buf p
+IsReceived x c (p, len) = (c.len ≡ len) × IsFramePlace x c.tag c.buf p
 
 abbrev pub IsSending : Around → Descriptor → Place × ℕ → Type 0
-IsSending x d (p, len) = (d.job ≡ vic.Send) × (d.len ≡ len) × IsPlace x d.tag d.buf p
+IsSending x d (p, len) = (d.job ≡ vic.Send) × (d.len ≡ len) × IsFramePlace x d.tag d.buf p
 
 abbrev pub IsSent : Around → Completion → Place × Outcome → Type 0
-IsSent x c (p, o) = (c.outcome ≡ o) × IsPlace x c.tag c.buf p
+IsSent x c (p, o) = (c.outcome ≡ o) × IsFramePlace x c.tag c.buf p
 
 -- a network card
 pub record IsNet (x : Around) (l : List ℕ) (c : Capability) (v : Vnic) : Type 0 where
@@ -53,7 +53,7 @@ pub record IsNet (x : Around) (l : List ℕ) (c : Capability) (v : Vnic) : Type 
   pub sockets : unwrap_or net.ports 0 ≡ socket_count x.machine l
 
 -- a filter, and the card that it is assigned to
-pub record IsRule (x : Around) (c : Capability) (f : Filter) (on : Option (List ℕ)) : Type 0 where
+pub record IsFilterOf (x : Around) (c : Capability) (f : Filter) (on : Option (List ℕ)) : Type 0 where
   pub its_kind : c.kind ≡ cap_kind.Filter
   pub live : Live
   pub kept : find (λ r. nat_eq r.grant c.grant) x.rules ≡ Some live

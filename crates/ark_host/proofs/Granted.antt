@@ -22,7 +22,7 @@ use Rattle.ark_caps.specs.Labels.{value_at}
 use Rattle.ark_caps.specs.declared.capability.Capability.{Capability}
 use Rattle.ark_table.specs.Area.{Area, is_free}
 use Rattle.ark_table.specs.Slots.{Slot, area_of, IsRight}
-use Rattle.ark_table.specs.Table.{Together, area_at, is_of, Says}
+use Rattle.ark_table.specs.Table.{Together, area_at, is_of, IsSlotBlock}
 use Rattle.ark_table.specs.Plans.{grant_calls}
 use Rattle.ark_table.specs.Standing.{Table, with_slot, IsTableOf, IsUnderWay, GoesThrough, CanCreate, creates}
 use Rattle.ark_table.proofs.Spelling.{keeps_rules, is_not_free}
@@ -320,8 +320,8 @@ module _ (host : Host) (size : ℕ) (past : History) (s : System) (a l : List �
           let low = fits.index_low in
           let high = fits.index_high in
           let image = current past.base (after past es).journal in
-          let old : is_free (block image (slot.index - 1 + 1)) ≡ true = subst (λ (o : Option Area). Says (length image) (block image (slot.index - 1 + 1)) o) free_entry (was.has.says (slot.index - 1) (omega (arith, low, high))) in
-          let new = subst (λ (o : Option Area). Says (length image) (block image (slot.index - 1 + 1)) o)
+          let old : is_free (block image (slot.index - 1 + 1)) ≡ true = subst (λ (o : Option Area). IsSlotBlock (length image) (block image (slot.index - 1 + 1)) o) free_entry (was.has.says (slot.index - 1) (omega (arith, low, high))) in
+          let new = subst (λ (o : Option Area). IsSlotBlock (length image) (block image (slot.index - 1 + 1)) o)
           (get_or-set_same (table_of s.plane.slots) (slot.index - 1) (Some (area_of slot)) None (omega (arith, low, high, table_size s.plane.slots))) (stands_now.has.says (slot.index - 1) (omega (arith, low, high))) in
           false≢true (sym (ap is_free new.1 ∙ is_not_free slot) ∙ old)
 

@@ -11,7 +11,7 @@ use Rattle.ark_script.specs.Line.{Line}
 use Rattle.ark_script.specs.declared.said.Said.TheVariants as said
 use Rattle.ark_machine.specs.Objects
 use Rattle.ark_machine.specs.Objects.{Object, Vnic, as_vnic, as_filter, is_filter, is_vsa}
-use Rattle.ark_machine.specs.Machine.{Machine, Held, at, object_at, vnic_at, filter_at, missing, is_full, count_of, with_object, with_new}
+use Rattle.ark_machine.specs.Machine.{Machine, Held, at, object_at, vnic_at, filter_at, missing, is_full, held_count, with_object, with_new}
 use Rattle.ark_machine.specs.Row.{Row, Given, says, answer, unless_refused}
 use Rattle.ark_machine.specs.Network.{new_vnic, max_filters, assigned_to}
 use Rattle.ark_machine.specs.Plane.{LiveFilter}
@@ -245,7 +245,7 @@ module _ (s : System) (a f : List ℕ) (rule : Filter) (g : Given) (h : FiltersA
       m = machine_of s a
 
       c : Conditions
-      c = record none { no_application = not m.made; name_taken = is_some (at m f); limit = is_full m || nat_le max_filters (count_of is_filter m); no_nic = g.no_nic; overlap = g.overlap; no_memory = g.no_memory }
+      c = record none { no_application = not m.made; name_taken = is_some (at m f); limit = is_full m || nat_le max_filters (held_count is_filter m); no_nic = g.no_nic; overlap = g.overlap; no_memory = g.no_memory }
 
       by : (o : Option Refusal) → early c ≡ o → listed_machine (set_machine s.machines a (unless_refused o None m filter_row).machine) s.now a ≡ (unless_refused o None m filter_row).machine
           → FiltersAgree (own_turn s a filter_line (unless_refused o None m filter_row)).after

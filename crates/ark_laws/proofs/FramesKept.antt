@@ -30,8 +30,8 @@ use Rattle.ark_machine.specs.Sockets.{posted_at, has_port, delivered, max_datagr
 use Rattle.ark_machine.specs.Step.{step, ticked}
 use Rattle.ark_machine.specs.System.{System, fresh_system, listed_machine, machine_of, line_turn}
 use Rattle.ark_machine.specs.Private.{Play, Input, asks, comes, passes, inputs_of, private_machine}
-use Rattle.ark_machine.specs.Start.{view, stored_area, with_slot, with_stored, all_stored, start_system}
-use Rattle.ark_machine.specs.Frames.{IsThere, FramesThere}
+use Rattle.ark_machine.specs.Start.{contents_at, stored_area, with_slot, with_stored, all_stored, start_system}
+use Rattle.ark_machine.specs.Frames.{HasFrame, FramesThere}
 use Rattle.ark_machine.specs.Labels.{AreLabelled}
 use Rattle.ark_machine.proofs.Grants.{or_false, clash}
 use Rattle.ark_laws.proofs.Labelled.{none_held, without_once}
@@ -182,7 +182,7 @@ posted_not b _ c len none has = absurd (omega (arith, has.1))
 free_there : (m : Machine) (b : List ℕ) → is_lent m b ≡ false → FramesThere m → FramesThere (without m b)
 free_there m b unlent h v p has = by p (bytes_eq v b) (subst (λ q. Contains (frames_in q) p) (without_at b v m.held) has)
   where
-    kept : (p : Place × ℕ) → Contains (frames_in (object_at m v)) p → (o : Option Object) → object_at m v ≡ o → IsThere (without m b) p
+    kept : (p : Place × ℕ) → Contains (frames_in (object_at m v)) p → (o : Option Object) → object_at m v ≡ o → HasFrame (without m b) p
     kept p old None is = absurd (none (subst (λ q. Contains (frames_in q) p) is old))
       where
         none : Contains (frames_in None) p → ⊥
@@ -198,14 +198,14 @@ free_there m b unlent h v p has = by p (bytes_eq v b) (subst (λ q. Contains (fr
         apart true e f = absurd (clash (subst (λ y. bytes_eq b y ≡ true) (sym (same_bytes c b e)) (bytes_eq-same b)) f)
         apart false e f = e
 
-    by : (p : Place × ℕ) (t : Bool) → Contains (frames_in (cond t None (object_at m v))) p → IsThere (without m b) p
+    by : (p : Place × ℕ) (t : Bool) → Contains (frames_in (cond t None (object_at m v))) p → HasFrame (without m b) p
     by p true gone = absurd (omega (arith, gone.1))
     by p false old = kept p old (object_at m v) refl
 
 -- `send` and `sendto`
 
-posted_one : (m : Machine) (x : Vnic) (p q : Place × ℕ) → IsThere m p → Contains (x.tx.posted ++ p ∷ []) q → Contains x.tx.posted q ⊎ IsThere m q
-posted_one m x p q there has = elim (Contains-append_cases x.tx.posted (p ∷ []) q has) [ inl old ↦ inl old | inr new ↦ inr (subst (λ z. IsThere m z) (only q new) there) ]
+posted_one : (m : Machine) (x : Vnic) (p q : Place × ℕ) → HasFrame m p → Contains (x.tx.posted ++ p ∷ []) q → Contains x.tx.posted q ⊎ HasFrame m q
+posted_one m x p q there has = elim (Contains-append_cases x.tx.posted (p ∷ []) q has) [ inl old ↦ inl old | inr new ↦ inr (subst (λ z. HasFrame m z) (only q new) there) ]
   where
     only : (q : Place × ℕ) → Contains (p ∷ []) q → p ≡ q
     only q (zero, lt, e) = e
@@ -299,7 +299,7 @@ stored_frames kind.Log blocks = refl
 stored_frames kind.Queue blocks = refl
 
 slot_there : (image : List (List ℕ)) (m : Machine) (t : Slot) → FramesThere m → FramesThere (with_slot image m t)
-slot_there image m t h = new_there m t.label (stored_area t.kind (view image t.blocks)) (stored_frames t.kind (view image t.blocks)) h
+slot_there image m t h = new_there m t.label (stored_area t.kind (contents_at image t.blocks)) (stored_frames t.kind (contents_at image t.blocks)) h
 
 unmade_there : FramesThere unmade
 unmade_there v p has = absurd (omega (arith, has.1))

@@ -13,15 +13,15 @@ use Rattle.ark_machine.specs.Row.{Given, says}
 use Rattle.ark_machine.specs.Buffers.{with_bytes}
 use Rattle.ark_machine.specs.Rates.{is_over_burst, may_pass, passed}
 use Rattle.ark_machine.specs.Moves.{Move, moves, deciding_tried, first_end}
-use Rattle.ark_machine.specs.Network.{bytes_in, is_let_out, tx_ending, tx_ended, tx_passed, frame_moves, tx_moves, with_frame, filled, rx_ending, rx_passed, received, arrival, arrive}
+use Rattle.ark_machine.specs.Network.{bytes_in, is_let_out, tx_ending, tx_ended, tx_passed, frame_moves, tx_moves, with_frame, filled_place, rx_ending, rx_passed, received, arrival, arrive}
 use Rattle.ark_machine.specs.Devices.{card_moves}
-use Rattle.ark_machine.specs.Frames.{frames_at, IsThere}
+use Rattle.ark_machine.specs.Frames.{frames_at, HasFrame}
 use Rattle.ark_laws.proofs.Walk.{Walk, move_goes}
 use Rattle.ark_laws.proofs.Growing.{size_in, frames_in, Grows, same_grows, then_grows, plain_grows, log_is, vsic_grows, log_grows, raw_grows, buffer_grows, vnic_grows, rung_grows, each_grows, synced_grows, written_longer}
 use Rattle.ark_laws.proofs.Setting.{vnic_set}
 
 -- the transmit ring stays, or loses its oldest
-kept : (m : Machine) (x : Vnic) (p : Place × ℕ) → Contains x.tx.posted p → Contains x.tx.posted p ⊎ IsThere m p
+kept : (m : Machine) (x : Vnic) (p : Place × ℕ) → Contains x.tx.posted p → Contains x.tx.posted p ⊎ HasFrame m p
 kept m x p has = inl has
 
 pub bytes_grow : (m : Machine) (b : List ℕ) (off : ℕ) (bytes : List ℕ) → Grows m (with_bytes m b off bytes)
@@ -104,8 +104,8 @@ received_grows m v x p ps frame =
     let one : Machine = with_vnic (with_frame m p frame) v (rx_passed (passed m.now (length frame) x.rx_pace)) in
     then_grows (with_frame_grows m p frame) (then_grows
     (vnic_grows (with_frame m p frame) v (rx_passed (passed m.now (length frame) x.rx_pace)) (λ y at q has. inl has)) (then_grows
-    (vnic_grows one v (rx_ending (filled p frame) ps (length frame)) (λ y at q has. inl has))
-    (rung_grows (with_vnic one v (rx_ending (filled p frame) ps (length frame))) x.rx_door bell.Rx)))
+    (vnic_grows one v (rx_ending (filled_place p frame) ps (length frame)) (λ y at q has. inl has))
+    (rung_grows (with_vnic one v (rx_ending (filled_place p frame) ps (length frame))) x.rx_door bell.Rx)))
 
 arrival_grows : (a : List ℕ) (m : Machine) (v : List ℕ) (x : Vnic) (ps : List Place) (frame : List ℕ) → Grows m (arrival a m v x ps frame).machine
 arrival_grows a m v x [] frame = same_grows m

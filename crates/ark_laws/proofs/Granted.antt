@@ -13,7 +13,7 @@ use Rattle.ark_script.specs.Line.{Line}
 use Rattle.ark_script.specs.declared.said.Said.{Said}
 use Rattle.ark_script.specs.declared.said.Said.TheVariants as said
 use Rattle.ark_machine.specs.Objects.{is_vsa}
-use Rattle.ark_machine.specs.Machine.{Machine, object_at, is_full, count_of}
+use Rattle.ark_machine.specs.Machine.{Machine, object_at, is_full, held_count}
 use Rattle.ark_machine.specs.Areas.{max_areas}
 use Rattle.ark_machine.specs.Row.{Row, Given, Ended, answer, unless_refused}
 use Rattle.ark_machine.specs.Plane.{Plane, Change, makes, grows, drops, is_granted, max_slots, lowest, is_slot_of, slot_of, blocks_at, asked, asked_blocks, recorded}
@@ -106,7 +106,7 @@ below n k h = grind (arith, nat_tests)
 
 vsa_room : (m : Machine) (a s : List ℕ) (n : ℕ) (k : Kind) (g : Given) → (step m (w.vsa a s n k) g).said ≡ said.Ok → g.limit ≡ false
 unfolding step
-vsa_room m a s n k g h = (or_false g.limit (is_full m) (or_false (g.limit || is_full m) (nat_le max_areas (count_of is_vsa m)) (ok_limit m _ _ h)).0).0
+vsa_room m a s n k g h = (or_false g.limit (is_full m) (or_false (g.limit || is_full m) (nat_le max_areas (held_count is_vsa m)) (ok_limit m _ _ h)).0).0
 
 has_room : (p : Plane) (m : Machine) (line : Line) (ends : List Ended) (memory : Bool) → (step m line (recorded p line ends memory)).said ≡ said.Ok → HasRoom p line
 has_room p m (w.vsa a s n k) ends memory h = below max_slots (length p.slots) (vsa_room m a s n k (recorded p (w.vsa a s n k) ends memory) h)

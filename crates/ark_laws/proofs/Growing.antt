@@ -16,7 +16,7 @@ use Rattle.ark_machine.specs.Machine.{Machine, Held, at, object_at, raw_at, log_
 use Rattle.ark_machine.specs.Row.{settled, synced}
 use Rattle.ark_machine.specs.Areas.{with_raw}
 use Rattle.ark_machine.specs.Rates.{rung}
-use Rattle.ark_machine.specs.Frames.{frames_at, IsThere, FramesThere}
+use Rattle.ark_machine.specs.Frames.{frames_at, HasFrame, FramesThere}
 use Rattle.ark_machine.specs.Labels.{AreLabelled}
 use Rattle.ark_laws.proofs.Labelled.{held_at, set_once, each_once, without_held, without_once, new_once}
 use Rattle.ark_laws.proofs.Listed.{same_bytes}
@@ -31,15 +31,15 @@ frames_in o = unwrap_or (option_map (λ x. x.tx.posted) (option_and_then as_vnic
 
 pub record Grows (m n : Machine) : Type 0 where
   pub sizes : (b : List ℕ) → size_in (object_at m b) ≤ size_in (object_at n b)
-  pub frames : (v : List ℕ) (p : Place × ℕ) → Contains (frames_at n v) p → Contains (frames_at m v) p ⊎ IsThere n p
+  pub frames : (v : List ℕ) (p : Place × ℕ) → Contains (frames_at n v) p → Contains (frames_at m v) p ⊎ HasFrame n p
   pub labels : AreLabelled m → AreLabelled n
 
-there_after : (m n : Machine) → ((b : List ℕ) → size_in (object_at m b) ≤ size_in (object_at n b)) → (p : Place × ℕ) → IsThere m p → IsThere n p
+there_after : (m n : Machine) → ((b : List ℕ) → size_in (object_at m b) ≤ size_in (object_at n b)) → (p : Place × ℕ) → HasFrame m p → HasFrame n p
 there_after m n sizes (Objects.named b, len) h = let more = sizes b in omega (arith, h, more)
 there_after m n sizes (Objects.taken y, len) h = h
 
 still_there : (m n : Machine) → ((b : List ℕ) → size_in (object_at m b) ≤ size_in (object_at n b))
-    → ((v : List ℕ) (p : Place × ℕ) → Contains (frames_at n v) p → Contains (frames_at m v) p ⊎ IsThere n p) → FramesThere m → FramesThere n
+    → ((v : List ℕ) (p : Place × ℕ) → Contains (frames_at n v) p → Contains (frames_at m v) p ⊎ HasFrame n p) → FramesThere m → FramesThere n
 still_there m n sizes frames h v p has = elim (frames v p has) [ inl old ↦ there_after m n sizes p (h v p old) | inr new ↦ new ]
 
 -- then the frames that were there stay so
@@ -81,22 +81,22 @@ module _ (m : Machine) (l : List ℕ) (o old : Object) (is : object_at m l ≡ S
           (subst (λ q. size_in q ≤ size_in (object_at n l)) (sym is) (subst (λ q. size_in (Some old) ≤ size_in q) (sym here) le))
       by false e = let same : object_at n b ≡ object_at m b = set_there b l o m.held e in subst (λ q. size_in (object_at m b) ≤ size_in q) (sym same) (omega arith)
 
-  pub object_grows : ((p : Place × ℕ) → Contains (frames_in (Some o)) p → Contains (frames_in (Some old)) p ⊎ IsThere m p) → Grows m (with_object m l o)
+  pub object_grows : ((p : Place × ℕ) → Contains (frames_in (Some o)) p → Contains (frames_in (Some old)) p ⊎ HasFrame m p) → Grows m (with_object m l o)
   object_grows posts = record {
     sizes = set_sizes;
     frames = λ v p has. by v p has (bytes_eq v l) refl;
     labels = λ once. set_once l o m.held once;
   }
     where
-      at : (p : Place × ℕ) → Contains (frames_in (object_at n l)) p → Contains (frames_in (object_at m l)) p ⊎ IsThere n p
+      at : (p : Place × ℕ) → Contains (frames_in (object_at n l)) p → Contains (frames_in (object_at m l)) p ⊎ HasFrame n p
       at p has = elim (posts p (subst (λ q. Contains (frames_in q) p) here has)) [
         | inl kept ↦ inl (subst (λ q. Contains (frames_in q) p) (sym is) kept)
         | inr there ↦ inr (there_after m n set_sizes p there)
       ]
 
-      by : (v : List ℕ) (p : Place × ℕ) → Contains (frames_in (object_at n v)) p → (t : Bool) → bytes_eq v l ≡ t → Contains (frames_in (object_at m v)) p ⊎ IsThere n p
+      by : (v : List ℕ) (p : Place × ℕ) → Contains (frames_in (object_at n v)) p → (t : Bool) → bytes_eq v l ≡ t → Contains (frames_in (object_at m v)) p ⊎ HasFrame n p
       by v p has true e =
-          subst (λ k. Contains (frames_in (object_at m k)) p ⊎ IsThere n p) (sym (same_bytes v l e)) (at p (subst (λ k. Contains (frames_in (object_at n k)) p) (same_bytes v l e) has))
+          subst (λ k. Contains (frames_in (object_at m k)) p ⊎ HasFrame n p) (sym (same_bytes v l e)) (at p (subst (λ k. Contains (frames_in (object_at n k)) p) (same_bytes v l e) has))
       by v p has false e = let same : object_at n v ≡ object_at m v = set_there v l o m.held e in inl (subst (λ q. Contains (frames_in q) p) same has)
 
 -- one with no bytes and no frames, in the place of one with no bytes
@@ -177,7 +177,7 @@ buffer_grows m l f longer = by (buffer_at m l) refl
     by None e = same_grows m
     by (Some x) e = object_grows m l (Objects.buffer (f x)) (Objects.buffer x) (buffer_is (object_at m l) x e) (longer x) (λ p has. absurd (omega (arith, has.1)))
 
-pub vnic_grows : (m : Machine) (v : List ℕ) (f : Vnic → Vnic) → ((x : Vnic) → vnic_at m v ≡ Some x → (p : Place × ℕ) → Contains (f x).tx.posted p → Contains x.tx.posted p ⊎ IsThere m p) → Grows m (with_vnic m v f)
+pub vnic_grows : (m : Machine) (v : List ℕ) (f : Vnic → Vnic) → ((x : Vnic) → vnic_at m v ≡ Some x → (p : Place × ℕ) → Contains (f x).tx.posted p → Contains x.tx.posted p ⊎ HasFrame m p) → Grows m (with_vnic m v f)
 vnic_grows m v f posts = by (vnic_at m v) refl
   where
     by : (o : Option Vnic) → vnic_at m v ≡ o → Grows m (unwrap_or (option_map (λ x. with_object m v (Objects.vnic (f x))) o) m)

@@ -14,7 +14,7 @@ use Rattle.ark_machine.specs.Plane.{recorded}
 use Rattle.ark_machine.specs.Network.{arrive}
 use Rattle.ark_machine.specs.Step.{step}
 use Rattle.ark_machine.specs.Follow.{PerformsFor, ends_of}
-use Rattle.ark_machine.specs.Start.{stored_area, view, with_slot, with_stored, all_stored, start_system}
+use Rattle.ark_machine.specs.Start.{stored_area, contents_at, with_slot, with_stored, all_stored, start_system}
 use Rattle.ark_machine.specs.System.{System, listed_machine, machine_of, owner, arrival_turn, tick_turn, owned_turn, line_turn, fresh_system}
 use Rattle.ark_machine.specs.Filters.{as_assigned, held_at, FiltersAgree}
 use Rattle.ark_laws.proofs.Listed.{unmade_at, unlisted_machine, ticked_machine, set_here, set_there}
@@ -87,7 +87,7 @@ stored_plain kind.Log blocks = refl
 stored_plain kind.Queue blocks = refl
 
 slot_plain : (image : List (List ℕ)) (m : Machine) (t : Slot) → Unfiltered m → Unfiltered (with_slot image m t)
-slot_plain image m t h = none_more m.held (record { label = t.label; serial = m.serial; object = stored_area t.kind (view image t.blocks) }) h (stored_plain t.kind (view image t.blocks))
+slot_plain image m t h = none_more m.held (record { label = t.label; serial = m.serial; object = stored_area t.kind (contents_at image t.blocks) }) h (stored_plain t.kind (contents_at image t.blocks))
 
 abbrev AllUnfiltered : List (List ℕ × Machine) → Type 0
 AllUnfiltered ms = AllByRecursion (λ p. Unfiltered p.1) ms

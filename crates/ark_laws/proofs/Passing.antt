@@ -5,7 +5,7 @@ use Rattle.std.proofs.lemmas.List.{append-nil, append_assoc}
 use Rattle.std.specs.Prelude.{Option, Some, None, option_and_then, nat_le}
 use Rattle.std.specs.List.{AllByRecursion}
 use Rattle.ark_media.specs.Journal.{Event, Read, Write, Sync, Out}
-use Rattle.ark_vic.specs.Pace.{Pass, passed_between, Keeps}
+use Rattle.ark_vic.specs.Pace.{Pass, passed_between, WithinRate}
 use Rattle.ark_script.specs.Line.{Line}
 use Rattle.ark_machine.specs.Objects.{Paced}
 use Rattle.ark_machine.specs.Machine.{Machine, vsic_at}
@@ -27,13 +27,13 @@ fewer_between : (s t : ℕ) (p more : List Pass) → passed_between s t p ≤ pa
 fewer_between s t [] more = omega arith
 fewer_between s t (x ∷ p) more = fewer_step (cond (nat_le s x.0 && nat_le x.0 t) x.1 0) (passed_between s t p) (passed_between s t (p ++ more)) (fewer_between s t p more)
 
-keeps_front : (q b : ℕ) (p more : List Pass) → Keeps q b (p ++ more) → Keeps q b p
+keeps_front : (q b : ℕ) (p more : List Pass) → WithinRate q b (p ++ more) → WithinRate q b p
 keeps_front q b p more h s t le = let k = h s t le in let f = fewer_between s t p more in omega (arith, k, f)
 
 -- the first of the passes keep the law too
 pub with_front : (p : Option Paced) (few more : List Pass) → KeepsWith p (few ++ more) → KeepsWith p few
 with_front None few more h = tt
-with_front (Some p) few more h = keeps_front p.q p.burst (p.passes ++ few) more (subst (λ l. Keeps p.q p.burst l) (sym (append_assoc p.passes few more)) h)
+with_front (Some p) few more h = keeps_front p.q p.burst (p.passes ++ few) more (subst (λ l. WithinRate p.q p.burst l) (sym (append_assoc p.passes few more)) h)
 
 -- a pace with more passes
 abbrev pub added : Option Paced → List Pass → Option Paced
@@ -50,12 +50,12 @@ passed_added now n (Some p) = refl
 
 pub with_added : (p : Option Paced) (few more : List Pass) → KeepsWith (added p few) more → KeepsWith p (few ++ more)
 with_added None few more h = tt
-with_added (Some p) few more h = subst (λ l. Keeps p.q p.burst l) (append_assoc p.passes few more) h
+with_added (Some p) few more h = subst (λ l. WithinRate p.q p.burst l) (append_assoc p.passes few more) h
 
 -- a queue that is paced keeps its rate with no pass more
 pub paced_with : (t : ℕ) (p : Option Paced) → IsPacedAt t p → KeepsWith p []
 paced_with t None h = tt
-paced_with t (Some p) h = subst (λ l. Keeps p.q p.burst l) (sym (append-nil p.passes)) h.0
+paced_with t (Some p) h = subst (λ l. WithinRate p.q p.burst l) (sym (append-nil p.passes)) h.0
 
 pub pace_at_paced : (t : ℕ) (m : Machine) (v : List ℕ) → MachinePacedAt t m → IsPacedAt t (pace_at m v)
 pace_at_paced t m v h = by (vsic_at m v) (vsic_at_paced t m v h)

@@ -5,7 +5,7 @@ use Rattle.std.specs.Option.{option_or}
 use Rattle.ark_base.specs.Conditions.{Conditions, late, first, when, when_some}
 use Rattle.ark_base.specs.declared.refusal.Refusal.{Refusal}
 use Rattle.ark_base.specs.declared.refusal.Refusal.TheVariants as r
-use Rattle.ark_machine.specs.Ranks.{rank, Holds}
+use Rattle.ark_machine.specs.Ranks.{rank, HasCondition}
 use Rattle.ark_laws.proofs.Early.{some_refusal}
 
 abbrev given : Bool → Refusal → Option Refusal
@@ -91,17 +91,17 @@ nth (t ∷ ts) (suc n) = nth ts n
 
 -- what is at its rank, and holds
 abbrev IsRight : Conditions → ℕ → Refusal → Type 0
-IsRight c k y = (rank y ≡ k) × Holds c y
+IsRight c k y = (rank y ≡ k) × HasCondition c y
 
 abbrev AllRight : Conditions → ℕ → List (Option Refusal) → Type 0
 AllRight c k [] = Unit {0}
 AllRight c k (t ∷ ts) = ((y : Refusal) → t ≡ Some y → IsRight c k y) × AllRight c (k + 1) ts
 
-right_bool : (c : Conditions) (k : ℕ) (b : Bool) (x : Refusal) → rank x ≡ k → (b ≡ true → Holds c x) → (y : Refusal) → given b x ≡ Some y → IsRight c k y
+right_bool : (c : Conditions) (k : ℕ) (b : Bool) (x : Refusal) → rank x ≡ k → (b ≡ true → HasCondition c x) → (y : Refusal) → given b x ≡ Some y → IsRight c k y
 right_bool c k true x is so y h = subst (λ z. IsRight c k z) (some_refusal x y h) (is, so refl)
 right_bool c k false x is so y h = absurd cc
 
-right_some : {A : Type 0} (c : Conditions) (k : ℕ) (o : Option A) (f : A → Refusal) → ((a : A) → rank (f a) ≡ k) → ((a : A) → o ≡ Some a → Holds c (f a)) → (y : Refusal) → option_map f o ≡ Some y → IsRight c k y
+right_some : {A : Type 0} (c : Conditions) (k : ℕ) (o : Option A) (f : A → Refusal) → ((a : A) → rank (f a) ≡ k) → ((a : A) → o ≡ Some a → HasCondition c (f a)) → (y : Refusal) → option_map f o ≡ Some y → IsRight c k y
 right_some c k (Some a) f is so y h = subst (λ z. IsRight c k z) (some_refusal (f a) y h) (is a, so a refl)
 right_some c k None f is so y h = absurd cc
 
@@ -182,7 +182,7 @@ right_at c k [] i y h e = absurd cc
 right_at c k (t ∷ ts) zero y h e = (h.0 y e).0 ∙ omega arith
 right_at c k (t ∷ ts) (suc i) y h e = let rest : rank y ≡ (k + 1) + i = right_at c (k + 1) ts i y h.1 e in omega (arith, rest)
 
-some_found : (c : Conditions) (k : ℕ) (ts : List (Option Refusal)) (x : Refusal) → AllRight c k ts → first_in ts ≡ Some x → Holds c x
+some_found : (c : Conditions) (k : ℕ) (ts : List (Option Refusal)) (x : Refusal) → AllRight c k ts → first_in ts ≡ Some x → HasCondition c x
 some_found c k [] x h e = absurd cc
 some_found c k (Some z ∷ ts) x h e = (h.0 x e).1
 some_found c k (None ∷ ts) x h e = some_found c (k + 1) ts x h.1 e
@@ -194,7 +194,7 @@ least_in c k (None ∷ ts) zero x y h e g = absurd cc
 least_in c k (None ∷ ts) (suc i) x y h e g = least_in c (k + 1) ts i x y h.1 e g
 
 -- a refusal whose condition holds is at its rank
-at_rank : (c : Conditions) (y : Refusal) → Holds c y → nth (table c) (rank y) ≡ Some y
+at_rank : (c : Conditions) (y : Refusal) → HasCondition c y → nth (table c) (rank y) ≡ Some y
 at_rank c r.TooLong h = rw h refl
 at_rank c r.UnknownWord h = rw h refl
 at_rank c r.Syntax h = rw h refl
@@ -220,14 +220,14 @@ at_rank c r.NoMemory h = rw h refl
 at_rank c r.DeviceFault h = rw h refl
 at_rank c (r.Damaged n) h = rw h refl
 
-pub first_holds : (c : Conditions) (x : Refusal) → first c ≡ Some x → Holds c x
+pub first_holds : (c : Conditions) (x : Refusal) → first c ≡ Some x → HasCondition c x
 first_holds c x h = some_found c 0 (table c) x (all_right c) (sym (first_is c) ∙ h)
 
-pub first_least : (c : Conditions) (x y : Refusal) → first c ≡ Some x → Holds c y → rank x ≤ rank y
+pub first_least : (c : Conditions) (x y : Refusal) → first c ≡ Some x → HasCondition c y → rank x ≤ rank y
 first_least c x y h so = least_in c 0 (table c) (rank y) x y (all_right c) (sym (first_is c) ∙ h) (at_rank c y so)
 
 -- where a condition holds, a refusal is chosen
-pub some_first : (c : Conditions) (y : Refusal) → Holds c y → first c ≡ None → ⊥
+pub some_first : (c : Conditions) (y : Refusal) → HasCondition c y → first c ≡ None → ⊥
 some_first c y so h = none_in (table c) (rank y) (sym (first_is c) ∙ h) (at_rank c y so)
   where
     none_in : (ts : List (Option Refusal)) (i : ℕ) → first_in ts ≡ None → nth ts i ≡ Some y → ⊥
@@ -237,13 +237,13 @@ some_first c y so h = none_in (table c) (rank y) (sym (first_is c) ∙ h) (at_ra
     none_in (None ∷ ts) (suc i) e g = none_in ts i e g
 
 -- one refusal alone is first: whose condition holds, with the least rank
-pub least_first : (c : Conditions) (x : Refusal) → Holds c x → ((y : Refusal) → Holds c y → rank x ≤ rank y) → first c ≡ Some x
+pub least_first : (c : Conditions) (x : Refusal) → HasCondition c x → ((y : Refusal) → HasCondition c y → rank x ≤ rank y) → first c ≡ Some x
 least_first c x h least = by (first c) refl
   where
     by : (o : Option Refusal) → first c ≡ o → o ≡ Some x
     by None is = absurd (some_first c x h is)
     by (Some y) is =
-        let so : Holds c y = first_holds c y is in
+        let so : HasCondition c y = first_holds c y is in
         let one : rank y ≤ rank x = first_least c y x is h in
         let two : rank x ≤ rank y = least y so in
         let same : rank y ≡ rank x = omega (arith, one, two) in

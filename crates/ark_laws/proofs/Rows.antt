@@ -16,7 +16,7 @@ use Rattle.ark_machine.specs.Areas.{new_area, grown}
 use Rattle.ark_machine.specs.Bytes.{padded}
 use Rattle.ark_machine.specs.Rates.{may_pass, passed, pace_of}
 use Rattle.ark_machine.specs.Cards.{unreaped_at}
-use Rattle.ark_machine.specs.Network.{bytes_in, rx_ending, rx_passed, filled, with_frame, received, arrival, arrive}
+use Rattle.ark_machine.specs.Network.{bytes_in, rx_ending, rx_passed, filled_place, with_frame, received, arrival, arrive}
 use Rattle.ark_machine.specs.Sockets.{with_socket_card, card_at, pulled, give_oldest, datagrams_at}
 use Rattle.ark_machine.specs.Logs.{closing, card_of}
 use Rattle.ark_machine.specs.Polls.{next_call, settling}
@@ -103,8 +103,8 @@ received_leads : (m : Machine) (v : List ℕ) (x : Vnic) (p : Place) (ps : List 
 received_leads m v x p ps frame of t h =
     let pace : Option Paced = passed m.now (length frame) x.rx_pace in
     let one : Machine = with_vnic (with_frame m p frame) v (rx_passed pace) in
-    rung_paced t (with_vnic one v (rx_ending (filled p frame) ps (length frame))) x.rx_door bell.Rx
-    (vnic_paced t one v (rx_ending (filled p frame) ps (length frame)) (λ y q. q) (vnic_paced t (with_frame m p frame) v (rx_passed pace) (λ y q. (of t h, q.1)) (frame_leads m p frame t h)))
+    rung_paced t (with_vnic one v (rx_ending (filled_place p frame) ps (length frame))) x.rx_door bell.Rx
+    (vnic_paced t one v (rx_ending (filled_place p frame) ps (length frame)) (λ y q. q) (vnic_paced t (with_frame m p frame) v (rx_passed pace) (λ y q. (of t h, q.1)) (frame_leads m p frame t h)))
 
 -- What is so of the row of a frame that arrives.
 pub record IsArrival (a : List ℕ) (m : Machine) (v frame : List ℕ) (row : Row) : Type 0 where

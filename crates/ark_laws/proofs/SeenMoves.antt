@@ -13,7 +13,7 @@ use Rattle.ark_machine.specs.Machine.{Machine, object_at, vnic_at, with_vnic}
 use Rattle.ark_machine.specs.Row.{Given, says}
 use Rattle.ark_machine.specs.Rates.{is_over_burst, may_pass, passed, pace_of, with_pace, no_rings}
 use Rattle.ark_machine.specs.Moves.{Move, moves, deciding_tried, first_end}
-use Rattle.ark_machine.specs.Network.{is_let_out, bytes_in, tx_ended, tx_ending, tx_passed, frame_moves, tx_moves, with_frame, filled, rx_ending, rx_passed, received, arrival, arrive}
+use Rattle.ark_machine.specs.Network.{is_let_out, bytes_in, tx_ended, tx_ending, tx_passed, frame_moves, tx_moves, with_frame, filled_place, rx_ending, rx_passed, received, arrival, arrive}
 use Rattle.ark_machine.specs.Sockets.{has_port, max_datagrams, delivered, posted_at}
 use Rattle.ark_machine.specs.Devices.{card_moves}
 use Rattle.ark_laws.proofs.Walk.{Walk, move_goes}
@@ -87,7 +87,7 @@ received_sees m v x p ps frame =
     let pace : Option Paced = passed m.now (length frame) x.rx_pace in
     let one : Machine = with_vnic (with_frame m p frame) v (rx_passed pace) in
     sees_then (with_frame_sees m p frame) (sees_then (vnic_sees (with_frame m p frame) v (rx_passed pace))
-    (sees_then (vnic_sees one v (rx_ending (filled p frame) ps (length frame))) (rung_sees (with_vnic one v (rx_ending (filled p frame) ps (length frame))) x.rx_door bell.Rx)))
+    (sees_then (vnic_sees one v (rx_ending (filled_place p frame) ps (length frame))) (rung_sees (with_vnic one v (rx_ending (filled_place p frame) ps (length frame))) x.rx_door bell.Rx)))
 
 arrival_sees : (a : List ℕ) (m : Machine) (v : List ℕ) (x : Vnic) (ps : List Place) (frame : List ℕ) → Sees m (arrival a m v x ps frame).machine
 arrival_sees a m v x [] frame = sees_itself m

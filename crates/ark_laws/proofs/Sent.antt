@@ -19,7 +19,7 @@ use Rattle.ark_machine.specs.Network.{is_let_out}
 use Rattle.ark_machine.specs.Plane.{recorded}
 use Rattle.ark_machine.specs.Step.{step, ticked}
 use Rattle.ark_machine.specs.System.{System, Turn, listed_machine, machine_of, set_machine, owner, quiet_turn, own_turn, nic_turn, line_turn, tick_turn}
-use Rattle.ark_machine.specs.Start.{view, stored_area, with_slot, with_stored, all_stored, start_system}
+use Rattle.ark_machine.specs.Start.{contents_at, stored_area, with_slot, with_stored, all_stored, start_system}
 use Rattle.ark_machine.specs.Built.{turn, is_built}
 use Rattle.ark_machine.specs.Replies.{turn_for, has_lacked}
 use Rattle.ark_machine.specs.Follow.{ends_of}
@@ -111,7 +111,7 @@ stored_paced image kind.Log blocks = tt
 stored_paced image kind.Queue blocks = tt
 
 slot_paced : (image : List (List ℕ)) (m : Machine) (t : Slot) → MachinePacedAt 0 m → MachinePacedAt 0 (with_slot image m t)
-slot_paced image m t h = new_paced 0 m t.label (stored_area t.kind (view image t.blocks)) h (stored_paced image t.kind (view image t.blocks))
+slot_paced image m t h = new_paced 0 m t.label (stored_area t.kind (contents_at image t.blocks)) h (stored_paced image t.kind (contents_at image t.blocks))
 
 with_stored_paced : (image : List (List ℕ)) (ms : List (List ℕ × Machine)) (t : Slot) → AllPaced 0 ms → AllPaced 0 (with_stored image ms t)
 with_stored_paced image [] t h = (slot_paced image unmade t (refl, tt), tt)

@@ -8,16 +8,16 @@ use Rattle.std.specs.Option.{option_or}
 use Rattle.std.specs.List.{AllByRecursion, list_all}
 use Rattle.ark_table.specs.Superblock.{slot_count}
 use Rattle.ark_table.specs.Area.{Area, area_in, is_free, is_used}
-use Rattle.ark_table.specs.Slots.{Slot, slot_at, Held, share_no_block, is_same, count_of, goes_with, with_area, with_used, with_block, and_then, held_after, is_device, held_if, held_of, as_slots, slots_of}
+use Rattle.ark_table.specs.Slots.{Slot, slot_at, HeldSlot, share_no_block, is_same, areas_with, goes_with, with_area, with_used, with_block, and_then, held_after, is_device, held_if, held_of, as_slots, slots_of}
 use Rattle.ark_machine.specs.Machine.{Machine, unmade, at}
 use Rattle.ark_machine.specs.Machine as machine
 use Rattle.ark_machine.specs.System.{fresh_system, listed_machine, machine_of}
-use Rattle.ark_machine.specs.Start.{view, stored_area, with_slot, with_stored, all_stored, start_system}
+use Rattle.ark_machine.specs.Start.{contents_at, stored_area, with_slot, with_stored, all_stored, start_system}
 use Rattle.ark_machine.specs.Labels.{AreLabelled}
 use Rattle.ark_laws.proofs.Labelled.{held_at, new_once}
 use Rattle.ark_laws.proofs.Listed.{same_bytes}
 
-abbrev slot : Held → Slot
+abbrev slot : HeldSlot → Slot
 slot h = slot_at h.index h.area
 
 -- two slots are of one application and under one label
@@ -39,36 +39,36 @@ not_so : (b : Bool) → not b ≡ true → b ≡ false
 not_so true h = absurd (false≢true h)
 not_so false h = refl
 
-named_more : (held : List Held) (x : Held) → NamedOnce (map slot held) → list_all (λ h. share_no_block x.area.runs h.area.runs && not (is_same x.area h.area)) held ≡ true → NamedOnce (map slot held ++ slot x ∷ [])
+named_more : (held : List HeldSlot) (x : HeldSlot) → NamedOnce (map slot held) → list_all (λ h. share_no_block x.area.runs h.area.runs && not (is_same x.area h.area)) held ≡ true → NamedOnce (map slot held ++ slot x ∷ [])
 named_more [] x h goes = (tt, tt)
 named_more (y ∷ ys) x h goes =
     let p = and_parts (share_no_block x.area.runs y.area.runs && not (is_same x.area y.area)) (list_all (λ z. share_no_block x.area.runs z.area.runs && not (is_same x.area z.area)) ys) goes in
     let q = and_parts (share_no_block x.area.runs y.area.runs) (not (is_same x.area y.area)) p.0 in
     (all_more (λ t. names_as t (slot y) ≡ false) (map slot ys) (slot x) h.0 (not_so (is_same x.area y.area) q.1), named_more ys x h.1 p.1)
 
-abbrev Named : Result (List Held) ℕ → Type 0
+abbrev Named : Result (List HeldSlot) ℕ → Type 0
 Named (Ok held) = NamedOnce (map slot held)
 Named (Err bad) = Unit {0}
 
-area_named : (i : ℕ) (held : List Held) (a : Area) (b : Bool) → goes_with held a ≡ b → NamedOnce (map slot held) → Named (with_area held i a b)
+area_named : (i : ℕ) (held : List HeldSlot) (a : Area) (b : Bool) → goes_with held a ≡ b → NamedOnce (map slot held) → Named (with_area held i a b)
 area_named i held a false is h = tt
 area_named i held a true is h =
-    let x : Held = record { index = i; area = a } in
-    subst NamedOnce (sym (map-append slot held (x ∷ []))) (named_more held x h (and_parts (list_all (λ y. share_no_block a.runs y.area.runs && not (is_same a y.area)) held) (nat_le (count_of a.app held + 1) 8) is).0)
+    let x : HeldSlot = record { index = i; area = a } in
+    subst NamedOnce (sym (map-append slot held (x ∷ []))) (named_more held x h (and_parts (list_all (λ y. share_no_block a.runs y.area.runs && not (is_same a y.area)) held) (nat_le (areas_with a.app held + 1) 8) is).0)
 
-used_named : (i : ℕ) (held : List Held) (content : List ℕ) (b : Bool) → NamedOnce (map slot held) → Named (with_used held i content b)
+used_named : (i : ℕ) (held : List HeldSlot) (content : List ℕ) (b : Bool) → NamedOnce (map slot held) → Named (with_used held i content b)
 used_named i held content false h = tt
 used_named i held content true h = area_named i held (area_in content) (goes_with held (area_in content)) refl h
 
-block_named : (size i : ℕ) (held : List Held) (content : List ℕ) (b : Bool) → NamedOnce (map slot held) → Named (with_block size held i content b)
+block_named : (size i : ℕ) (held : List HeldSlot) (content : List ℕ) (b : Bool) → NamedOnce (map slot held) → Named (with_block size held i content b)
 block_named size i held content true h = h
 block_named size i held content false h = used_named i held content (is_used size content) h
 
-then_named : (size i : ℕ) (x : Result (List Held) ℕ) (content : List ℕ) → Named x → Named (and_then size x i content)
+then_named : (size i : ℕ) (x : Result (List HeldSlot) ℕ) (content : List ℕ) → Named x → Named (and_then size x i content)
 then_named size i (Err bad) content h = tt
 then_named size i (Ok held) content h = block_named size i held content (is_free content) h
 
-after_named : (size : ℕ) (x : Result (List Held) ℕ) (i : ℕ) (blocks : List (List ℕ)) → Named x → Named (held_after size x i blocks)
+after_named : (size : ℕ) (x : Result (List HeldSlot) ℕ) (i : ℕ) (blocks : List (List ℕ)) → Named x → Named (held_after size x i blocks)
 after_named size x i [] h = h
 after_named size x i (content ∷ blocks) h = after_named size (and_then size x i content) (i + 1) blocks (then_named size i x content h)
 
@@ -82,7 +82,7 @@ slots_named image slots h = by (held_of image) (held_named image (is_device imag
     same : (xs ys : List Slot) → ◌≡◌ {A = Result (List Slot) ℕ} (Ok xs) (Ok ys) → xs ≡ ys
     same xs ys e = cc
 
-    by : (x : Result (List Held) ℕ) → Named x → as_slots x ≡ Ok slots → NamedOnce slots
+    by : (x : Result (List HeldSlot) ℕ) → Named x → as_slots x ≡ Ok slots → NamedOnce slots
     by (Ok held) so e = subst NamedOnce (same (map slot held) slots e) so
     by (Err bad) so e = absurd cc
 
@@ -100,7 +100,7 @@ abbrev chosen : Bool → List ℕ × Machine → List (List ℕ × Machine) → 
 chosen b p ps a = unwrap_or (option_map (λ q. q.1) (cond b (Some p) (find (λ q. bytes_eq a q.0) ps))) (record unmade { now = 0 })
 
 slot_labelled : (image : List (List ℕ)) (m : Machine) (t : Slot) → at m t.label ≡ None → AreLabelled m → AreLabelled (with_slot image m t)
-slot_labelled image m t free h = new_once (record { label = t.label; serial = m.serial; object = stored_area t.kind (view image t.blocks) }) m.held free h
+slot_labelled image m t free h = new_once (record { label = t.label; serial = m.serial; object = stored_area t.kind (contents_at image t.blocks) }) m.held free h
 
 stored_labelled : (image : List (List ℕ)) (ms : List (List ℕ × Machine)) (t : Slot) → IsFree ms t → AllLabelled ms → AllLabelled (with_stored image ms t)
 stored_labelled image [] t free h = (slot_labelled image unmade t refl (λ x has. absurd (omega (arith, has.1))), tt)
@@ -113,7 +113,7 @@ stored_labelled image (p ∷ ps) t free h = by (λ f. stored_labelled image ps t
 -- a slot of another name takes no label
 other_free : (image : List (List ℕ)) (m : Machine) (t u : Slot) → bytes_eq u.label t.label ≡ false → at m u.label ≡ None → at (with_slot image m t) u.label ≡ None
 other_free image m t u apart free =
-    let x : machine.Held = record { label = t.label; serial = m.serial; object = stored_area t.kind (view image t.blocks) } in
+    let x : machine.Held = record { label = t.label; serial = m.serial; object = stored_area t.kind (contents_at image t.blocks) } in
     find-append (λ h. bytes_eq u.label h.label) m.held (x ∷ [])
     ∙ (ap (λ (o : Option machine.Held). option_or o (held_at u.label (x ∷ []))) free ∙ ap (λ b. cond b (Some x) None) apart)
 

@@ -25,7 +25,7 @@ ghost use Rattle.ark_machine.specs.Paced.{StandsPaced};
 ghost use Rattle.ark_machine.specs.Confined.{AllAllowed, EndsAtFailure, Confined, readable, writable};
 ghost use Rattle.ark_machine.specs.Private.{Play, after_plays, inputs_of, replies_to, private_replies, private_machine};
 ghost use Rattle.ark_machine.specs.Told.{plays_of, outputs_to, text_of, own_slots, area_in, with_areas};
-ghost use Rattle.ark_machine.specs.Ranks.{rank, Holds};
+ghost use Rattle.ark_machine.specs.Ranks.{rank, HasCondition};
 ghost use Rattle.ark_machine.specs.Refused.{is_told_late, is_of_sending, may_leave, gives_up, is_gain, is_look, labels};
 
 /// Every line is confined. What follows its device calls touches only the blocks that the grants of its application allow it,
@@ -200,12 +200,12 @@ pub fn fault_laws()
 /// A line is refused where a condition of its word holds, with the refusal of least rank, in the one order, whose condition
 /// holds, and with no other; else it has its row.
 pub fn order_laws()
-    ensures holds { (c : Conditions) (x : Refusal) → first c ≡ Some x → Holds c x }
+    ensures holds { (c : Conditions) (x : Refusal) → first c ≡ Some x → HasCondition c x }
     ensures least { (c : Conditions) (x y : Refusal) →
-        first c ≡ Some x → Holds c y → rank x ≤ rank y }
-    ensures refuses { (c : Conditions) (x : Refusal) → Holds c x → first c ≡ None → ⊥ }
+        first c ≡ Some x → HasCondition c y → rank x ≤ rank y }
+    ensures refuses { (c : Conditions) (x : Refusal) → HasCondition c x → first c ≡ None → ⊥ }
     ensures only { (c : Conditions) (x : Refusal) →
-        Holds c x → ((y : Refusal) → Holds c y → rank x ≤ rank y) → first c ≡ Some x }
+        HasCondition c x → ((y : Refusal) → HasCondition c y → rank x ≤ rank y) → first c ≡ Some x }
     ensures first_chosen { (m : Machine) (c : Conditions) (row : Row) (x : Refusal) →
         first c ≡ Some x → (answer m c row).said ≡ said.Refused x }
     ensures none_chosen { (m : Machine) (c : Conditions) (row : Row) →

@@ -1,6 +1,6 @@
 // The law of places in an application's memory.
 ghost use Rattle.std.specs.Prelude.{◌≡◌, ◌↔◌, ◌≤◌, ℕ, List, Some, None};
-ghost use Rattle.ark_region.specs.Frames.{Fits, IsLeastPlace};
+ghost use Rattle.ark_region.specs.Frames.{IsFreeRun, IsLeastPlace};
 ghost use Rattle.ark_machine.specs.Bytes.{Frames, place};
 ghost use Rattle.ark_machine.specs.Places.{IsLiveFrame, AreSized};
 
@@ -12,5 +12,5 @@ pub fn place_laws()
         (place live k frames ≡ Some s) ↔ IsLeastPlace (IsLiveFrame live) frames k s }
     ensures none { (live : List Frames) (k frames : ℕ) →
         1 ≤ k → AreSized live →
-        (place live k frames ≡ None) ↔ ((s : ℕ) → Fits (IsLiveFrame live) frames k s → ⊥) }
+        (place live k frames ≡ None) ↔ ((s : ℕ) → IsFreeRun (IsLiveFrame live) frames k s → ⊥) }
 {}

@@ -3,7 +3,7 @@ use Rattle.std.proofs.Common.{◌≡◌, ◌<◌, ◌≤◌, inl, inr, ℕ, zero
 use Rattle.std.specs.Prelude.{None, Some, nat_le, ◌&&◌, ◌||◌, if◌then◌else◌}
 use Rattle.std.proofs.lemmas.Bool.{and_parts, false≢true}
 use Rattle.std.proofs.lemmas.Bool.Decides.{nat_tests}
-use Rattle.ark_region.specs.Frames.{Fits, IsLeastPlace}
+use Rattle.ark_region.specs.Frames.{IsFreeRun, IsLeastPlace}
 use Rattle.ark_machine.specs.Bytes.{Frames, are_free, place_from, place}
 use Rattle.ark_machine.specs.Places.{HasFrame, IsLiveFrame, AreSized}
 
@@ -87,18 +87,18 @@ found_from live k frames t (suc n) s h = by (is_free live k frames s) refl h (λ
         }
 
 module _ (live : List Frames) (k frames : ℕ) (some : 1 ≤ k) (sized : AreSized live) where
-  fits_free : (s : ℕ) → Fits (IsLiveFrame live) frames k s → is_free live k frames s ≡ true
+  fits_free : (s : ℕ) → IsFreeRun (IsLiveFrame live) frames k s → is_free live k frames s ≡ true
   fits_free s f = rw (of_le (s + k) frames f.inside, all_away s k live some sized f.free) refl
 
-  free_fits : (s : ℕ) → is_free live k frames s ≡ true → Fits (IsLiveFrame live) frames k s
+  free_fits : (s : ℕ) → is_free live k frames s ≡ true → IsFreeRun (IsLiveFrame live) frames k s
   free_fits s h =
       let p = and_parts (nat_le (s + k) frames) (are_free live s k) h in
       record { inside = le_of (s + k) frames p.0; free = λ j a b has. all_clear s k live j p.1 a b has }
 
-  not_free : (s : ℕ) → (Fits (IsLiveFrame live) frames k s → ⊥) → is_free live k frames s ≡ false
+  not_free : (s : ℕ) → (IsFreeRun (IsLiveFrame live) frames k s → ⊥) → is_free live k frames s ≡ false
   not_free s never = split (is_free live k frames s) (λ free. absurd (never (free_fits s free))) (λ taken. taken)
 
-  not_fits : (s : ℕ) → is_free live k frames s ≡ false → Fits (IsLiveFrame live) frames k s → ⊥
+  not_fits : (s : ℕ) → is_free live k frames s ≡ false → IsFreeRun (IsLiveFrame live) frames k s → ⊥
   not_fits s taken f = false≢true (sym taken ∙ fits_free s f)
 
   pub least_is_place : (s : ℕ) → IsLeastPlace (IsLiveFrame live) frames k s → place live k frames ≡ Some s
@@ -111,7 +111,7 @@ module _ (live : List Frames) (k frames : ℕ) (some : 1 ≤ k) (sized : AreSize
       let f = found_from live k frames s frames 0 h in
       record { here = free_fits s f.free; least = λ j lt. not_fits j (f.least j (omega arith) lt) }
 
-  pub none_no_place : ((s : ℕ) → Fits (IsLiveFrame live) frames k s → ⊥) → place live k frames ≡ None
+  pub none_no_place : ((s : ℕ) → IsFreeRun (IsLiveFrame live) frames k s → ⊥) → place live k frames ≡ None
   none_no_place never = no_place live k frames (λ s. not_free s (never s)) frames 0
 
   none_from : (n s : ℕ) → place_from live k frames s n ≡ None → (j : ℕ) → s ≤ j → j < s + n → is_free live k frames j ≡ false
@@ -124,5 +124,5 @@ module _ (live : List Frames) (k frames : ℕ) (some : 1 ≤ k) (sized : AreSize
       by false is e next = split (nat_le (s + 1) j) (λ p. next e (le_of (s + 1) j p) (omega (arith, b)))
           (λ p. let same : j ≡ s = (let q : j < s + 1 = lt_of (s + 1) j p in omega (arith, a, q)) in ap (λ z. is_free live k frames z) same ∙ is)
 
-  pub no_place_none : place live k frames ≡ None → (s : ℕ) → Fits (IsLiveFrame live) frames k s → ⊥
+  pub no_place_none : place live k frames ≡ None → (s : ℕ) → IsFreeRun (IsLiveFrame live) frames k s → ⊥
   no_place_none h s f = let inside = f.inside in not_fits s (none_from frames 0 h s (omega arith) (omega (arith, inside, some))) f

@@ -10,7 +10,7 @@ use Rattle.ark_script.specs.declared.said.Said.TheVariants as said
 use Rattle.ark_machine.specs.Bytes.{padded, trimmed}
 use Rattle.ark_machine.specs.Objects
 use Rattle.ark_machine.specs.Objects.{Object, Raw, is_vsa}
-use Rattle.ark_machine.specs.Machine.{Machine, at, raw_at, missing, is_full, count_of, with_object, with_new}
+use Rattle.ark_machine.specs.Machine.{Machine, at, raw_at, missing, is_full, held_count, with_object, with_new}
 use Rattle.ark_machine.specs.Row.{Row, Given, Ended, Call, reads, writes, syncs, zeroes_new, writes_slot, answer, has_fault, synced_by}
 
 -- no application has more areas than these
@@ -33,7 +33,7 @@ vsa m s n k g =
     (record none {
       no_application = not m.made;
       name_taken = is_some (at m s);
-      limit = g.limit || is_full m || nat_le max_areas (count_of is_vsa m);
+      limit = g.limit || is_full m || nat_le max_areas (held_count is_vsa m);
       table_failed = g.table_failed;
       no_space = g.no_space;
       scattered = g.scattered;

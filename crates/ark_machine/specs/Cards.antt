@@ -7,7 +7,7 @@ use Rattle.ark_script.specs.declared.said.Said.{Said}
 use Rattle.ark_script.specs.declared.said.Said.TheVariants as said
 use Rattle.ark_machine.specs.Objects
 use Rattle.ark_machine.specs.Objects.{Vsic, Job, transfer, flush, phase, held_in, no_queue, is_card}
-use Rattle.ark_machine.specs.Machine.{Machine, at, raw_at, vsic_at, buffer_at, serial_at, missing, is_full, count_of, with_new, with_vsic, bytes_at}
+use Rattle.ark_machine.specs.Machine.{Machine, at, raw_at, vsic_at, buffer_at, serial_at, missing, is_full, held_count, with_new, with_vsic, bytes_at}
 use Rattle.ark_machine.specs.Row.{Row, Given, says, answer}
 use Rattle.ark_machine.specs.Control.{has_log}
 use Rattle.ark_machine.specs.Areas.{area_blocks}
@@ -19,7 +19,7 @@ max_cards = 8
 
 -- whether there is no room for one more card
 abbrev pub no_more_cards : Machine → Bool
-no_more_cards m = is_full m || nat_le max_cards (count_of is_card m)
+no_more_cards m = is_full m || nat_le max_cards (held_count is_card m)
 
 -- `vsic A v SIZE`: a storage card with a ring of so many descriptors
 abbrev pub vsic : Machine → List ℕ → ℕ → Given → Row

@@ -28,11 +28,11 @@ abbrev pub frames_at : Machine → List ℕ → List (Place × ℕ)
 frames_at m v = unwrap_or (option_map (λ x. x.tx.posted) (vnic_at m v)) []
 
 -- the frame's buffer has as many
-abbrev pub IsThere : Machine → Place × ℕ → Type 0
-IsThere m p = p.1 ≤ length (bytes_in m p.0)
+abbrev pub HasFrame : Machine → Place × ℕ → Type 0
+HasFrame m p = p.1 ≤ length (bytes_in m p.0)
 
 abbrev pub FramesThere : Machine → Type 0
-FramesThere m = (v : List ℕ) (p : Place × ℕ) → Contains (frames_at m v) p → IsThere m p
+FramesThere m = (v : List ℕ) (p : Place × ℕ) → Contains (frames_at m v) p → HasFrame m p
 
 -- The frame is that of the oldest posted descriptor of card x. So many bytes as were posted have passed the card's transmit
 -- queue at the machine's tick: as many as went out where the frame's buffer has them all, and never fewer.

@@ -84,8 +84,8 @@ is_so p o = unwrap_or (option_map p o) false
 abbrev pub holds_any : Machine → (Object → Bool) → Bool
 holds_any m p = list_any (λ h. p h.object) m.held
 
-abbrev pub count_of : (Object → Bool) → Machine → ℕ
-count_of p m = length (select (λ h. p h.object) m.held)
+abbrev pub held_count : (Object → Bool) → Machine → ℕ
+held_count p m = length (select (λ h. p h.object) m.held)
 
 -- the first of the labels, from the left, that it does not hold
 abbrev pub missing : Machine → List (List ℕ) → Option (List ℕ)

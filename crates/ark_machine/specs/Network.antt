@@ -13,7 +13,7 @@ use Rattle.ark_script.specs.declared.said.Said.TheVariants as said
 use Rattle.ark_machine.specs.Bytes.{written}
 use Rattle.ark_machine.specs.Objects
 use Rattle.ark_machine.specs.Objects.{Object, Paced, Vnic, Place, named, taken, Buffer, held_in, no_queue, is_filter}
-use Rattle.ark_machine.specs.Machine.{Machine, at, vnic_at, filter_at, buffer_at, missing, is_full, count_of, holds_any, with_new, with_object, with_vnic, bytes_at}
+use Rattle.ark_machine.specs.Machine.{Machine, at, vnic_at, filter_at, buffer_at, missing, is_full, held_count, holds_any, with_new, with_object, with_vnic, bytes_at}
 use Rattle.ark_machine.specs.Row.{Row, Given, says, answer}
 use Rattle.ark_machine.specs.Buffers.{is_lent, with_bytes}
 use Rattle.ark_machine.specs.Rates.{is_over_burst, may_pass, passed, rung}
@@ -57,7 +57,7 @@ filter m f rule g =
     (record none {
       no_application = not m.made;
       name_taken = is_some (at m f);
-      limit = is_full m || nat_le max_filters (count_of is_filter m);
+      limit = is_full m || nat_le max_filters (held_count is_filter m);
       no_nic = g.no_nic;
       overlap = g.overlap;
       no_memory = g.no_memory;
@@ -206,9 +206,9 @@ abbrev pub with_frame : Machine → Place → List ℕ → Machine
 with_frame m (named b) frame = with_bytes m b 0 frame
 with_frame m (taken b) frame = m
 
-abbrev pub filled : Place → List ℕ → Place
-filled (named b) frame = named b
-filled (taken b) frame = taken (record b { bytes = written b.bytes 0 frame })
+abbrev pub filled_place : Place → List ℕ → Place
+filled_place (named b) frame = named b
+filled_place (taken b) frame = taken (record b { bytes = written b.bytes 0 frame })
 
 abbrev pub rx_ending : Place → List Place → ℕ → Vnic → Vnic
 rx_ending p ps len v = record v { rx = record { posted = ps; moved = 0; unreaped = v.rx.unreaped ++ (p, len) ∷ [] } }
@@ -219,7 +219,7 @@ rx_passed pace v = record v { rx_pace = pace }
 -- the frame stands in the buffer of the oldest posted descriptor, which has ended, and the doorbell rings
 abbrev pub received : Machine → List ℕ → Vnic → Place → List Place → List ℕ → Machine
 received m v x p ps frame =
-    rung (with_vnic (with_vnic (with_frame m p frame) v (rx_passed (passed m.now (length frame) x.rx_pace))) v (rx_ending (filled p frame) ps (length frame))) x.rx_door bell.Rx
+    rung (with_vnic (with_vnic (with_frame m p frame) v (rx_passed (passed m.now (length frame) x.rx_pace))) v (rx_ending (filled_place p frame) ps (length frame))) x.rx_door bell.Rx
 
 abbrev pub arrival : List ℕ → Machine → List ℕ → Vnic → List Place → List ℕ → Row
 arrival a m v x [] frame = says m (said.DroppedNoBuffer a v)

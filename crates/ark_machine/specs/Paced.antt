@@ -1,7 +1,7 @@
 -- What holds of rates from the start of a run on: each queue keeps its rate, and nothing has passed in the time to come.
 use Rattle.std.specs.Prelude.{◌≡◌, ℕ, List, Option, Some, None}
 use Rattle.std.specs.List.{AllByRecursion}
-use Rattle.ark_vic.specs.Pace.{Keeps, NoneAfter}
+use Rattle.ark_vic.specs.Pace.{WithinRate, NoneAfter}
 use Rattle.ark_machine.specs.Objects
 use Rattle.ark_machine.specs.Objects.{Object, Paced}
 use Rattle.ark_machine.specs.Machine.{Machine, Held}
@@ -10,7 +10,7 @@ use Rattle.ark_machine.specs.System.{System}
 -- at tick t the passes of a queue keep the law of its rate, and none is after t
 abbrev pub IsPacedAt : ℕ → Option Paced → Type 0
 IsPacedAt t None = Unit {0}
-IsPacedAt t (Some p) = Keeps p.q p.burst p.passes × NoneAfter t p.passes
+IsPacedAt t (Some p) = WithinRate p.q p.burst p.passes × NoneAfter t p.passes
 
 -- a card's queues
 abbrev pub ArePacedAt : ℕ → Object → Type 0

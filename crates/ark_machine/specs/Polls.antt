@@ -6,7 +6,7 @@ use Rattle.ark_base.specs.declared.kind.Kind.TheVariants as kind
 use Rattle.ark_base.specs.declared.kind.Outcome.{Outcome}
 use Rattle.ark_base.specs.declared.kind.Outcome.TheVariants as outcome
 use Rattle.ark_entry.specs.Found.{Entries, found}
-use Rattle.ark_caladan.specs.Chain.{Log, Opened, Command, append, trim, pop, Phase, after, entries, commands, phases_of}
+use Rattle.ark_caladan.specs.Chain.{Log, Opened, Command, append, trim, pop, Phase, after_command, entries, commands, phases_of}
 use Rattle.ark_script.specs.declared.said.Said.{Said}
 use Rattle.ark_script.specs.declared.said.Said.TheVariants as said
 use Rattle.ark_machine.specs.Objects
@@ -36,7 +36,7 @@ oldest_done o = record o { waiting = drop 1 o.waiting; done = 0; decided = false
 
 -- the oldest command is acknowledged: it is applied to the list, and waits no more
 abbrev pub acknowledging : Command → Log → Log
-acknowledging c g = record g { list = found (after (entries g.list) c); opened = option_map oldest_done g.opened }
+acknowledging c g = record g { list = found (after_command (entries g.list) c); opened = option_map oldest_done g.opened }
 
 -- what a poll answers, and whether the card has to move before the next one answers more
 pub record Polled : Type 0 where

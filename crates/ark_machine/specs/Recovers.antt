@@ -15,7 +15,7 @@ use Rattle.ark_machine.specs.Machine.{object_at}
 use Rattle.ark_machine.specs.Row.{Call}
 use Rattle.ark_machine.specs.Plane.{Change, makes, grows, drops}
 use Rattle.ark_machine.specs.Granting.{change_of, with_more}
-use Rattle.ark_machine.specs.Start.{view}
+use Rattle.ark_machine.specs.Start.{contents_at}
 use Rattle.ark_machine.specs.System.{System, machine_of, owner, line_turn}
 
 -- The change of the table that the line of the unfinished part began: a line that makes no device call begins none.
@@ -108,7 +108,7 @@ log_choices s c t =
     else object_lists (object_of s t)
 
 abbrev pub LogStands : System → Option Change → List (List ℕ) → Slot → Type 0
-LogStands s c image t = Contains (log_choices s c t) (found_of t.kind (view image t.blocks))
+LogStands s c image t = Contains (log_choices s c t) (found_of t.kind (contents_at image t.blocks))
 
 abbrev pub BlocksStand : System → Option Change → List Event → List (List ℕ) → Slot → Type 0
 BlocksStand s c rest image t = (k n : ℕ) → slice_get t.blocks k ≡ Some n → Contains (block_choices s c rest t k n) (block image n)

@@ -2,7 +2,7 @@
 use Rattle.std.specs.Prelude.{◌≡◌, ℕ, List, [], ◌∷◌, ◌++◌, length, codes, IsTrue, Option, Some, None, option_and_then, Ok}
 use Rattle.std.specs.List.{AllByRecursion}
 use Rattle.ark_media.specs.Journal.{Event, Read, Write, Sync, Out}
-use Rattle.ark_vic.specs.Pace.{Pass, Keeps}
+use Rattle.ark_vic.specs.Pace.{Pass, WithinRate}
 use Rattle.ark_script.specs.Line as w
 use Rattle.ark_script.specs.Line.{Line}
 use Rattle.ark_script.specs.Lines.{Meaning}
@@ -20,7 +20,7 @@ use Rattle.ark_machine.specs.Private.{taker}
 -- the passes of a queue keep the law of its rate
 abbrev pub KeepsRate : Option Paced → Type 0
 KeepsRate None = Unit {0}
-KeepsRate (Some p) = Keeps p.q p.burst p.passes
+KeepsRate (Some p) = WithinRate p.q p.burst p.passes
 
 -- a card's queues do
 abbrev pub KeepsRates : Object → Type 0
@@ -64,7 +64,7 @@ pace_by s _ = None
 -- with these passes more, the queue keeps the law of its rate
 abbrev pub KeepsWith : Option Paced → List Pass → Type 0
 KeepsWith None more = Unit {0}
-KeepsWith (Some p) more = Keeps p.q p.burst (p.passes ++ more)
+KeepsWith (Some p) more = WithinRate p.q p.burst (p.passes ++ more)
 
 -- the blocks of a line's device events are within the rate of the card that it moves
 abbrev pub PassesWithin : System → Line → List Event → Type 0

@@ -12,7 +12,7 @@ use Rattle.ark_script.specs.declared.said.Said.TheVariants as said
 use Rattle.ark_machine.specs.Bytes.{Frames, place}
 use Rattle.ark_machine.specs.Objects
 use Rattle.ark_machine.specs.Objects.{Object, Vnic, Place, taken, Socket, Datagram, held_in}
-use Rattle.ark_machine.specs.Machine.{Machine, at, vnic_at, socket_at, missing, is_full, count_of, holds_any, each_object, with_new, with_vnic, with_socket, live_frames, room_for}
+use Rattle.ark_machine.specs.Machine.{Machine, at, vnic_at, socket_at, missing, is_full, held_count, holds_any, each_object, with_new, with_vnic, with_socket, live_frames, room_for}
 use Rattle.ark_machine.specs.Row.{Row, Given, says, answer}
 use Rattle.ark_machine.specs.Control.{is_socket_on}
 use Rattle.ark_machine.specs.Network.{is_socketed, is_tx_full, posting_tx, bytes_in}
@@ -40,7 +40,7 @@ has_port v port (Objects.socket k) = bytes_eq v k.card && nat_eq k.port port
 has_port v port o = false
 
 abbrev pub sockets_on : Machine → List ℕ → ℕ
-sockets_on m v = count_of (is_socket_on v) m
+sockets_on m v = held_count (is_socket_on v) m
 
 -- anything is posted or unreaped on either ring
 abbrev pub is_used : Machine → List ℕ → Bool

@@ -11,8 +11,8 @@ use Rattle.ark_machine.specs.Machine.{Machine, unmade, with_new}
 use Rattle.ark_machine.specs.System.{System}
 
 -- the blocks of an image at these numbers, in their order
-abbrev pub view : List (List ℕ) → List ℕ → List (List ℕ)
-view image blocks = map (λ n. block image n) blocks
+abbrev pub contents_at : List (List ℕ) → List ℕ → List (List ℕ)
+contents_at image blocks = map (λ n. block image n) blocks
 
 -- what an area of this kind holds: its blocks, or the list of a log or queue that is found in them
 abbrev pub stored_area : Kind → List (List ℕ) → Object
@@ -20,7 +20,7 @@ stored_area kind.Raw blocks = Objects.raw (record { content = blocks; maybe = ma
 stored_area k blocks = Objects.log (record { kind = k; blocks = length blocks; list = found_of k blocks; opened = None; left = None })
 
 abbrev pub with_slot : List (List ℕ) → Machine → Slot → Machine
-with_slot image m t = with_new m t.label (stored_area t.kind (view image t.blocks))
+with_slot image m t = with_new m t.label (stored_area t.kind (contents_at image t.blocks))
 
 -- the machines with the area of a slot
 abbrev pub with_stored : List (List ℕ) → List (List ℕ × Machine) → Slot → List (List ℕ × Machine)

@@ -9,7 +9,7 @@ use Rattle.ark_script.specs.Text.{text}
 use Rattle.ark_machine.specs.Machine.{Machine, with_new}
 use Rattle.ark_machine.specs.Control.{is_label}
 use Rattle.ark_machine.specs.System.{System}
-use Rattle.ark_machine.specs.Start.{view, stored_area}
+use Rattle.ark_machine.specs.Start.{contents_at, stored_area}
 use Rattle.ark_machine.specs.Built.{is_built}
 use Rattle.ark_machine.specs.Follow.{ends_of}
 use Rattle.ark_machine.specs.Replies.{turn_for, has_lacked}
@@ -60,7 +60,7 @@ pub record Area : Type 0 where
   pub content : List (List ℕ)
 
 abbrev pub area_in : List (List ℕ) → Slot → Area
-area_in image t = record { label = t.label; kind = t.kind; content = view image t.blocks }
+area_in image t = record { label = t.label; kind = t.kind; content = contents_at image t.blocks }
 
 abbrev pub with_areas : Machine → List Area → Machine
 with_areas m [] = m

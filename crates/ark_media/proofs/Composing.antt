@@ -3,7 +3,7 @@ use Rattle.std.proofs.Common.{◌≡◌, inl, inr, ℕ, ◌≤◌, List, [], ◌
 use Rattle.std.specs.Prelude.{Option, Some}
 use Rattle.std.proofs.Math.Nat.{le_refl, le_trans}
 use Rattle.ark_media.specs.Journal.{Event, Read, Write, Sync, Out, History, output_of, device_events, HasFailed}
-use Rattle.ark_media.specs.Calls.{Script, Told, Beside, Tells, Rests, Adds, StillTold, Takes, Fetches, Goes, Keeps, KeepsAtFetch, KeepsAtPut}
+use Rattle.ark_media.specs.Calls.{Script, Told, Beside, Tells, Rests, Adds, StillTold, Takes, Fetches, Goes, KeepsBeside, KeepsAtFetch, KeepsAtPut}
 use Rattle.ark_media.specs.Going.{tells_none, tells_then}
 
 pub output_of-append : (xs ys : List Event) → output_of (xs ++ ys) ≡ output_of xs ++ output_of ys
@@ -87,7 +87,7 @@ module _ (t0 t1 : Told) (b0 b1 : Beside) where
   })
 
   -- the disk alone was called
-  pub goes_kept : (es : List Event) → Tells es t0 t1 → Keeps b0 b1 → Goes es [] t0 t1 b0 b1
+  pub goes_kept : (es : List Event) → Tells es t0 t1 → KeepsBeside b0 b1 → Goes es [] t0 t1 b0 b1
   goes_kept es t k = record {
     tells = t;
     takes = takes_none b0.script b1.script k.script;

@@ -121,7 +121,7 @@ pub record Takes (before after : Option Script) (bytes : List ℕ) : Type 0 wher
   pub told : (s : Script) → after ≡ Some s → (t : Script) × (before ≡ Some t) × (s.taken ≡ t.taken ++ bytes) × (t.left ≡ bytes ++ s.left)
 
 -- What each call leaves of what is told beside the disk: a call of the disk,
-pub record Keeps (before after : Beside) : Type 0 where
+pub record KeepsBeside (before after : Beside) : Type 0 where
   pub script : StillTold before.script after.script
   pub openings : after.openings ≡ before.openings
   pub attach : after.attach_faults ≡ before.attach_faults
@@ -159,4 +159,4 @@ pub record Goes (events : List Event) (bytes : List ℕ) (told0 told1 : Told) (b
 -- what a whole world tells, where its disk alone was called
 pub record Moves (events : List Event) (told0 told1 : Told) (beside0 beside1 : Beside) : Type 0 where
   pub tells : Tells events told0 told1
-  pub keeps : Keeps beside0 beside1
+  pub keeps : KeepsBeside beside0 beside1

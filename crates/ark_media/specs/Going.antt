@@ -3,7 +3,7 @@ use Rattle.std.proofs.Common.{◌≡◌, ◌⊎◌, inl, inr, ⊎_elim, ℕ, ◌
 use Rattle.std.proofs.Math.Nat.{le_refl, le_trans, le-min, min-le_left, min-le_right, add-le-add}
 use Rattle.std.specs.Prelude.{Option}
 use Rattle.ark_media.specs.Journal.{Event, History, onto, HasFailed}
-use Rattle.ark_media.specs.Calls.{Told, Tells, Adds, Rose, Beside, Keeps, Moves}
+use Rattle.ark_media.specs.Calls.{Told, Tells, Adds, Rose, Beside, KeepsBeside, Moves}
 
 pub onto-append : (xs ys j : List Event) → onto (xs ++ ys) j ≡ onto ys (onto xs j)
 onto-append [] ys j = refl
@@ -43,10 +43,10 @@ tells_then es fs a b c p q = record {
   cause = λ failed. ⊎_elim (λ x. rose_later a.faults b.faults c.faults (p.cause x) q.later) (λ x. rose_from a.faults b.faults c.faults p.later (q.cause x)) (failed_append es fs failed);
 }
 
-pub keeps_none : (b : Beside) → Keeps b b
+pub keeps_none : (b : Beside) → KeepsBeside b b
 keeps_none b = record { script = record { told = λ x is. is }; openings = refl; attach = refl; source = refl; sink = refl }
 
-pub keeps_then : (a b c : Beside) → Keeps a b → Keeps b c → Keeps a c
+pub keeps_then : (a b c : Beside) → KeepsBeside a b → KeepsBeside b c → KeepsBeside a c
 keeps_then a b c p q = record {
   script = record { told = λ x is. p.script.told x (q.script.told x is) };
   openings = q.openings ∙ p.openings;

@@ -1,6 +1,6 @@
 ghost use Rattle.std.specs.Prelude.{◌≡◌, ◌≤◌, ◌<◌, ℕ, List, [], ◌∷◌, ◌++◌, Some, length, is_ok, IfOk, OnOk, OnErr, IfSome};
 ghost use Rattle.ark_media.specs.Journal.{Event, History, AllBlocks, fresh};
-ghost use Rattle.ark_media.specs.Calls.{Told, Beside, attaching, making, Tells, Rests, Went, Reads, Writes, Syncs, Adds, StillTold, HasCause, GivesBlock, Puts, Fetches, Keeps, KeepsAtAttach, KeepsAtFetch, KeepsAtPut};
+ghost use Rattle.ark_media.specs.Calls.{Told, Beside, attaching, making, Tells, Rests, Went, Reads, Writes, Syncs, Adds, StillTold, HasCause, GivesBlock, Puts, Fetches, KeepsBeside, KeepsAtAttach, KeepsAtFetch, KeepsAtPut};
 
 /// A read, a write or a sync failed.
 #[derive(Clone, Copy, Debug, PartialEq, Eq)]
@@ -124,5 +124,5 @@ pub trait Outside: Disk {
 
     /// A call that is given the disk alone leaves all else.
     ghost goes_means: { (v w : Self) (es : List Event) → Self.goes v es w
-        → Keeps (beside v) (beside w) };
+        → KeepsBeside (beside v) (beside w) };
 }

@@ -8,9 +8,9 @@ use Rattle.ark_media.proofs.Composing.{output_of-append}
 use Rattle.ark_memory.specs.declared.tape.Kept.{Kept}
 use Rattle.ark_memory.specs.declared.tape.Kept.TheVariants as kept
 use Rattle.ark_memory.specs.Reels.{Taped, tape_with}
-use Rattle.ark_memory.specs.Tape.{event_of, IsWithin, AllWithin, Sound}
+use Rattle.ark_memory.specs.Tape.{event_of, IsOnTape, AllWithin, Sound}
 
-entry_more : (text more : List ℕ) (blocks others : List (List ℕ)) (e : Kept) → IsWithin (length text) (length blocks) e → event_of (text ++ more) (blocks ++ others) e ≡ event_of text blocks e
+entry_more : (text more : List ℕ) (blocks others : List (List ℕ)) (e : Kept) → IsOnTape (length text) (length blocks) e → event_of (text ++ more) (blocks ++ others) e ≡ event_of text blocks e
 entry_more text more blocks others (kept.Read n ok) h = refl
 entry_more text more blocks others (kept.Write n at took ok) h = ap (λ (b : List ℕ). Write n b took ok) (get_or-append blocks others [] at h)
 entry_more text more blocks others (kept.Sync ok) h = refl
@@ -23,7 +23,7 @@ entries_more text more blocks others [] h = refl
 entries_more text more blocks others (e ∷ es) h = ap (λ x. x ∷ map (event_of (text ++ more) (blocks ++ others)) es) (entry_more text more blocks others e h.0)
     ∙ ap (λ t. event_of text blocks e ∷ t) (entries_more text more blocks others es h.1)
 
-within_one : (n k m l : ℕ) (e : Kept) → n ≤ m → k ≤ l → IsWithin n k e → IsWithin m l e
+within_one : (n k m l : ℕ) (e : Kept) → n ≤ m → k ≤ l → IsOnTape n k e → IsOnTape m l e
 within_one n k m l (kept.Read i ok) le ke h = h
 within_one n k m l (kept.Write i at took ok) le ke h = omega (arith, h, ke)
 within_one n k m l (kept.Sync ok) le ke h = h
@@ -33,7 +33,7 @@ within_more : (n k m l : ℕ) (es : List Kept) → n ≤ m → k ≤ l → AllWi
 within_more n k m l [] le ke h = tt
 within_more n k m l (e ∷ es) le ke h = (within_one n k m l e le ke h.0, within_more n k m l es le ke h.1)
 
-within_end : (n k : ℕ) (es : List Kept) (e : Kept) → AllWithin n k es → IsWithin n k e → AllWithin n k (es ++ e ∷ [])
+within_end : (n k : ℕ) (es : List Kept) (e : Kept) → AllWithin n k es → IsOnTape n k e → AllWithin n k (es ++ e ∷ [])
 within_end n k [] e h i = (i, tt)
 within_end n k (x ∷ es) e h i = (h.0, within_end n k es e h.1 i)
 
@@ -46,7 +46,7 @@ module _ (text more : List ℕ) (blocks others : List (List ℕ)) (es : List Kep
   view_more k = map-append (event_of (text ++ more) (blocks ++ others)) es (k ∷ [])
       ∙ ap (λ t. t ++ event_of (text ++ more) (blocks ++ others) k ∷ []) (entries_more text more blocks others es sound.0)
 
-  sound_more : (k : Kept) → IsWithin (length (text ++ more)) (length (blocks ++ others)) k → output_of (event_of (text ++ more) (blocks ++ others) k ∷ []) ≡ more → Sound (text ++ more) (blocks ++ others) (es ++ k ∷ [])
+  sound_more : (k : Kept) → IsOnTape (length (text ++ more)) (length (blocks ++ others)) k → output_of (event_of (text ++ more) (blocks ++ others) k ∷ []) ≡ more → Sound (text ++ more) (blocks ++ others) (es ++ k ∷ [])
   sound_more k within out = (
     within_end (length (text ++ more)) (length (blocks ++ others)) es k grown_within within,
     ap output_of (view_more k) ∙ output_of-append (map (event_of text blocks) es) (event_of (text ++ more) (blocks ++ others) k ∷ [])
@@ -61,7 +61,7 @@ out_is text more blocks =
 
 -- a read or a sync, or another event with no output that stands in no buffer
 module _ (text : List ℕ) (blocks : List (List ℕ)) (es es2 : List Kept) (k : Kept) (added : es2 ≡ es ++ k ∷ []) (sound : Sound text blocks es) where
-  pub plain_sound : IsWithin (length text) (length blocks) k → output_of (event_of text blocks k ∷ []) ≡ [] → Sound text blocks es2
+  pub plain_sound : IsOnTape (length text) (length blocks) k → output_of (event_of text blocks k ∷ []) ≡ [] → Sound text blocks es2
   plain_sound within out = rw added (
     within_end (length text) (length blocks) es k sound.0 within,
     ap output_of (map-append (event_of text blocks) es (k ∷ [])) ∙ output_of-append (map (event_of text blocks) es) (event_of text blocks k ∷ [])
@@ -94,7 +94,7 @@ module _ (text : List ℕ) (blocks blocks2 : List (List ℕ)) (block : List ℕ)
         ∙ ap (λ (b : List ℕ). map (event_of text blocks) es ++ Write n b took ok ∷ []) (get_or-append_seam blocks block [] []) ∙ ap (λ x. x ++ Write n block took ok ∷ []) is))
 
 -- what is kept at a place
-pub kept_at : (n k : ℕ) (es : List Kept) (i : ℕ) (d : Kept) → AllWithin n k es → i < length es → IsWithin n k (get_or es i d)
+pub kept_at : (n k : ℕ) (es : List Kept) (i : ℕ) (d : Kept) → AllWithin n k es → i < length es → IsOnTape n k (get_or es i d)
 kept_at n k [] i d h lt = absurd (omega arith)
 kept_at n k (e ∷ es) zero d h lt = h.0
 kept_at n k (e ∷ es) (suc i) d h lt = kept_at n k es i d h.1 (omega arith)

@@ -12,15 +12,15 @@ event_of text blocks (kept.Sync ok) = Sync ok
 event_of text blocks (kept.Out from to) = Out (take (to - from) (drop from text))
 
 -- what it names stands among so many bytes of output and so many blocks
-abbrev pub IsWithin : ℕ → ℕ → Kept → Type 0
-IsWithin text blocks (kept.Read n ok) = Unit {0}
-IsWithin text blocks (kept.Write n place took ok) = place < blocks
-IsWithin text blocks (kept.Sync ok) = Unit {0}
-IsWithin text blocks (kept.Out from to) = (from ≤ to) × (to ≤ text)
+abbrev pub IsOnTape : ℕ → ℕ → Kept → Type 0
+IsOnTape text blocks (kept.Read n ok) = Unit {0}
+IsOnTape text blocks (kept.Write n place took ok) = place < blocks
+IsOnTape text blocks (kept.Sync ok) = Unit {0}
+IsOnTape text blocks (kept.Out from to) = (from ≤ to) × (to ≤ text)
 
 abbrev pub AllWithin : ℕ → ℕ → List Kept → Type 0
 AllWithin text blocks [] = Unit {0}
-AllWithin text blocks (e ∷ es) = IsWithin text blocks e × AllWithin text blocks es
+AllWithin text blocks (e ∷ es) = IsOnTape text blocks e × AllWithin text blocks es
 
 -- each event stands in the buffers, and the output is all in its buffer
 abbrev pub Sound : List ℕ → List (List ℕ) → List Kept → Type 0

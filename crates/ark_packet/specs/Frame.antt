@@ -26,7 +26,7 @@ abbrev pub packet_in : List ℕ → Option Packet
 packet_in bytes = packet_under (proto_of bytes) (drop 14 bytes)
 
 -- The frame is what these bytes say.
-pub record Says (bytes : List ℕ) (frame : Frame) : Type 0 where
+pub record ReadsFrame (bytes : List ℕ) (frame : Frame) : Type 0 where
   pub to : frame.to ≡ target_of bytes
   pub from : frame.from ≡ source_of bytes
   pub proto : frame.proto ≡ proto_of bytes
@@ -38,4 +38,4 @@ pub record IsFrame (frame : Frame) : Type 0 where
   pub bytes : List ℕ
   pub at_least : 14 ≤ length bytes
   pub at_most : length bytes ≤ 1514
-  pub says : Says bytes frame
+  pub says : ReadsFrame bytes frame

@@ -1,7 +1,7 @@
 -- What a word gives with the words behind it is of its form: the words with a form of their own.
 use Rattle.std.proofs.Common.{◌≡◌, ◌⊎◌, ℕ, ◌≤◌, nat_le, List, [], ◌∷◌, Option, Some, None, refl, subst, inl, inr, arith}
 use Rattle.std.proofs.lemmas.Option.{same_Some, cond_some}
-use Rattle.ark_script.specs.Arguments.{IsName, IsNumber, IsSize, IsHex, IsHex0, IsKind, fewest_blocks, IsDirection, IsIp}
+use Rattle.ark_script.specs.Arguments.{IsName, IsNumber, IsRingSize, IsHex, IsHex0, IsKind, fewest_blocks, IsDirection, IsIp}
 use Rattle.ark_script.specs.Form.{One, Two, Three, Four, Five, AreArguments, most_blocks, a_billion}
 use Rattle.ark_base.specs.declared.kind.Kind.{Kind}
 use Rattle.ark_base.specs.declared.kind.Kind.TheVariants as kind
@@ -70,8 +70,8 @@ no_bare_app [] A B h = refl
 no_bare_app (a ∷ []) A B h = absurd h
 no_bare_app (a ∷ b ∷ words) A B h = refl
 
-pub vsic_reads : Reads (three_read name_of name_of size_of) (λ (p : List ℕ × List ℕ × ℕ). Three (IsName p.0) (IsName p.1) (IsSize p.2))
-vsic_reads = three_reads name_of IsName name_of IsName size_of IsSize name_reads name_reads size_reads
+pub vsic_reads : Reads (three_read name_of name_of size_of) (λ (p : List ℕ × List ℕ × ℕ). Three (IsName p.0) (IsName p.1) (IsRingSize p.2))
+vsic_reads = three_reads name_of IsName name_of IsName size_of IsRingSize name_reads name_reads size_reads
 
 pub vsic_sound : (words : List (List ℕ)) (asked : Line) → read_vsic words ≡ Some asked → Formed word.Vsic words asked
 unfolding read_vsic
@@ -79,8 +79,8 @@ vsic_sound words asked h =
     let s = bind_some _ _ asked h in
     subst (Formed word.Vsic words) (same_Some _ _ s.2) (refl, vsic_reads.sound words s.0 s.1)
 
-pub vnic_reads : Reads (four_read name_of name_of size_of size_of) (λ (p : List ℕ × List ℕ × ℕ × ℕ). Four (IsName p.0) (IsName p.1) (IsSize p.2) (IsSize p.3))
-vnic_reads = four_reads name_of IsName name_of IsName size_of IsSize size_of IsSize name_reads name_reads size_reads size_reads
+pub vnic_reads : Reads (four_read name_of name_of size_of size_of) (λ (p : List ℕ × List ℕ × ℕ × ℕ). Four (IsName p.0) (IsName p.1) (IsRingSize p.2) (IsRingSize p.3))
+vnic_reads = four_reads name_of IsName name_of IsName size_of IsRingSize size_of IsRingSize name_reads name_reads size_reads size_reads
 
 pub vnic_sound : (words : List (List ℕ)) (asked : Line) → read_vnic words ≡ Some asked → Formed word.Vnic words asked
 unfolding read_vnic

@@ -3,7 +3,7 @@ use Rattle.std.proofs.Common.{◌≡◌, ◌<◌, ◌≤◌, ◌+◌, ◌-◌, �
 use Rattle.std.specs.Prelude.{◌↔◌}
 use Rattle.std.specs.List.{list_all}
 use Rattle.std.proofs.lemmas.Bool.{and_parts}
-use Rattle.ark_region.specs.Frames.{IsTaken, Fits, IsLeastPlace}
+use Rattle.ark_region.specs.Frames.{IsTaken, IsFreeRun, IsLeastPlace}
 
 not_taken : (b : Bool) → not b ≡ true → b ≡ false
 not_taken true h = sym h
@@ -31,7 +31,7 @@ all_free (x ∷ t) zero (suc k) le f =
 all_free (x ∷ t) (suc s) (suc k) le f = all_free t s (suc k) (omega arith) (λ j a b. f (suc j) (omega arith) (omega arith))
 
 -- the test of the frames from s on tells whether a buffer fits there
-pub fits_test : (t : List Bool) (s k : ℕ) → s + k ≤ length t → (list_all not (slice_range t s (s + k)) ≡ true) ↔ Fits (IsTaken t) (length t) k s
+pub fits_test : (t : List Bool) (s k : ℕ) → s + k ≤ length t → (list_all not (slice_range t s (s + k)) ≡ true) ↔ IsFreeRun (IsTaken t) (length t) k s
 fits_test t s k le =
     let e : (s + k) - s ≡ k = omega arith in (
       λ h. record { inside = le; free = λ j a b is. true≢false (sym is ∙ clear t s k j (rw e at h) a b) },
@@ -39,15 +39,15 @@ fits_test t s k le =
     )
 
 -- a place that fits starts inside
-none_at : (t : List Bool) (k n s : ℕ) → 0 < k → length t ≤ n → ((j : ℕ) → j < n → ¬ Fits (IsTaken t) (length t) k j) → Fits (IsTaken t) (length t) k s → ⊥
+none_at : (t : List Bool) (k n s : ℕ) → 0 < k → length t ≤ n → ((j : ℕ) → j < n → ¬ IsFreeRun (IsTaken t) (length t) k j) → IsFreeRun (IsTaken t) (length t) k s → ⊥
 none_at t k n s pos all below f = let h = f.inside in below s (omega (arith, h)) f
 
-pub none_below : (t : List Bool) (k n : ℕ) → 0 < k → length t ≤ n → ((j : ℕ) → j < n → ¬ Fits (IsTaken t) (length t) k j) → (s : ℕ) → ¬ Fits (IsTaken t) (length t) k s
+pub none_below : (t : List Bool) (k n : ℕ) → 0 < k → length t ≤ n → ((j : ℕ) → j < n → ¬ IsFreeRun (IsTaken t) (length t) k j) → (s : ℕ) → ¬ IsFreeRun (IsTaken t) (length t) k s
 none_below t k n pos all below s f = none_at t k n s pos all below f
 
 -- both answers, at equal lists and counts
-pub none_same : (t u : List Bool) (k m : ℕ) → t ≡ u → k ≡ m → ((s : ℕ) → ¬ Fits (IsTaken t) (length t) k s) → (s : ℕ) → ¬ Fits (IsTaken u) (length u) m s
-none_same t u k m e f none = subst (λ (x : List Bool). (s : ℕ) → ¬ Fits (IsTaken x) (length x) m s) e (subst (λ (n : ℕ). (s : ℕ) → ¬ Fits (IsTaken t) (length t) n s) f none)
+pub none_same : (t u : List Bool) (k m : ℕ) → t ≡ u → k ≡ m → ((s : ℕ) → ¬ IsFreeRun (IsTaken t) (length t) k s) → (s : ℕ) → ¬ IsFreeRun (IsTaken u) (length u) m s
+none_same t u k m e f none = subst (λ (x : List Bool). (s : ℕ) → ¬ IsFreeRun (IsTaken x) (length x) m s) e (subst (λ (n : ℕ). (s : ℕ) → ¬ IsFreeRun (IsTaken t) (length t) n s) f none)
 
 pub place_same : (t u : List Bool) (k m s : ℕ) → t ≡ u → k ≡ m → IsLeastPlace (IsTaken t) (length t) k s → IsLeastPlace (IsTaken u) (length u) m s
 place_same t u k m s e f p = subst (λ (x : List Bool). IsLeastPlace (IsTaken x) (length x) m s) e (subst (λ (n : ℕ). IsLeastPlace (IsTaken t) (length t) n s) f p)

@@ -2,7 +2,7 @@
 use Rattle.std.proofs.Common.{◌≡◌, ◌<◌, ◌≤◌, ◌+◌, ◌-◌, ◌*◌, ◌++◌, ◌∙◌, ℕ, List, [], ◌∷◌, length, take, drop, refl, sym, ap, arith, slice_range, inl, inr}
 use Rattle.std.specs.Prelude.{◌⊎◌}
 use Rattle.std.proofs.lemmas.List.{take-append-drop, length-take}
-use Rattle.ark_region.specs.Frames.{Space, Piece, frames_of, bytes_of, Lies, Apart, put, Wrote, written}
+use Rattle.ark_region.specs.Frames.{Space, Piece, frames_of, bytes_of, LiesInRegion, Apart, put, Wrote, written}
 use Rattle.ark_region.proofs.Putting.{at_or_below, put_beside, part_put, take_less, fitted_put}
 
 frames_hold : (n : ℕ) → n ≤ 512 * frames_of n
@@ -36,11 +36,11 @@ put_none xs [] i h = let e : i + length {A = ℕ} [] ≡ i = omega arith in ap (
 put_none xs (y ∷ ys) i h = absurd (omega arith)
 
 -- a region has the bytes of each buffer that lies in it
-pub inside_bytes : (r : Space) (b : Piece) → length r.bytes ≡ 512 * length r.taken → Lies r.taken b → 512 * b.start + b.len ≤ length r.bytes
+pub inside_bytes : (r : Space) (b : Piece) → length r.bytes ≡ 512 * length r.taken → LiesInRegion r.taken b → 512 * b.start + b.len ≤ length r.bytes
 inside_bytes r b e lies = let f = frames_hold b.len in omega (arith, e, lies, f)
 
 -- what is put into one buffer leaves the bytes of another
-module _ (r : Space) (ys : List ℕ) (a b : Piece) (i : ℕ) (whole : length r.bytes ≡ 512 * length r.taken) (lies : Lies r.taken a) (low : 512 * a.start ≤ i) (high : i + length ys ≤ 512 * a.start + a.len) (apart : Apart a b) where
+module _ (r : Space) (ys : List ℕ) (a b : Piece) (i : ℕ) (whole : length r.bytes ≡ 512 * length r.taken) (lies : LiesInRegion r.taken a) (low : 512 * a.start ≤ i) (high : i + length ys ≤ 512 * a.start + a.len) (apart : Apart a b) where
   beside : (512 * a.start + a.len ≤ 512 * b.start) ⊎ (512 * b.start + b.len ≤ 512 * a.start) → (i + length ys ≤ 512 * b.start) ⊎ (512 * b.start + b.len ≤ i)
   beside (inl h) = inl (omega (arith, h))
   beside (inr h) = inr (omega (arith, h))
@@ -67,7 +67,7 @@ pub same_range : (xs ys : List ℕ) (i n j m : ℕ) → xs ≡ ys → i ≡ j �
 same_range xs ys i n j m e f g = cc
 
 -- what is put into a buffer was written there
-pub wrote_at : (r now : Space) (b : Piece) (at : ℕ) (ys : List ℕ) → length r.bytes ≡ 512 * length r.taken → Lies r.taken b → now.taken ≡ r.taken → at + length ys ≤ b.len → now.bytes ≡ put r.bytes (512 * b.start + at) ys → Wrote r now b at ys
+pub wrote_at : (r now : Space) (b : Piece) (at : ℕ) (ys : List ℕ) → length r.bytes ≡ 512 * length r.taken → LiesInRegion r.taken b → now.taken ≡ r.taken → at + length ys ≤ b.len → now.bytes ≡ put r.bytes (512 * b.start + at) ys → Wrote r now b at ys
 wrote_at r now b at ys whole lies taken fits is = record {
   taken = taken;
   here = ap (λ z. slice_range z (512 * b.start) (512 * b.start + b.len)) is ∙ part_put r.bytes ys (512 * b.start) b.len at fits (inside_bytes r b whole lies);
@@ -81,7 +81,7 @@ part_front xs s len n le =
     rw (a, b) (sym (take_less n len (drop s xs) le))
 
 -- the same, as a lent part ends
-pub part_wrote : (r : Space) (b : Piece) (at : ℕ) (ys : List ℕ) → length r.bytes ≡ 512 * length r.taken → Lies r.taken b → at + length ys ≤ b.len → Wrote r (record r { bytes = written r.bytes (512 * b.start + at) ys }) b at ys
+pub part_wrote : (r : Space) (b : Piece) (at : ℕ) (ys : List ℕ) → length r.bytes ≡ 512 * length r.taken → LiesInRegion r.taken b → at + length ys ≤ b.len → Wrote r (record r { bytes = written r.bytes (512 * b.start + at) ys }) b at ys
 part_wrote r b at ys whole lies fits =
     let within = inside_bytes r b whole lies in
     wrote_at r (record r { bytes = written r.bytes (512 * b.start + at) ys }) b at ys whole lies refl fits (fitted_put r.bytes ys (512 * b.start + at) (omega (arith, within, fits)))

@@ -17,14 +17,14 @@ abbrev pub frames_of : ℕ → ℕ
 frames_of len = (len + 511) / 512
 
 -- The place of a new buffer: k neighbouring frames from frame s on, inside n frames, of which none is occupied;
-pub record Fits (IsOccupied : ℕ → Type 0) (n k s : ℕ) : Type 0 where
+pub record IsFreeRun (IsOccupied : ℕ → Type 0) (n k s : ℕ) : Type 0 where
   pub inside : s + k ≤ n
   pub free : (j : ℕ) → s ≤ j → j < s + k → ¬ IsOccupied j
 
 -- the least such place.
 pub record IsLeastPlace (IsOccupied : ℕ → Type 0) (n k s : ℕ) : Type 0 where
-  pub here : Fits IsOccupied n k s
-  pub least : (j : ℕ) → j < s → ¬ Fits IsOccupied n k j
+  pub here : IsFreeRun IsOccupied n k s
+  pub least : (j : ℕ) → j < s → ¬ IsFreeRun IsOccupied n k j
 
 -- frame j is taken
 abbrev pub IsTaken : List Bool → ℕ → Type 0
@@ -44,19 +44,19 @@ IsLive [] j = ⊥
 IsLive (b ∷ live) j = Covers b j ⊎ IsLive live j
 
 -- no frame is in two of the buffers
-abbrev pub AreApart : List Piece → Type 0
-AreApart [] = Unit {0}
-AreApart (b ∷ live) = ((j : ℕ) → Covers b j → ¬ IsLive live j) × AreApart live
+abbrev pub ShareNoFrame : List Piece → Type 0
+ShareNoFrame [] = Unit {0}
+ShareNoFrame (b ∷ live) = ((j : ℕ) → Covers b j → ¬ IsLive live j) × ShareNoFrame live
 
 -- the buffer's frames are inside the region
-abbrev pub Lies : List Bool → Piece → Type 0
-Lies taken b = b.start + frames_of b.len ≤ length taken
+abbrev pub LiesInRegion : List Bool → Piece → Type 0
+LiesInRegion taken b = b.start + frames_of b.len ≤ length taken
 
 -- the taken frames are those of the live buffers, which lie inside the region and share none
-pub record StandsFor (taken : List Bool) (live : List Piece) : Type 0 where
+pub record AreFramesOf (taken : List Bool) (live : List Piece) : Type 0 where
   pub same : (j : ℕ) → IsTaken taken j ↔ IsLive live j
-  pub inside : AllByRecursion (Lies taken) live
-  pub apart : AreApart live
+  pub inside : AllByRecursion (LiesInRegion taken) live
+  pub apart : ShareNoFrame live
 
 -- the bytes of a buffer
 abbrev pub bytes_of : Space → Piece → List ℕ

@@ -91,16 +91,16 @@ first_word [] = []
 first_word (b ∷ bs) = if (b == 32) || (b == 10) then [] else b ∷ first_word bs
 
 -- so many of the replies begin with this word
-abbrev pub count_of : List ℕ → List (List ℕ) → ℕ
-count_of word replies = length (filter (λ reply. bytes_eq word (first_word reply)) replies)
+abbrev pub replies_with : List ℕ → List (List ℕ) → ℕ
+replies_with word replies = length (filter (λ reply. bytes_eq word (first_word reply)) replies)
 
 -- the line of so many lines with these replies, those of the prelude too
 abbrev pub summary : ℕ → List (List ℕ) → List ℕ
 summary lines replies =
     codes "work " ++ decimal lines
-    ++ codes " ok " ++ decimal (count_of (codes "ok") replies)
-    ++ codes " refused " ++ decimal (count_of (codes "refused") replies)
-    ++ codes " other " ++ decimal (length replies - count_of (codes "ok") replies - count_of (codes "refused") replies)
+    ++ codes " ok " ++ decimal (replies_with (codes "ok") replies)
+    ++ codes " refused " ++ decimal (replies_with (codes "refused") replies)
+    ++ codes " other " ++ decimal (length replies - replies_with (codes "ok") replies - replies_with (codes "refused") replies)
 
 -- Whose replies these are.
 

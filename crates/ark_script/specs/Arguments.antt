@@ -33,8 +33,8 @@ sizes = 2 ∷ 4 ∷ 8 ∷ 16 ∷ 32 ∷ 64 ∷ 128 ∷ 256 ∷ []
 abbrev pub is_size : ℕ → Bool
 is_size n = list_any (nat_eq n) sizes
 
-abbrev pub IsSize : ℕ → List ℕ → Type 0
-IsSize n word = IsNumber 2 256 n word × (is_size n ≡ true)
+abbrev pub IsRingSize : ℕ → List ℕ → Type 0
+IsRingSize n word = IsNumber 2 256 n word × (is_size n ≡ true)
 
 -- two hex digits for each byte, from the fewest to the most bytes
 abbrev pub IsHex : ℕ → ℕ → List ℕ → List ℕ → Type 0
@@ -47,8 +47,8 @@ abbrev pub IsHex0 : ℕ → List ℕ → List ℕ → Type 0
 IsHex0 most [] word = word ≡ codes "-"
 IsHex0 most (b ∷ bs) word = IsHex 1 most (b ∷ bs) word
 
-abbrev pub IsMac : List ℕ → List ℕ → Type 0
-IsMac mac word = IsHex 6 6 mac word
+abbrev pub IsMacWord : List ℕ → List ℕ → Type 0
+IsMacWord mac word = IsHex 6 6 mac word
 
 -- two bytes, the high one first
 abbrev pub IsType : ℕ → List ℕ → Type 0

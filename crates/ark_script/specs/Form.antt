@@ -1,6 +1,6 @@
 -- The form of each word: its name, and the words behind it.
 use Rattle.std.specs.Prelude.{◌≡◌, ℕ, ◌-◌, ◌^◌, List, [], ◌∷◌, codes, Some, None}
-use Rattle.ark_script.specs.Arguments.{IsName, IsOptional, IsNumber, IsSize, IsHex, IsHex0, IsMac, IsKind, fewest_blocks, IsSide, IsDirection, IsProto, IsIp}
+use Rattle.ark_script.specs.Arguments.{IsName, IsOptional, IsNumber, IsRingSize, IsHex, IsHex0, IsMacWord, IsKind, fewest_blocks, IsSide, IsDirection, IsProto, IsIp}
 use Rattle.ark_script.specs.Lists.{ArePeers, AreServices}
 use Rattle.ark_script.specs.Line as w
 use Rattle.ark_script.specs.Line.{Line}
@@ -51,11 +51,11 @@ IsPlace n word = IsNumber 0 (2 ^ 32 - 1) n word
 
 -- the words behind the first
 abbrev pub AreArguments : Line → List (List ℕ) → Type 0
-AreArguments (w.nic own) = Three (IsMac own.mac) (IsIp own.ip) (IsMac own.gateway)
+AreArguments (w.nic own) = Three (IsMacWord own.mac) (IsIp own.ip) (IsMacWord own.gateway)
 AreArguments (w.app a None) = One (IsName a)
 AreArguments (w.app a (Some f)) = Two (IsName a) (IsNumber 4 4096 f)
-AreArguments (w.vsic a v n) = Three (IsName a) (IsName v) (IsSize n)
-AreArguments (w.vnic a v rx tx) = Four (IsName a) (IsName v) (IsSize rx) (IsSize tx)
+AreArguments (w.vsic a v n) = Three (IsName a) (IsName v) (IsRingSize n)
+AreArguments (w.vnic a v rx tx) = Four (IsName a) (IsName v) (IsRingSize rx) (IsRingSize tx)
 AreArguments (w.vsa a s n k) = Four (IsName a) (IsName s) (IsNumber (fewest_blocks k) most_blocks n) (IsKind k)
 AreArguments (w.grow a s n) = Three (IsName a) (IsName s) (IsNumber 1 most_blocks n)
 AreArguments (w.bind a v s) = Three (IsName a) (IsName v) (IsName s)

@@ -4,7 +4,7 @@ use Rattle.ark_filters.specs.declared.filter.Peers.{Peers}
 use Rattle.ark_filters.specs.declared.filter.Services.{Services}
 use Rattle.ark_filters.specs.declared.filter.Proto.{Proto}
 use Rattle.ark_filters.specs.declared.filter.Proto.TheVariants as proto
-use Rattle.ark_script.specs.Arguments.{IsNumber, IsMac, IsIp, IsType}
+use Rattle.ark_script.specs.Arguments.{IsNumber, IsMacWord, IsIp, IsType}
 use Rattle.ark_script.specs.Words.{parts_of}
 
 -- the items, one word for each
@@ -15,19 +15,19 @@ EachIs P (x ∷ xs) [] = ⊥
 EachIs P (x ∷ xs) (word ∷ words) = P x word × EachIs P xs words
 
 -- eight places: the items, and then this
-abbrev pub filled : {A : Type 0} → A → List A → List A
-filled none items = items ++ replicate (8 - length items) none
+abbrev pub eight_places : {A : Type 0} → A → List A → List A
+eight_places none items = items ++ replicate (8 - length items) none
 
 -- a MAC address, or an IPv4 address with two zeros behind it
 abbrev pub IsPeer : Proto → List ℕ → List ℕ → Type 0
-IsPeer proto.Eth peer word = IsMac peer word
+IsPeer proto.Eth peer word = IsMacWord peer word
 IsPeer _ peer word = (ip : List ℕ) × IsIp ip word × (peer ≡ ip ++ (0 ∷ (0 ∷ [])))
 
 abbrev pub no_peer : List ℕ
 no_peer = 0 ∷ 0 ∷ 0 ∷ 0 ∷ 0 ∷ 0 ∷ []
 
 abbrev pub peers_are : List (List ℕ) → Peers
-peers_are items = record { count = length items; items = filled no_peer items }
+peers_are items = record { count = length items; items = eight_places no_peer items }
 
 -- `*` for all, or at most eight with commas between them
 abbrev pub ArePeers : Proto → Peers → List ℕ → Type 0
@@ -48,7 +48,7 @@ IsService proto.Ip range word = IsNumber 0 255 range.0 word × (range.1 ≡ rang
 IsService _ range word = ArePorts range (parts_of 45 word)
 
 abbrev pub services_are : List (ℕ × ℕ) → Services
-services_are items = record { count = length items; items = filled (0, 0) items }
+services_are items = record { count = length items; items = eight_places (0, 0) items }
 
 abbrev pub AreServices : Proto → Services → List ℕ → Type 0
 AreServices p services word =

@@ -8,7 +8,7 @@ use Rattle.ark_media.specs.Journal.{block, zero_block}
 use Rattle.ark_table.specs.Superblock.{superblock}
 use Rattle.ark_table.specs.Area.{Area, is_free}
 use Rattle.ark_table.specs.Slots.{held_if, as_slots, slots_of}
-use Rattle.ark_table.specs.Table.{Says, area_at, is_of, HasTable, slots_in}
+use Rattle.ark_table.specs.Table.{IsSlotBlock, area_at, is_of, HasTable, slots_in}
 use Rattle.ark_table.proofs.Tables.{table_is_read}
 
 no_areas : List (Option Area)
@@ -41,7 +41,7 @@ made_table n low high = record {
   device = (λ i. nat_le 130 (long i) && (nat_le (long i) 1048576 && bytes_eq (first i) (superblock (long i))))
       ∙ (λ i. le-leb 130 n low i && (le-leb n 1048576 high i && (bytes_eq-Decides (superblock n) (superblock n)).1 refl i));
   size = counted;
-  says = λ i lt. subst (λ (o : Option Area). Says (length (formatted n)) (block (formatted n) (i + 1)) o) (sym (none_there i)) (ap is_free (zero_at i lt));
+  says = λ i lt. subst (λ (o : Option Area). IsSlotBlock (length (formatted n)) (block (formatted n) (i + 1)) o) (sym (none_there i)) (ap is_free (zero_at i lt));
   together = λ i k a b ne is_a is_b. absurd (no_area i a is_a);
   few = λ app. omega (arith, none_counted app);
 }

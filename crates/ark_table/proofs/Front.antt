@@ -13,14 +13,14 @@ use Rattle.ark_table.specs.declared.slot.Slot.{Slot}
 use Rattle.ark_table.specs.Stated.{stated_if, areas}
 use Rattle.ark_table.specs.Superblock.{superblock}
 use Rattle.ark_table.specs.Area.{Area, area_in, area_bytes, is_area, is_used}
-use Rattle.ark_table.specs.Slots.{Held, goes_with, with_area, with_used, with_block, and_then, held_after, held_if, as_slots, slots_of, is_device}
-use Rattle.ark_table.specs.Table.{Says, HasTable, held_in}
+use Rattle.ark_table.specs.Slots.{HeldSlot, goes_with, with_area, with_used, with_block, and_then, held_after, held_if, as_slots, slots_of, is_device}
+use Rattle.ark_table.specs.Table.{IsSlotBlock, HasTable, held_in}
 use Rattle.ark_table.specs.Loading.{Follows, IsBad}
 use Rattle.ark_table.proofs.Walking.{EachSays, GoIn, read_walk, stays_bad}
 use Rattle.ark_table.proofs.Tables.{big, few, table_from}
 
 -- the block is the spelling of the area that is read of it
-pub says_read : (size : ℕ) (content : List ℕ) (a : Area) → is_used size content ≡ true → a ≡ area_in content → Says size content (Some a)
+pub says_read : (size : ℕ) (content : List ℕ) (a : Area) → is_used size content ≡ true → a ≡ area_in content → IsSlotBlock size content (Some a)
 says_read size content a used is =
     let p = and_parts (is_area size (area_in content)) (bytes_eq content (area_bytes (area_in content))) used in
     (subst (λ (x : Area). is_area size x ≡ true) (sym is) p.0, (bytes_eq-Decides content (area_bytes (area_in content))).0 p.1 ∙ ap area_bytes (sym is))
@@ -37,24 +37,24 @@ pub record IsFront (image : List (List ℕ)) (t : List (Option Area)) : Type 0 w
   pub each : EachSays (length image) (take (length t) (drop 1 image)) t
   pub go : GoIn [] 1 t
 
-each_push : (size : ℕ) (blocks : List (List ℕ)) (t : List (Option Area)) (b : List ℕ) (x : Option Area) → EachSays size blocks t → Says size b x → EachSays size (blocks ++ b ∷ []) (t ++ x ∷ [])
+each_push : (size : ℕ) (blocks : List (List ℕ)) (t : List (Option Area)) (b : List ℕ) (x : Option Area) → EachSays size blocks t → IsSlotBlock size b x → EachSays size (blocks ++ b ∷ []) (t ++ x ∷ [])
 each_push size [] [] b x each says = (says, tt)
 each_push size [] (y ∷ t) b x each says = absurd each
 each_push size (c ∷ bs) [] b x each says = absurd each
 each_push size (c ∷ bs) (y ∷ t) b x each says = (each.0, each_push size bs t b x each.1 says)
 
-go_none : (before : List Held) (i : ℕ) (t : List (Option Area)) → GoIn before i t → GoIn before i (t ++ None ∷ [])
+go_none : (before : List HeldSlot) (i : ℕ) (t : List (Option Area)) → GoIn before i t → GoIn before i (t ++ None ∷ [])
 go_none before i [] go = go
 go_none before i (None ∷ t) go = go_none before (i + 1) t go
 go_none before i (Some a ∷ t) go = (go.0, go_none (before ++ record { index = i; area = a } ∷ []) (i + 1) t go.1)
 
-go_some : (before : List Held) (i : ℕ) (t : List (Option Area)) (a : Area) → GoIn before i t → goes_with (before ++ held_in i t) a ≡ true → GoIn before i (t ++ Some a ∷ [])
-go_some before i [] a go goes = (subst (λ (l : List Held). goes_with l a ≡ true) (append-nil before) goes, tt)
+go_some : (before : List HeldSlot) (i : ℕ) (t : List (Option Area)) (a : Area) → GoIn before i t → goes_with (before ++ held_in i t) a ≡ true → GoIn before i (t ++ Some a ∷ [])
+go_some before i [] a go goes = (subst (λ (l : List HeldSlot). goes_with l a ≡ true) (append-nil before) goes, tt)
 go_some before i (None ∷ t) a go goes = go_some before (i + 1) t a go goes
 go_some before i (Some c ∷ t) a go goes = (
   go.0,
   go_some (before ++ record { index = i; area = c } ∷ []) (i + 1) t a go.1
-      (subst (λ (l : List Held). goes_with l a ≡ true) (sym (append_assoc before (record { index = i; area = c } ∷ []) (held_in (i + 1) t))) goes),
+      (subst (λ (l : List HeldSlot). goes_with l a ≡ true) (sym (append_assoc before (record { index = i; area = c } ∷ []) (held_in (i + 1) t))) goes),
 )
 
 -- the block of the slot behind a front
@@ -71,7 +71,7 @@ front_more image t x lt front follows = record {
   go = go x follows;
 }
   where
-    says : (y : Option Area) → Follows (length image) t (block image (length t + 1)) y → Says (length image) (block image (length t + 1)) y
+    says : (y : Option Area) → Follows (length image) t (block image (length t + 1)) y → IsSlotBlock (length image) (block image (length t + 1)) y
     says None h = h
     says (Some a) h = h.0
 
@@ -87,7 +87,7 @@ front_more image t x lt front follows = record {
 pub front_whole : (image : List (List ℕ)) (t : List (Option Area)) → length t ≡ 128 → IsFront image t → HasTable t image
 front_whole image t whole front = table_from image t front.device (subst (λ k. EachSays (length image) (take k (drop 1 image)) t) whole front.each) front.go
 
-held_append : (size : ℕ) (s : Result (List Held) ℕ) (i j : ℕ) (xs ys : List (List ℕ)) → i + length xs ≡ j → held_after size s i (xs ++ ys) ≡ held_after size (held_after size s i xs) j ys
+held_append : (size : ℕ) (s : Result (List HeldSlot) ℕ) (i j : ℕ) (xs ys : List (List ℕ)) → i + length xs ≡ j → held_after size s i (xs ++ ys) ≡ held_after size (held_after size s i xs) j ys
 held_append size s i j [] ys at = let e : i ≡ j = omega (arith, at) in ap (λ k. held_after size s k ys) e
 held_append size s i j (x ∷ xs) ys at = held_append size (and_then size s i x) (i + 1) j xs ys (omega (arith, at))
 
@@ -133,10 +133,10 @@ front_bad image t i lt at front bad =
 
     walk : held_after size (Ok []) 1 (first ++ block image i ∷ rest) ≡ held_after size (Ok (held_in 1 t)) i (block image i ∷ rest)
     walk = held_append size (Ok []) 1 i first (block image i ∷ rest) (omega (arith, at, length-take-le (length t) (drop 1 image) (omega (arith, lt, length-drop 1 image, big image front.device))))
-        ∙ ap (λ (s : Result (List Held) ℕ). held_after size s i (block image i ∷ rest)) (read_walk size (few image front.device) first t [] 1 front.each front.go)
+        ∙ ap (λ (s : Result (List HeldSlot) ℕ). held_after size s i (block image i ∷ rest)) (read_walk size (few image front.device) first t [] 1 front.each front.go)
 
     last : held_after size (Ok (held_in 1 t)) i (block image i ∷ rest) ≡ Err i
-    last = ap (λ (s : Result (List Held) ℕ). held_after size s (i + 1) rest) (bad_next size t i (block image i) bad) ∙ stays_bad size i (i + 1) rest
+    last = ap (λ (s : Result (List HeldSlot) ℕ). held_after size s (i + 1) rest) (bad_next size t i (block image i) bad) ∙ stays_bad size i (i + 1) rest
 
 one_read : (n : ℕ) (ok : Bool) (e : Event) (es : List Event) (before after : Option History) → e ≡ Read n ok → es ≡ [] → Adds before after (e ∷ es) → (h : History) → after ≡ Some h
     → (g : History) × (before ≡ Some g) × (current h.base h.journal ≡ current g.base g.journal)

@@ -5,9 +5,9 @@ use Rattle.std.specs.List.{list_all}
 use Rattle.std.proofs.lemmas.Bool.{and_parts, or_left, or_right, le-leb, leb-true, cases_lt, false≢true}
 use Rattle.std.proofs.lemmas.Slice.Eq.{bytes_eq-Decides}
 use Rattle.ark_base.specs.declared.block.Span.{Span}
-use Rattle.ark_extents.specs.Blocks.{blocks_of, AreApart}
+use Rattle.ark_extents.specs.Blocks.{blocks_of, ShareNoBlock}
 use Rattle.ark_extents.specs.Runs.{are_apart, fits, are_spans, share_none, are_longest, is_count}
-use Rattle.ark_extents.specs.Free.{Has, AnyHas}
+use Rattle.ark_extents.specs.Free.{HasBlock, AnyHas}
 use Rattle.ark_extents.proofs.Holding.{has_contained, contains_had, none_shared}
 use Rattle.ark_table.specs.Area.{Area, is_area}
 use Rattle.ark_table.specs.Slots.{share_no_block, is_same}
@@ -18,7 +18,7 @@ any_apart [] ys shared n a b = a
 any_apart (x ∷ xs) ys shared n (inl a) b = none_shared x ys (and_parts (list_all (are_apart x) ys) (share_no_block xs ys) shared).0 n a b
 any_apart (x ∷ xs) ys shared n (inr a) b = any_apart xs ys (and_parts (list_all (are_apart x) ys) (share_no_block xs ys) shared).1 n a b
 
-runs_apart : (xs ys : List Span) → share_no_block xs ys ≡ true → AreApart (blocks_of xs) (blocks_of ys)
+runs_apart : (xs ys : List Span) → share_no_block xs ys ≡ true → ShareNoBlock (blocks_of xs) (blocks_of ys)
 runs_apart xs ys shared n a b = any_apart xs ys shared n (has_contained xs n a) (has_contained ys n b)
 
 -- each run has a block
@@ -32,7 +32,7 @@ filled_from (run ∷ runs) h =
     let p = and_parts (fits run) (list_all fits runs) h in
     (leb-true 1 run.len (and_parts (nat_le 1 run.len) _ p.0).0, filled_from runs p.1)
 
-one_apart : (x y : Span) → 1 ≤ x.len → 1 ≤ y.len → ((n : ℕ) → Has x n → Has y n → ⊥) → are_apart x y ≡ true
+one_apart : (x y : Span) → 1 ≤ x.len → 1 ≤ y.len → ((n : ℕ) → HasBlock x n → HasBlock y n → ⊥) → are_apart x y ≡ true
 one_apart x y some_x some_y none = elim (cases_lt y.start (x.start + x.len)) [
   | inl before ↦ elim (cases_lt x.start (y.start + y.len)) [
     | inl behind ↦ absurd (elim (cases_lt x.start y.start) [
@@ -44,7 +44,7 @@ one_apart x y some_x some_y none = elim (cases_lt y.start (x.start + x.len)) [
   | inr past ↦ or_left (nat_le (x.start + x.len) y.start) (nat_le (y.start + y.len) x.start) (le-leb (x.start + x.len) y.start past)
 ]
 
-one_from_all : (x : Span) (ys : List Span) → 1 ≤ x.len → Filled ys → ((n : ℕ) → Has x n → AnyHas ys n → ⊥) → list_all (are_apart x) ys ≡ true
+one_from_all : (x : Span) (ys : List Span) → 1 ≤ x.len → Filled ys → ((n : ℕ) → HasBlock x n → AnyHas ys n → ⊥) → list_all (are_apart x) ys ≡ true
 one_from_all x [] some filled none = refl
 one_from_all x (y ∷ ys) some filled none = λ i. one_apart x y some filled.0 (λ n a b. none n a (inl b)) i && one_from_all x ys some filled.1 (λ n a b. none n a (inr b)) i
 

@@ -9,12 +9,12 @@ use Rattle.std.proofs.lemmas.List.Elements.{Contains-get_or, Contains-append_rig
 use Rattle.ark_base.specs.declared.kind.Kind.{Kind}
 use Rattle.ark_base.specs.declared.kind.Kind.TheVariants.{Raw, Log, Queue}
 use Rattle.ark_base.specs.Name.{is_name}
-use Rattle.ark_extents.specs.Blocks.{blocks_of, runs_of, AreDistinct, AreApart}
+use Rattle.ark_extents.specs.Blocks.{blocks_of, runs_of, AreDistinct, ShareNoBlock}
 use Rattle.ark_extents.specs.Runs.{are_spans, are_longest, share_none}
 use Rattle.ark_extents.proofs.RunLemmas.{blocks_of-runs_of}
 use Rattle.ark_extents.proofs.Holding.{distinct_from}
 use Rattle.ark_table.specs.declared.slot.Slot.{Slot}
-use Rattle.ark_table.specs.Area.{Area, is_area, is_data, count_of, least_blocks}
+use Rattle.ark_table.specs.Area.{Area, is_area, is_data, block_total, least_blocks}
 use Rattle.ark_table.specs.Table.{area_at}
 use Rattle.ark_table.specs.Stated.{stated, stated_if, areas}
 use Rattle.ark_table.specs.Standing.{Table, slot_in, grown_area}
@@ -40,8 +40,8 @@ area_big size a kept =
     let one = and_parts (is_name a.app) _ kept in
     let two = and_parts (is_name a.label) _ one.1 in
     let three = and_parts (are_spans a.runs) _ two.1 in
-    let four = and_parts (list_all (is_data size) a.runs) (nat_le (least_blocks a.kind) (count_of a.runs)) three.1 in
-    let some : 1 ≤ count_of a.runs = at_least a.kind (count_of a.runs) (leb-true (least_blocks a.kind) (count_of a.runs) four.1) in
+    let four = and_parts (list_all (is_data size) a.runs) (nat_le (least_blocks a.kind) (block_total a.runs)) three.1 in
+    let some : 1 ≤ block_total a.runs = at_least a.kind (block_total a.runs) (leb-true (least_blocks a.kind) (block_total a.runs) four.1) in
     let first = area_inside size a kept (get_or (blocks_of a.runs) 0 0) (Contains-get_or (blocks_of a.runs) 0 0 (omega (arith, some, count_is a.runs))) in
     omega (arith, first.0, first.1)
 
@@ -54,7 +54,7 @@ get_or_same (x ∷ xs) zero d e lt = refl
 get_or_same (x ∷ xs) (suc k) d e lt = get_or_same xs k d e (omega (arith, lt))
 
 -- lists whose blocks stand there once have none in common
-apart_from : (xs ys : List ℕ) → AreDistinct (xs ++ ys) → AreApart xs ys
+apart_from : (xs ys : List ℕ) → AreDistinct (xs ++ ys) → ShareNoBlock xs ys
 apart_from xs ys distinct n a b =
     let left : get_or (xs ++ ys) a.0 0 ≡ n = get_or-append xs ys 0 a.0 a.1 ∙ get_or_same xs a.0 0 n a.1 ∙ a.2 in
     let place : length xs + b.0 - length xs ≡ b.0 = omega arith in
@@ -73,7 +73,7 @@ module _ (size : ℕ) (slot : Slot) (more : List ℕ) (a : Area) (is : stated sl
   pub grown_spans : are_spans (runs_of (slot.spans ++ more)) ≡ true
   grown_spans = subst (λ (l : List ℕ). are_spans (runs_of (l ++ more)) ≡ true) (ap (λ (x : Area). blocks_of x.runs) (sym is) ∙ blocks_of-runs_of slot.spans) (area_spans size (grown_area a more) right)
 
-  pub grown_apart : AreApart slot.spans more
+  pub grown_apart : ShareNoBlock slot.spans more
   grown_apart = apart_from slot.spans more (subst (λ (l : List ℕ). AreDistinct l) (blocks_of-runs_of (slot.spans ++ more))
       (distinct_from (runs_of (slot.spans ++ more)) (and_parts _ (share_none (runs_of (slot.spans ++ more))) (and_parts _ (are_longest (runs_of (slot.spans ++ more))) grown_spans).0).1))
 

@@ -5,7 +5,7 @@ use Rattle.std.proofs.lemmas.List.{drop-replicate, length-take-le, take_more}
 use Rattle.std.proofs.lemmas.Grind.{flat_map-append}
 use Rattle.ark_base.specs.declared.block.Span.{Span}
 use Rattle.std.specs.Int.{w16, w64, to_be_bytes}
-use Rattle.ark_table.specs.Area.{Area, area_bytes, filled, kind_number, name_bytes, run_bytes}
+use Rattle.ark_table.specs.Area.{Area, area_bytes, padded_block, kind_number, name_bytes, run_bytes}
 use Rattle.ark_table.specs.Superblock.{superblock, slot_count}
 use Rattle.ark_table.proofs.Spelling.{runs_long}
 
@@ -51,7 +51,7 @@ run_laid b0 b1 b2 field runs at i p d lt fits first place is second =
     ∙ ap (λ t. take at b0 ++ (t ++ drop (at + 8 * (i + 1)) b0)) (sym (runs_more runs i d lt))
 
 -- bytes y behind those x that begin a block of zeros
-pub filled_more : (x y b c : List ℕ) (p : ℕ) → b ≡ filled x → p ≡ length x → c ≡ take p b ++ (y ++ drop (p + length y) b) → c ≡ filled (x ++ y)
+pub filled_more : (x y b c : List ℕ) (p : ℕ) → b ≡ padded_block x → p ≡ length x → c ≡ take p b ++ (y ++ drop (p + length y) b) → c ≡ padded_block (x ++ y)
 filled_more x y b c p first place laid =
     let left : 512 - length x - length y ≡ 512 - length (x ++ y) = omega (arith, length-append x y) in
     laid_after x (replicate (512 - length x) 0) y b c p first place laid
@@ -65,18 +65,18 @@ pub area_laid : (a : Area) (b1 b2 b3 b4 b5 kinds app label : List ℕ) (p1 p2 p3
 area_laid a b1 b2 b3 b4 b5 kinds app label p1 p2 p3 p4 first at1 kinds_is second at2 app_is third at3 label_is fourth at4 fifth =
     let word : List ℕ = codes "VSA1" in
     let runs : List ℕ = flat_map run_bytes a.runs in
-    let one : b1 ≡ filled word = first ∙ ap (λ t. word ++ t) (drop-replicate 4 512 0) in
-    let two : b2 ≡ filled (word ++ kinds) = filled_more word kinds b1 b2 p1 one at1 second in
+    let one : b1 ≡ padded_block word = first ∙ ap (λ t. word ++ t) (drop-replicate 4 512 0) in
+    let two : b2 ≡ padded_block (word ++ kinds) = filled_more word kinds b1 b2 p1 one at1 second in
     let long2 : p2 ≡ length (word ++ kinds) = omega (arith, at1, at2, length-append word kinds) in
-    let three : b3 ≡ filled ((word ++ kinds) ++ app) = filled_more (word ++ kinds) app b2 b3 p2 two long2 third in
+    let three : b3 ≡ padded_block ((word ++ kinds) ++ app) = filled_more (word ++ kinds) app b2 b3 p2 two long2 third in
     let long3 : p3 ≡ length ((word ++ kinds) ++ app) = omega (arith, long2, at3, length-append (word ++ kinds) app) in
-    let four : b4 ≡ filled (((word ++ kinds) ++ app) ++ label) = filled_more ((word ++ kinds) ++ app) label b3 b4 p3 three long3 fourth in
+    let four : b4 ≡ padded_block (((word ++ kinds) ++ app) ++ label) = filled_more ((word ++ kinds) ++ app) label b3 b4 p3 three long3 fourth in
     let long4 : p4 ≡ length (((word ++ kinds) ++ app) ++ label) = omega (arith, long3, at4, length-append ((word ++ kinds) ++ app) label) in
     let last : b5 ≡ take p4 b4 ++ (runs ++ drop (p4 + length runs) b4) = fifth ∙ ap (λ k. take p4 b4 ++ (runs ++ drop (p4 + k) b4)) (sym (runs_long a.runs)) in
-    let five : b5 ≡ filled ((((word ++ kinds) ++ app) ++ label) ++ runs) = filled_more (((word ++ kinds) ++ app) ++ label) runs b4 b5 p4 four long4 last in
+    let five : b5 ≡ padded_block ((((word ++ kinds) ++ app) ++ label) ++ runs) = filled_more (((word ++ kinds) ++ app) ++ label) runs b4 b5 p4 four long4 last in
     let joined : (((word ++ kinds) ++ app) ++ label) ++ runs ≡ word ++ (kinds ++ (app ++ (label ++ runs))) =
     append_assoc ((word ++ kinds) ++ app) label runs ∙ append_assoc (word ++ kinds) app (label ++ runs) ∙ append_assoc word kinds (app ++ (label ++ runs)) in
-    five ∙ ap filled joined ∙ (λ i. filled (word ++ (kinds_is i ++ (app_is i ++ (label_is i ++ runs)))))
+    five ∙ ap padded_block joined ∙ (λ i. padded_block (word ++ (kinds_is i ++ (app_is i ++ (label_is i ++ runs)))))
 
 pub superblock_laid : (b1 b2 b3 size slots : List ℕ) (p1 p2 blocks : ℕ) → b1 ≡ codes "ARRAKIS1" ++ drop 8 (replicate 512 0)
     → p1 ≡ 8 → b2 ≡ take p1 b1 ++ (size ++ drop (p1 + length size) b1) → p2 ≡ p1 + length size → b3 ≡ take p2 b2 ++ (slots ++ drop (p2 + length slots) b2)

@@ -19,7 +19,7 @@ use Rattle.ark_extents.proofs.Holding.{has_contained}
 use Rattle.ark_table.specs.Area.{Area, is_area, is_data, area_bytes}
 use Rattle.ark_table.specs.Table.{HasTable}
 use Rattle.ark_table.specs.Plans.{spelled, zero_calls, slot_calls, grant_calls, remove_calls}
-use Rattle.ark_table.specs.Standing.{Table, IsTableOf, Change, changed, creates, grows, removes, grown_area, IsTried, IsWritten, Spare, IsUnderWay, GoesThrough, CanCreate, CanGrow, with_slot}
+use Rattle.ark_table.specs.Standing.{Table, IsTableOf, SlotChange, changed, creates, grows, removes, grown_area, IsTried, IsWritten, Spare, IsUnderWay, GoesThrough, CanCreate, CanGrow, with_slot}
 use Rattle.ark_table.proofs.Changing.{removed_table, added_table, grown_table}
 use Rattle.ark_table.proofs.Standing.{Image, written_left, written_later, stays_once, stays_tried, synced}
 
@@ -45,7 +45,7 @@ zero_spares m low took ok n (inl at) = (subst (λ (x : ℕ). 129 ≤ x) at low, 
 zero_spares m low took ok n (inr never) = absurd never
 
 -- A change that fits into each image, of as many blocks, that has the table.
-module _ (table : Table) (c : Change) (size : ℕ) (low : 1 ≤ c.index) (high : c.index ≤ 128)
+module _ (table : Table) (c : SlotChange) (size : ℕ) (low : 1 ≤ c.index) (high : c.index ≤ 128)
     (fits : (image : Image) → HasTable table image → length image ≡ size → HasTable (changed c table) (set image c.index (spelled c.area)))
     (inside : (n : ℕ) → Contains c.added n → (129 ≤ n) × (n < size)) where
   -- a stop leaves only zeros of the added blocks

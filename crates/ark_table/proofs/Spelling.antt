@@ -16,7 +16,7 @@ use Rattle.ark_extents.specs.Runs.{are_spans}
 use Rattle.ark_extents.proofs.RunLemmas.{AreLongest, length-blocks_of, blocks_of-runs_of, longest-runs_of}
 use Rattle.ark_extents.proofs.Holding.{contains_had, has_contained}
 use Rattle.ark_extents.proofs.Counting.{spans_from}
-use Rattle.ark_table.specs.Area.{Area, kind_number, kind_of, name_bytes, run_bytes, area_bytes, name_in, runs_in, area_in, is_data, count_of, least_blocks, is_area, is_free, is_used}
+use Rattle.ark_table.specs.Area.{Area, kind_number, kind_of, name_bytes, run_bytes, area_bytes, name_in, runs_in, area_in, is_data, block_total, least_blocks, is_area, is_free, is_used}
 use Rattle.ark_table.specs.Slots.{Slot, slot_at, area_of, slot_bytes, IsRight}
 
 pub name_short : (name : List ℕ) → is_name name ≡ true → length name ≤ 15
@@ -101,7 +101,7 @@ area_read a app label fit = λ i. record { app = first i; label = second i; kind
     runs : runs_in (length a.runs) (drop 38 (area_bytes a)) ≡ a.runs
     runs = ap (λ t. runs_in (length a.runs) t) behind ∙ runs_read a.runs zeros fit
 
-pub count_is : (runs : List Span) → count_of runs ≡ length (blocks_of runs)
+pub count_is : (runs : List Span) → block_total runs ≡ length (blocks_of runs)
 count_is [] = refl
 count_is (run ∷ runs) = ap (λ n. run.len + n) (count_is runs) ∙ sym (length-blocks_of run runs)
 
@@ -128,8 +128,8 @@ keeps_rules size s few right =
     let spans : are_spans (runs_of s.blocks) ≡ true = spans_from s.blocks some right.distinct (λ n h. omega (arith, (right.data_part n h).1, few)) right.few_runs in
     let inside : list_all (is_data size) (runs_of s.blocks) ≡ true =
     data_runs size (runs_of s.blocks) (longest-runs_of s.blocks) (λ n h. right.data_part n (subst (λ (l : List ℕ). Contains l n) (blocks_of-runs_of s.blocks) h)) in
-    let count : least_blocks s.kind ≤ count_of (runs_of s.blocks) = omega (arith, right.some, count_is (runs_of s.blocks), ap (λ (l : List ℕ). length l) (blocks_of-runs_of s.blocks)) in
-    λ i. right.app i && (right.label i && (spans i && (inside i && le-leb (least_blocks s.kind) (count_of (runs_of s.blocks)) count i)))
+    let count : least_blocks s.kind ≤ block_total (runs_of s.blocks) = omega (arith, right.some, count_is (runs_of s.blocks), ap (λ (l : List ℕ). length l) (blocks_of-runs_of s.blocks)) in
+    λ i. right.app i && (right.label i && (spans i && (inside i && le-leb (least_blocks s.kind) (block_total (runs_of s.blocks)) count i)))
   where
     at_least : (kind : Kind) (n : ℕ) → least_blocks kind ≤ n → 1 ≤ n
     at_least Raw n h = h

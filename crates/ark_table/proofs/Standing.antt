@@ -10,7 +10,7 @@ use Rattle.ark_media.proofs.Stopping.{length-current, current_other, other_write
 use Rattle.ark_table.specs.Superblock.{superblock, format_calls}
 use Rattle.ark_table.specs.Table.{HasTable}
 use Rattle.ark_table.specs.Plans.{spelled}
-use Rattle.ark_table.specs.Standing.{Table, IsTableOf, Change, changed, IsEither, IsTried, IsUnsettled, IsWritten, Spare}
+use Rattle.ark_table.specs.Standing.{Table, IsTableOf, SlotChange, changed, IsEither, IsTried, IsUnsettled, IsWritten, Spare}
 use Rattle.ark_table.proofs.Tables.{big, same_table}
 use Rattle.ark_table.proofs.Fresh.{fresh_table}
 
@@ -21,14 +21,14 @@ Image = List (List ℕ)
 pub base_big : (h : History) (table : Table) → HasTable table (current h.base h.journal) → 130 ≤ length h.base
 base_big h table has = omega (arith, big (current h.base h.journal) has.device, length-current h.base h.journal)
 
-tried_big : (h : History) (table : Table) (c : Change) → IsTried h table c → 130 ≤ length h.base
+tried_big : (h : History) (table : Table) (c : SlotChange) → IsTried h table c → 130 ≤ length h.base
 tried_big h table c tried = omega (arith, big tried.image tried.before.device, tried.size)
 
 pub stands : (h : History) (table : Table) (image : Image) → IsTableOf h table → MayLeave Whole h.base h.journal image → HasTable table image
 stands h table image is leaves = same_table table (current h.base h.journal) image is.has (leaves.size ∙ sym (length-current h.base h.journal))
     (λ n lt. is.settled n (block image n) lt (leaves.each n (omega (arith, lt, base_big h table is.has))))
 
-pub either : (h : History) (table : Table) (c : Change) (image : Image) → IsTried h table c → MayLeave Whole h.base h.journal image → IsEither table c image
+pub either : (h : History) (table : Table) (c : SlotChange) (image : Image) → IsTried h table c → MayLeave Whole h.base h.journal image → IsEither table c image
 either h table c image tried leaves = by (tried.slot (block image c.index) (may c.index (omega (arith, tried.high))))
   where
     may : (n : ℕ) → n < 129 → MayStand h n (block image n)
@@ -107,7 +107,7 @@ pub stays : (h : History) (table : Table) (es : List Event) → IsTableOf h tabl
 stays h table [] is spare = is
 stays h table (e ∷ es) is spare = stays (after h (e ∷ [])) table es (stays_once h table e is (spare_first [] e es spare)) (spare_rest [] e es spare)
 
-tried_once : (h : History) (table : Table) (c : Change) (e : Event) → IsTried h table c → Spare c.added (e ∷ []) → IsTried (after h (e ∷ [])) table c
+tried_once : (h : History) (table : Table) (c : SlotChange) (e : Event) → IsTried h table c → Spare c.added (e ∷ []) → IsTried (after h (e ∷ [])) table c
 tried_once h table c e tried spare = record {
   low = tried.low;
   high = tried.high;
@@ -124,11 +124,11 @@ tried_once h table c e tried spare = record {
     room : 130 ≤ length h.base
     room = tried_big h table c tried
 
-pub stays_tried : (h : History) (table : Table) (c : Change) (es : List Event) → IsTried h table c → Spare c.added es → IsTried (after h es) table c
+pub stays_tried : (h : History) (table : Table) (c : SlotChange) (es : List Event) → IsTried h table c → Spare c.added es → IsTried (after h es) table c
 stays_tried h table c [] tried spare = tried
 stays_tried h table c (e ∷ es) tried spare = stays_tried (after h (e ∷ [])) table c es (tried_once h table c e tried (spare_first c.added e es spare)) (spare_rest c.added e es spare)
 
-pub stays_unsettled : (h : History) (table : Table) (c : Change) (es : List Event) → IsUnsettled h table c → Spare c.added es → IsUnsettled (after h es) table c
+pub stays_unsettled : (h : History) (table : Table) (c : SlotChange) (es : List Event) → IsUnsettled h table c → Spare c.added es → IsUnsettled (after h es) table c
 stays_unsettled h table c es (inl is) spare = inl (stays h table es is (λ n written. ((spare n written).0, λ has. omega (arith, has.1))))
 stays_unsettled h table c es (inr tried) spare = inr (stays_tried h table c es tried spare)
 

@@ -6,25 +6,25 @@ use Rattle.std.proofs.lemmas.List.{get_or-take, get_or-drop, get_or_past, get_or
 use Rattle.ark_media.specs.Journal.{block}
 use Rattle.ark_table.specs.Superblock.{superblock}
 use Rattle.ark_table.specs.Area.{Area, is_area}
-use Rattle.ark_table.specs.Slots.{Slot, slot_at, Held, is_device, held_after, held_if, as_slots, slots_of}
-use Rattle.ark_table.specs.Table.{Says, Together, area_at, is_of, HasTable, HasSlots, slots_in}
+use Rattle.ark_table.specs.Slots.{Slot, slot_at, HeldSlot, is_device, held_after, held_if, as_slots, slots_of}
+use Rattle.ark_table.specs.Table.{IsSlotBlock, Together, area_at, is_of, HasTable, HasSlots, slots_in}
 use Rattle.ark_table.proofs.Gathering.{turned}
 use Rattle.ark_table.proofs.Walking.{EachSays, GoIn, walk_read, read_walk, slots_of_held}
 use Rattle.ark_table.proofs.Pairing.{go_pairs, go_few, joins_go}
 
 -- each block says its place of the table, by places
-each_from : (size : ℕ) (blocks : List (List ℕ)) (t : List (Option Area)) → length t ≡ length blocks → ((i : ℕ) → i < length blocks → Says size (get_or blocks i []) (get_or t i None)) → EachSays size blocks t
+each_from : (size : ℕ) (blocks : List (List ℕ)) (t : List (Option Area)) → length t ≡ length blocks → ((i : ℕ) → i < length blocks → IsSlotBlock size (get_or blocks i []) (get_or t i None)) → EachSays size blocks t
 each_from size [] [] long says = tt
 each_from size [] (x ∷ t) long says = absurd (omega (arith, long))
 each_from size (b ∷ bs) [] long says = absurd (omega (arith, long))
 each_from size (b ∷ bs) (x ∷ t) long says = (says 0 (omega arith), each_from size bs t (omega (arith, long)) (λ i lt. says (suc i) (omega (arith, lt))))
 
-first_and : (size : ℕ) (b : List ℕ) (bs : List (List ℕ)) (x : Option Area) (t : List (Option Area)) → Says size b x → ((i : ℕ) → i < length bs → Says size (get_or bs i []) (get_or t i None))
-    → (i : ℕ) → i < length (b ∷ bs) → Says size (get_or (b ∷ bs) i []) (get_or (x ∷ t) i None)
+first_and : (size : ℕ) (b : List ℕ) (bs : List (List ℕ)) (x : Option Area) (t : List (Option Area)) → IsSlotBlock size b x → ((i : ℕ) → i < length bs → IsSlotBlock size (get_or bs i []) (get_or t i None))
+    → (i : ℕ) → i < length (b ∷ bs) → IsSlotBlock size (get_or (b ∷ bs) i []) (get_or (x ∷ t) i None)
 first_and size b bs x t here rest zero lt = here
 first_and size b bs x t here rest (suc i) lt = rest i (omega (arith, lt))
 
-each_to : (size : ℕ) (blocks : List (List ℕ)) (t : List (Option Area)) → EachSays size blocks t → (length t ≡ length blocks) × ((i : ℕ) → i < length blocks → Says size (get_or blocks i []) (get_or t i None))
+each_to : (size : ℕ) (blocks : List (List ℕ)) (t : List (Option Area)) → EachSays size blocks t → (length t ≡ length blocks) × ((i : ℕ) → i < length blocks → IsSlotBlock size (get_or blocks i []) (get_or t i None))
 each_to size [] [] says = (refl, λ i lt. absurd (omega (arith, lt)))
 each_to size [] (x ∷ t) says = absurd says
 each_to size (b ∷ bs) [] says = absurd says
@@ -65,12 +65,12 @@ table_is_read table image has =
     says : EachSays (length image) (take 128 (drop 1 image)) table
     says = each_from (length image) (take 128 (drop 1 image)) table long (λ i lt.
         let low : i < 128 = omega (arith, lt, slot_blocks image has.device) in
-        subst (λ (b : List ℕ). Says (length image) b (get_or table i None)) (sym (slot_block image has.device i low)) (has.says i low))
+        subst (λ (b : List ℕ). IsSlotBlock (length image) b (get_or table i None)) (sym (slot_block image has.device i low)) (has.says i low))
 
     kept : (k : ℕ) (a : Area) → get_or table k None ≡ Some a → (is_area (length image) a ≡ true) × Unit {0}
     kept k a is =
         let low : k < 128 = omega (arith, inside table k a is, has.size) in
-        ((subst (λ (o : Option Area). Says (length image) (block image (k + 1)) o) is (has.says k low)).0, tt)
+        ((subst (λ (o : Option Area). IsSlotBlock (length image) (block image (k + 1)) o) is (has.says k low)).0, tt)
 
     go : GoIn [] 1 table
     go = joins_go (length image) table [] 1 tt (record {
@@ -86,7 +86,7 @@ table_from image table device each go =
     record {
       device = device;
       size = all.0 ∙ slot_blocks image device;
-      says = λ i lt. subst (λ (b : List ℕ). Says (length image) b (get_or table i None)) (slot_block image device i lt) (all.1 i (omega (arith, lt, slot_blocks image device)));
+      says = λ i lt. subst (λ (b : List ℕ). IsSlotBlock (length image) b (get_or table i None)) (slot_block image device i lt) (all.1 i (omega (arith, lt, slot_blocks image device)));
       together = λ i k a b ne is_a is_b. ⊎_elim (λ same. absurd (ne same)) (λ apart. ⊎_elim
           (λ lt. turned b a (go_pairs table [] 1 go i k a b lt is_a is_b))
           (λ lt. go_pairs table [] 1 go k i b a lt is_b is_a) apart) (cases_order i k);
@@ -100,13 +100,13 @@ slots_or (Err bad) other = other
 pub read_has_table : (image : List (List ℕ)) (slots : List Slot) → slots_of image ≡ Ok slots → HasSlots image slots
 read_has_table image slots e = by_device (is_device image) refl e
   where
-    by_held : is_device image ≡ true → (r : Result (List Held) ℕ) → held_after (length image) (Ok []) 1 (take 128 (drop 1 image)) ≡ r → as_slots r ≡ Ok slots → HasSlots image slots
+    by_held : is_device image ≡ true → (r : Result (List HeldSlot) ℕ) → held_after (length image) (Ok []) 1 (take 128 (drop 1 image)) ≡ r → as_slots r ≡ Ok slots → HasSlots image slots
     by_held device (Err bad) is e = absurd (false≢true (ap is_ok e))
     by_held device (Ok held) is e =
         let read = walk_read (length image) (take 128 (drop 1 image)) [] 1 held is in (
           read.0,
           table_from image read.0 device read.1 read.2,
-          sym (ap (λ (x : Result (List Slot) ℕ). slots_or x slots) e) ∙ ap (λ (l : List Held). map (λ h. slot_at h.index h.area) l) read.3 ∙ slots_of_held 1 read.0,
+          sym (ap (λ (x : Result (List Slot) ℕ). slots_or x slots) e) ∙ ap (λ (l : List HeldSlot). map (λ h. slot_at h.index h.area) l) read.3 ∙ slots_of_held 1 read.0,
         )
 
     by_device : (d : Bool) → is_device image ≡ d → as_slots (held_if d image) ≡ Ok slots → HasSlots image slots
@@ -118,18 +118,18 @@ pub same_table : (table : List (Option Area)) (image other : List (List ℕ)) �
 same_table table image other has long same = record {
   device = (λ i. nat_le 130 (long i) && (nat_le (long i) 1048576 && bytes_eq (same 0 (omega arith) i) (superblock (long i)))) ∙ has.device;
   size = has.size;
-  says = λ i lt. subst (λ (n : ℕ). Says n (block other (i + 1)) (area_at table i)) (sym long) (subst (λ (b : List ℕ). Says (length image) b (area_at table i)) (sym (same (i + 1) (omega (arith, lt)))) (has.says i lt));
+  says = λ i lt. subst (λ (n : ℕ). IsSlotBlock n (block other (i + 1)) (area_at table i)) (sym long) (subst (λ (b : List ℕ). IsSlotBlock (length image) b (area_at table i)) (sym (same (i + 1) (omega (arith, lt)))) (has.says i lt));
   together = has.together;
   few = has.few;
 }
 
 -- One slot's block is changed to what says another place of the table, which goes with all others.
-pub changed_table : (table : List (Option Area)) (image : List (List ℕ)) (i : ℕ) (content : List ℕ) (new : Option Area) → HasTable table image → i < 128 → Says (length image) content new
+pub changed_table : (table : List (Option Area)) (image : List (List ℕ)) (i : ℕ) (content : List ℕ) (new : Option Area) → HasTable table image → i < 128 → IsSlotBlock (length image) content new
     → ((k : ℕ) (a b : Area) → (k ≡ i → ⊥) → new ≡ Some a → area_at table k ≡ Some b → Together a b) → ((app : List ℕ) → count_by (is_of app) (set table i new) ≤ 8) → HasTable (set table i new) (set image (i + 1) content)
 changed_table table image i content new has low says goes few_apps = record {
   device = (λ j. nat_le 130 (long j) && (nat_le (long j) 1048576 && bytes_eq (first j) (superblock (long j)))) ∙ has.device;
   size = length-set table i new ∙ has.size;
-  says = λ k lt. subst (λ (n : ℕ). Says n (block (set image (i + 1) content) (k + 1)) (area_at (set table i new) k)) (sym long) (place k lt (cases_eq k i));
+  says = λ k lt. subst (λ (n : ℕ). IsSlotBlock n (block (set image (i + 1) content) (k + 1)) (area_at (set table i new) k)) (sym long) (place k lt (cases_eq k i));
   together = λ k l a b ne is_a is_b. pair k l a b ne is_a is_b (cases_eq k i) (cases_eq l i);
   few = few_apps;
 }
@@ -146,12 +146,12 @@ changed_table table image i content new has low says goes few_apps = record {
     there : (k : ℕ) → (k ≡ i → ⊥) → area_at (set table i new) k ≡ area_at table k
     there k ne = get_or-set_other table i k new None ne
 
-    place : (k : ℕ) → k < 128 → (k ≡ i) ⊎ (k ≡ i → ⊥) → Says (length image) (block (set image (i + 1) content) (k + 1)) (area_at (set table i new) k)
-    place k lt (inl same) = subst (λ (m : ℕ). Says (length image) (block (set image (i + 1) content) (m + 1)) (area_at (set table i new) m)) (sym same)
-        (subst (λ (o : Option Area). Says (length image) (block (set image (i + 1) content) (i + 1)) o) (sym here)
-        (subst (λ (b : List ℕ). Says (length image) b new) (sym (get_or-set_same image (i + 1) content [] (omega (arith, low, big image has.device)))) says))
-    place k lt (inr ne) = subst (λ (o : Option Area). Says (length image) (block (set image (i + 1) content) (k + 1)) o) (sym (there k ne))
-        (subst (λ (b : List ℕ). Says (length image) b (area_at table k)) (sym (get_or-set_other image (i + 1) (k + 1) content [] (λ e. ne (omega (arith, e))))) (has.says k lt))
+    place : (k : ℕ) → k < 128 → (k ≡ i) ⊎ (k ≡ i → ⊥) → IsSlotBlock (length image) (block (set image (i + 1) content) (k + 1)) (area_at (set table i new) k)
+    place k lt (inl same) = subst (λ (m : ℕ). IsSlotBlock (length image) (block (set image (i + 1) content) (m + 1)) (area_at (set table i new) m)) (sym same)
+        (subst (λ (o : Option Area). IsSlotBlock (length image) (block (set image (i + 1) content) (i + 1)) o) (sym here)
+        (subst (λ (b : List ℕ). IsSlotBlock (length image) b new) (sym (get_or-set_same image (i + 1) content [] (omega (arith, low, big image has.device)))) says))
+    place k lt (inr ne) = subst (λ (o : Option Area). IsSlotBlock (length image) (block (set image (i + 1) content) (k + 1)) o) (sym (there k ne))
+        (subst (λ (b : List ℕ). IsSlotBlock (length image) b (area_at table k)) (sym (get_or-set_other image (i + 1) (k + 1) content [] (λ e. ne (omega (arith, e))))) (has.says k lt))
 
     pair : (k l : ℕ) (a b : Area) → (k ≡ l → ⊥) → area_at (set table i new) k ≡ Some a → area_at (set table i new) l ≡ Some b → (k ≡ i) ⊎ (k ≡ i → ⊥) → (l ≡ i) ⊎ (l ≡ i → ⊥) → Together a b
     pair k l a b ne is_a is_b (inl k_is) (inl l_is) = absurd (ne (k_is ∙ sym l_is))

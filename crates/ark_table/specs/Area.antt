@@ -33,12 +33,12 @@ abbrev pub run_bytes : Span → List ℕ
 run_bytes run = to_be_bytes w32 run.start ++ to_be_bytes w32 run.len
 
 -- bytes, then zeros to the end of the block
-abbrev pub filled : List ℕ → List ℕ
-filled bytes = bytes ++ replicate (512 - length bytes) 0
+abbrev pub padded_block : List ℕ → List ℕ
+padded_block bytes = bytes ++ replicate (512 - length bytes) 0
 
 -- the magic word, kind, number of runs, application, label, the runs, zeros
 abbrev pub area_bytes : Area → List ℕ
-area_bytes a = filled (codes "VSA1" ++ (kind_number a.kind ∷ (length a.runs ∷ (name_bytes a.app ++ (name_bytes a.label ++ flat_map run_bytes a.runs)))))
+area_bytes a = padded_block (codes "VSA1" ++ (kind_number a.kind ∷ (length a.runs ∷ (name_bytes a.app ++ (name_bytes a.label ++ flat_map run_bytes a.runs)))))
 
 -- the name in the 16 bytes from a place on
 abbrev pub name_in : List ℕ → ℕ → List ℕ
@@ -64,9 +64,9 @@ abbrev pub is_data : ℕ → Span → Bool
 is_data size run = nat_le 129 run.start && nat_le (run.start + run.len) size
 
 -- so many blocks the runs have
-abbrev pub count_of : List Span → ℕ
-count_of [] = 0
-count_of (run ∷ runs) = run.len + count_of runs
+abbrev pub block_total : List Span → ℕ
+block_total [] = 0
+block_total (run ∷ runs) = run.len + block_total runs
 
 -- a log or queue has two blocks
 abbrev pub least_blocks : Kind → ℕ
@@ -77,7 +77,7 @@ least_blocks Queue = 2
 -- The rules of a slot by itself: names are names; 1 to 16 runs, which are the longest of their blocks and share none, all in
 -- the data part; and a log or queue has two blocks.
 abbrev pub is_area : ℕ → Area → Bool
-is_area size a = is_name a.app && (is_name a.label && (are_spans a.runs && (list_all (is_data size) a.runs && nat_le (least_blocks a.kind) (count_of a.runs))))
+is_area size a = is_name a.app && (is_name a.label && (are_spans a.runs && (list_all (is_data size) a.runs && nat_le (least_blocks a.kind) (block_total a.runs))))
 
 abbrev pub is_free : List ℕ → Bool
 is_free block = list_all (λ b. b == 0) block

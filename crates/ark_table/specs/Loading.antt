@@ -9,7 +9,7 @@ use Rattle.ark_table.specs.declared.reading.Content.{Content}
 use Rattle.ark_table.specs.declared.reading.Content.TheVariants.{Free, Used, Broken}
 use Rattle.ark_table.specs.Area.{Area, area_in, is_free, is_used}
 use Rattle.ark_table.specs.Slots.{goes_with, share_no_block, is_same, slots_of}
-use Rattle.ark_table.specs.Table.{Says, held_in}
+use Rattle.ark_table.specs.Table.{IsSlotBlock, held_in}
 use Rattle.ark_table.specs.Stated.{stated, stated_if, areas}
 
 -- of the current image, where it is told
@@ -49,7 +49,7 @@ goes_beside a (Some b) = share_no_block a.runs b.runs && not (is_same a b)
 -- a block says this of the slot behind these, on a device of so many blocks
 abbrev pub Follows : ℕ → List (Option Area) → List ℕ → Option Area → Type 0
 Follows size before block None = is_free block ≡ true
-Follows size before block (Some a) = Says size block (Some a) × (goes_with (held_in 1 before) a ≡ true)
+Follows size before block (Some a) = IsSlotBlock size block (Some a) × (goes_with (held_in 1 before) a ≡ true)
 
 -- a block breaks a rule by itself, or against these
 abbrev pub IsBad : ℕ → List (Option Area) → List ℕ → Type 0

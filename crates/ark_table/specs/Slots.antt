@@ -38,7 +38,7 @@ pub record IsRight (size : ℕ) (s : Slot) : Type 0 where
   pub few_runs : length (runs_of s.blocks) ≤ 16
 
 -- an area, and the slot that says so
-pub record Held : Type 0 where
+pub record HeldSlot : Type 0 where
   pub index : ℕ
   pub area : Area
 
@@ -50,29 +50,29 @@ abbrev pub is_same : Area → Area → Bool
 is_same a b = bytes_eq a.app b.app && bytes_eq a.label b.label
 
 -- so many of the areas are this application's
-abbrev pub count_of : List ℕ → List Held → ℕ
-count_of app held = count_by (λ h. bytes_eq app h.area.app) held
+abbrev pub areas_with : List ℕ → List HeldSlot → ℕ
+areas_with app held = count_by (λ h. bytes_eq app h.area.app) held
 
 -- The rules against other slots: no shared block, no (application, label) twice, at most 8 slots of one application.
-abbrev pub goes_with : List Held → Area → Bool
+abbrev pub goes_with : List HeldSlot → Area → Bool
 goes_with held a =
     list_all (λ h. share_no_block a.runs h.area.runs && not (is_same a h.area)) held
-    && nat_le (count_of a.app held + 1) 8
+    && nat_le (areas_with a.app held + 1) 8
 
 -- The slots up to some block, in rising order of their index, or the first block that breaks a rule.
 abbrev Slots : Type 0
-Slots = Result (List Held) ℕ
+Slots = Result (List HeldSlot) ℕ
 
-abbrev pub with_area : List Held → ℕ → Area → Bool → Slots
+abbrev pub with_area : List HeldSlot → ℕ → Area → Bool → Slots
 with_area held i a true = Ok (held ++ record { index = i; area = a } ∷ [])
 with_area held i a false = Err i
 
 -- with a block in use that may break a rule by itself
-abbrev pub with_used : List Held → ℕ → List ℕ → Bool → Slots
+abbrev pub with_used : List HeldSlot → ℕ → List ℕ → Bool → Slots
 with_used held i content true = with_area held i (area_in content) (goes_with held (area_in content))
 with_used held i content false = Err i
 
-abbrev pub with_block : ℕ → List Held → ℕ → List ℕ → Bool → Slots
+abbrev pub with_block : ℕ → List HeldSlot → ℕ → List ℕ → Bool → Slots
 with_block size held i content true = Ok held
 with_block size held i content false = with_used held i content (is_used size content)
 
@@ -95,7 +95,7 @@ held_if true image = held_after (length image) (Ok []) 1 (take slot_count (drop 
 held_if false image = Err 0
 
 -- the slots of an image, or the block at which it is damaged
-abbrev pub held_of : List (List ℕ) → Result (List Held) ℕ
+abbrev pub held_of : List (List ℕ) → Result (List HeldSlot) ℕ
 held_of image = held_if (is_device image) image
 
 abbrev pub as_slots : Slots → Result (List Slot) ℕ

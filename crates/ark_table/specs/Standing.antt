@@ -35,34 +35,34 @@ pub record IsTableOf (h : History) (table : Table) : Type 0 where
   pub settled : (n : ℕ) (content : List ℕ) → n < 129 → MayStand h n content → content ≡ block (current h.base h.journal) n
 
 -- a change of one slot: what stands in it afterwards, and the blocks that its area gets by it
-pub record Change : Type 0 where
+pub record SlotChange : Type 0 where
   pub index : ℕ
   pub area : Option Area
   pub added : List ℕ
 
-abbrev pub changed : Change → Table → Table
+abbrev pub changed : SlotChange → Table → Table
 changed c table = with_slot table c.index c.area
 
-abbrev pub creates : ℕ → Area → Change
+abbrev pub creates : ℕ → Area → SlotChange
 creates i a = record { index = i; area = Some a; added = blocks_of a.runs }
 
 -- slot i, of this area, grows by more blocks
-abbrev pub grows : ℕ → Area → List ℕ → Change
+abbrev pub grows : ℕ → Area → List ℕ → SlotChange
 grows i a more = record { index = i; area = Some (grown_area a more); added = more }
 
-abbrev pub removes : ℕ → Change
+abbrev pub removes : ℕ → SlotChange
 removes i = record { index = i; area = None; added = [] }
 
 abbrev pub AreZero : List ℕ → List (List ℕ) → Type 0
 AreZero blocks image = (n : ℕ) → Contains blocks n → block image n ≡ zero_block
 
 -- the image has the table as it was; or as it was to be, and then the added blocks are zero
-abbrev pub IsEither : Table → Change → List (List ℕ) → Type 0
+abbrev pub IsEither : Table → SlotChange → List (List ℕ) → Type 0
 IsEither table c image = HasTable table image ⊎ (HasTable (changed c table) image × AreZero c.added image)
 
 -- The slot's block was written since the last sync, or may be: a stop leaves it as it was in some image that has the table, or as
 -- the change wants it; all else of the table is as in that image, and the added blocks are zero.
-pub record IsTried (h : History) (table : Table) (c : Change) : Type 0 where
+pub record IsTried (h : History) (table : Table) (c : SlotChange) : Type 0 where
   pub low : 1 ≤ c.index
   pub high : c.index ≤ 128
   pub image : List (List ℕ)
@@ -75,7 +75,7 @@ pub record IsTried (h : History) (table : Table) (c : Change) : Type 0 where
   pub inside : (n : ℕ) → Contains c.added n → (129 ≤ n) × (n < length h.base)
 
 -- the change came to nothing, or a stop decides
-abbrev pub IsUnsettled : History → Table → Change → Type 0
+abbrev pub IsUnsettled : History → Table → SlotChange → Type 0
 IsUnsettled h table c = IsTableOf h table ⊎ IsTried h table c
 
 -- one of the events is a write to block n, whether it succeeded, took or not
@@ -91,11 +91,11 @@ abbrev pub Spare : List ℕ → List Event → Type 0
 Spare blocks es = (n : ℕ) → IsWritten n es → (129 ≤ n) × (Contains blocks n → ⊥)
 
 -- A moment of a change, after these events of it: the table stands as it was, or the slot was written and a stop decides.
-abbrev pub IsUnderWay : History → Table → Change → List Event → Type 0
+abbrev pub IsUnderWay : History → Table → SlotChange → List Event → Type 0
 IsUnderWay h table c front = IsTableOf (after h front) table ⊎ (IsWritten c.index front × IsTried (after h front) table c)
 
 -- How a change goes: at each moment it is under way, once it succeeded the changed table stands, and where it failed a stop decides.
-pub record GoesThrough (h : History) (table : Table) (c : Change) (ok : Bool) (es : List Event) : Type 0 where
+pub record GoesThrough (h : History) (table : Table) (c : SlotChange) (ok : Bool) (es : List Event) : Type 0 where
   pub each : (front back : List Event) → es ≡ front ++ back → IsUnderWay h table c front
   pub done : ok ≡ true → IsTableOf (after h es) (changed c table)
   pub failed : ok ≡ false → IsUnsettled (after h es) table c

@@ -9,7 +9,7 @@ ghost use Rattle.ark_table.specs.Area.{Area, area_in, area_bytes, is_area, is_fr
 ghost use Rattle.ark_table.specs.Slots.{Slot, slot_at, slot_bytes, slots_of, IsRight};
 ghost use Rattle.ark_table.specs.Table.{Together, area_at, is_of, HasTable, HasSlots, slots_in};
 ghost use Rattle.ark_table.specs.Plans.{create_calls, remove_calls};
-ghost use Rattle.ark_table.specs.Standing.{Table, IsTableOf, Change, IsEither, IsTried, IsUnsettled, Spare, GoesThrough, CanCreate, CanGrow, creates, grows, removes, grow_calls};
+ghost use Rattle.ark_table.specs.Standing.{Table, IsTableOf, SlotChange, IsEither, IsTried, IsUnsettled, Spare, GoesThrough, CanCreate, CanGrow, creates, grows, removes, grow_calls};
 
 /// The block that is written for a slot is one block, which isn't free. It keeps the rules by itself and is read as that slot, for
 /// every slot that keeps them.
@@ -48,11 +48,11 @@ pub fn fresh_laws()
 pub fn standing_laws()
     ensures stands { (h : History) (table : Table) (image : List (List ℕ)) → IsTableOf h table
         → MayLeave Whole h.base h.journal image → HasTable table image }
-    ensures either { (h : History) (table : Table) (c : Change) (image : List (List ℕ))
+    ensures either { (h : History) (table : Table) (c : SlotChange) (image : List (List ℕ))
         → IsTried h table c → MayLeave Whole h.base h.journal image → IsEither table c image }
     ensures stays { (h : History) (table : Table) (es : List Event) → IsTableOf h table
         → Spare [] es → IsTableOf (after h es) table }
-    ensures stays_unsettled { (h : History) (table : Table) (c : Change) (es : List Event)
+    ensures stays_unsettled { (h : History) (table : Table) (c : SlotChange) (es : List Event)
         → IsUnsettled h table c → Spare c.added es → IsUnsettled (after h es) table c }
     ensures attached { (image : List (List ℕ)) (table : Table) → HasTable table image
         → IsTableOf (record { base = image; journal = [] }) table }

@@ -97,7 +97,7 @@ fn least_blocks(kind: Kind) -> u32
 
 // Whether the blocks lie in the data part, and are enough for the kind.
 fn has_place(size: u32, kind: Kind, spans: &Spans) -> bool
-    ensures { result ≡ list_all (spec.is_data size) (runs_of spans.now) && nat_le (spec.least_blocks kind) (spec.count_of (runs_of spans.now)) }
+    ensures { result ≡ list_all (spec.is_data size) (runs_of spans.now) && nat_le (spec.least_blocks kind) (spec.block_total (runs_of spans.now)) }
 {
     are_data(size, spans.as_slice()) && least_blocks(kind) <= spans.blocks()
 }

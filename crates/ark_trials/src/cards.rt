@@ -1,5 +1,5 @@
 ghost use Rattle.std.specs.Prelude.{◌≡◌, ◌∷◌, [], None, IfSome};
-ghost use Rattle.ark_vsic.specs.Moves.{IsSound};
+ghost use Rattle.ark_vsic.specs.Moves.{CanMove};
 ghost use Rattle.ark_vsic.specs.Card.{PacedBy};
 
 use ark_base::{Outcome, Span};
@@ -170,7 +170,7 @@ fn move_block<D: Disk>(
     region: &mut Region,
     disk: &mut D,
 ) -> Option<Moved>
-    requires sound { IsSound region.old.taken 0 posted }
+    requires sound { CanMove region.old.taken 0 posted }
     ensures frames { region.new.taken ≡ region.old.taken }
 {
     let spans = Spans::of(&[Span { start: 129, len: 3 }])?;

@@ -3,7 +3,7 @@ use Rattle.std.proofs.Common.{◌≡◌, ◌≤◌, ◌<◌, ◌+◌, ◌-◌, �
 use Rattle.std.specs.Prelude.{◌⊎◌, leb}
 use Rattle.std.proofs.lemmas.Bool.Decides.{nat_tests}
 use Rattle.std.proofs.Math.Nat.{mul-le-mul_left}
-use Rattle.ark_vic.specs.Pace.{Pace, Pass, Keeps, NoneAfter, StandsFor, passed_between, passed_from, greatest, fill_of, fill_at, filled}
+use Rattle.ark_vic.specs.Pace.{Pace, Pass, WithinRate, NoneAfter, IsPaceOf, passed_between, passed_from, greatest, fill_of, fill_at, with_fill}
 
 -- F is the least number with which every window that ends at T is within F + q * its length
 record IsFill (q : ℕ) (p : List Pass) (T F : ℕ) : Type 0 where
@@ -163,7 +163,7 @@ module _ (q : ℕ) (p : List Pass) (T F t n : ℕ) (le : T ≤ t) (past : NoneAf
       by (inl a) = let k = f.above s a in let g = gap q s T t a le in let l = longer q s t u tu in omega (arith, k, g, l)
       by (inr b) = let z = from-past s T p b past in omega (arith, z)
 
-  keeps_more : (b : ℕ) → Keeps q b p → (F - q * (t - T)) + n ≤ b → Keeps q b (p ++ (t, n) ∷ [])
+  keeps_more : (b : ℕ) → WithinRate q b p → (F - q * (t - T)) + n ≤ b → WithinRate q b (p ++ (t, n) ∷ [])
   keeps_more b kept fits s u su = by (dec_le s t) (dec_le t u)
     where
       by : (s ≤ t) ⊎ (t < s) → (t ≤ u) ⊎ (u < t) → passed_between s u (p ++ (t, n) ∷ []) ≤ b + q * (u - s)
@@ -171,7 +171,7 @@ module _ (q : ℕ) (p : List Pass) (T F t n : ℕ) (le : T ≤ t) (past : NoneAf
       by (inl a) (inr c) = let k = between_append s u t n p in let z = cond_out s u t n (inr c) in let h = kept s u su in omega (arith, k, z, h)
       by (inr a) c = let k = between_append s u t n p in let z = cond_out s u t n (inl a) in let h = kept s u su in omega (arith, k, z, h)
 
-  fits_again : (b : ℕ) → Keeps q b (p ++ (t, n) ∷ []) → (F - q * (t - T)) + n ≤ b
+  fits_again : (b : ℕ) → WithinRate q b (p ++ (t, n) ∷ []) → (F - q * (t - T)) + n ≤ b
   fits_again b kept = by f.met
     where
       at_t : n ≤ b
@@ -210,7 +210,7 @@ module _ (q : ℕ) (p : List Pass) (T F t n : ℕ) (le : T ≤ t) (past : NoneAf
               inr (s, omega arith, omega (arith, e, i, g, h))
 
 -- without the last pass
-keeps_less : (q b t n : ℕ) (p : List Pass) → Keeps q b (p ++ (t, n) ∷ []) → Keeps q b p
+keeps_less : (q b t n : ℕ) (p : List Pass) → WithinRate q b (p ++ (t, n) ∷ []) → WithinRate q b p
 keeps_less q b t n p kept s u su = let k = kept s u su in let e = between_append s u t n p in omega (arith, k, e)
 
 -- the fill at a later tick
@@ -243,7 +243,7 @@ fill_added q t n p past =
     let e : (fill_of q p t - q * (t - t)) + n ≡ fill_of q p t + n = let z = no_gap q t in omega (arith, z) in
     subst (λ F. IsFill q (p ++ (t, n) ∷ []) t F) e (fill_more q p t (fill_of q p t) t n (omega arith) past (fill_is_fill q p t past))
 
-pub kept_law : (q b t n : ℕ) (p : List Pass) → NoneAfter t p → (Keeps q b (p ++ (t, n) ∷ []) → Keeps q b p × (fill_of q p t + n ≤ b)) × (Keeps q b p × (fill_of q p t + n ≤ b) → Keeps q b (p ++ (t, n) ∷ []))
+pub kept_law : (q b t n : ℕ) (p : List Pass) → NoneAfter t p → (WithinRate q b (p ++ (t, n) ∷ []) → WithinRate q b p × (fill_of q p t + n ≤ b)) × (WithinRate q b p × (fill_of q p t + n ≤ b) → WithinRate q b (p ++ (t, n) ∷ []))
 kept_law q b t n p past =
     let f = fill_is_fill q p t past in
     let z = no_gap q t in (
@@ -262,12 +262,12 @@ added_law q t n u p past le =
     same_fill q (p ++ (t, n) ∷ []) u _ _ own (fill_later q (p ++ (t, n) ∷ []) t (fill_of q p t + n) u le all (fill_added q t n p past))
 
 -- a rate that stands for p
-pub may_law : (r : Pace) (p : List Pass) (n t : ℕ) → StandsFor r p → r.tick ≤ t → (fill_at r t + n ≤ r.burst → Keeps r.per_tick r.burst (p ++ (t, n) ∷ [])) × (Keeps r.per_tick r.burst (p ++ (t, n) ∷ []) → fill_at r t + n ≤ r.burst)
+pub may_law : (r : Pace) (p : List Pass) (n t : ℕ) → IsPaceOf r p → r.tick ≤ t → (fill_at r t + n ≤ r.burst → WithinRate r.per_tick r.burst (p ++ (t, n) ∷ [])) × (WithinRate r.per_tick r.burst (p ++ (t, n) ∷ []) → fill_at r t + n ≤ r.burst)
 may_law r p n t st le =
     let f = subst (λ F. IsFill r.per_tick p r.tick F) (sym st.fill_is) (fill_is_fill r.per_tick p r.tick st.past) in
     (keeps_more r.per_tick p r.tick r.fill t n le st.past f r.burst st.kept, fits_again r.per_tick p r.tick r.fill t n le st.past f r.burst)
 
-pub passed_law : (r : Pace) (p : List Pass) (n t : ℕ) → StandsFor r p → r.tick ≤ t → fill_at r t + n ≤ r.burst → StandsFor (filled r n t) (p ++ (t, n) ∷ [])
+pub passed_law : (r : Pace) (p : List Pass) (n t : ℕ) → IsPaceOf r p → r.tick ≤ t → fill_at r t + n ≤ r.burst → IsPaceOf (with_fill r n t) (p ++ (t, n) ∷ [])
 passed_law r p n t st le fits =
     let f = subst (λ F. IsFill r.per_tick p r.tick F) (sym st.fill_is) (fill_is_fill r.per_tick p r.tick st.past) in
     let past = push_past t n p (later_past r.tick t p le st.past) in

@@ -12,8 +12,8 @@ passed_between s t [] = 0
 passed_between s t (x ∷ p) = (if nat_le s x.0 && nat_le x.0 t then x.1 else 0) + passed_between s t p
 
 -- the law: in each window from tick s to tick t at most b + q * (t - s) bytes passed
-abbrev pub Keeps : ℕ → ℕ → List Pass → Type 0
-Keeps q b p = (s t : ℕ) → s ≤ t → passed_between s t p ≤ b + q * (t - s)
+abbrev pub WithinRate : ℕ → ℕ → List Pass → Type 0
+WithinRate q b p = (s t : ℕ) → s ≤ t → passed_between s t p ≤ b + q * (t - s)
 
 -- no pass is after tick t
 abbrev pub NoneAfter : ℕ → List Pass → Type 0
@@ -41,8 +41,8 @@ pub record Pace : Type 0 where
   pub fill : ℕ
 
 -- the passes are kept, none is after the rate's tick, and its fill is theirs
-pub record StandsFor (r : Pace) (p : List Pass) : Type 0 where
-  pub kept : Keeps r.per_tick r.burst p
+pub record IsPaceOf (r : Pace) (p : List Pass) : Type 0 where
+  pub kept : WithinRate r.per_tick r.burst p
   pub past : NoneAfter r.tick p
   pub fill_is : r.fill ≡ fill_of r.per_tick p r.tick
 
@@ -51,5 +51,5 @@ abbrev pub fill_at : Pace → ℕ → ℕ
 fill_at r t = r.fill - r.per_tick * (t - r.tick)
 
 -- the rate after a pass of n bytes at tick t
-abbrev pub filled : Pace → ℕ → ℕ → Pace
-filled r n t = record r { tick = t; fill = fill_at r t + n }
+abbrev pub with_fill : Pace → ℕ → ℕ → Pace
+with_fill r n t = record r { tick = t; fill = fill_at r t + n }

@@ -33,12 +33,12 @@ impl Model for Rate {
 }
 
 impl Rate {
-    ghost use Rattle.ark_vic.specs.Pace.{Pass, StandsFor, Keeps, fill_at, filled};
+    ghost use Rattle.ark_vic.specs.Pace.{Pass, IsPaceOf, WithinRate, fill_at, with_fill};
 
     /// A pace of `q` bytes a tick and a burst of `b` bytes, assigned at tick `now`. It stands for no pass.
     pub fn new(q: u64, b: u64, now: u64) -> Rate
         ensures value { result ≡ record { per_tick = q; burst = b; tick = now; fill = 0 } }
-        ensures stands { StandsFor result [] }
+        ensures stands { IsPaceOf result [] }
     {
         Rate {
             per_tick: q,
@@ -62,8 +62,8 @@ impl Rate {
     pub fn may(&self, len: u32, now: u64) -> bool
         requires { self.now.tick ≤ now }
         ensures by_number { IsTrue result ↔ (fill_at self.now now + len ≤ self.now.burst) }
-        ensures by_law { (p : List Pass) → StandsFor self.now p
-            → (IsTrue result ↔ Keeps self.now.per_tick self.now.burst (p ++ (now, len) ∷ [])) }
+        ensures by_law { (p : List Pass) → IsPaceOf self.now p
+            → (IsTrue result ↔ WithinRate self.now.per_tick self.now.burst (p ++ (now, len) ∷ [])) }
     {
         u64::from(len) <= self.burst - self.fill_now(now)
     }
@@ -72,9 +72,9 @@ impl Rate {
     pub fn passed(&mut self, len: u32, now: u64)
         requires later { self.old.tick ≤ now }
         requires may { fill_at self.old now + len ≤ self.old.burst }
-        ensures value { self.new ≡ filled self.old len now }
-        ensures stands { (p : List Pass) → StandsFor self.old p
-            → StandsFor self.new (p ++ (now, len) ∷ []) }
+        ensures value { self.new ≡ with_fill self.old len now }
+        ensures stands { (p : List Pass) → IsPaceOf self.old p
+            → IsPaceOf self.new (p ++ (now, len) ∷ []) }
     {
         self.fill = self.fill_now(now) + u64::from(len);
         self.tick = now;

@@ -4,7 +4,7 @@ use Rattle.std.specs.Prelude.{Contains, is_some, option_map, unwrap_or, ◌==◌
 use Rattle.std.specs.List.{find}
 use Rattle.std.proofs.lemmas.Bool.{cond_both, eqb-true, false≢true}
 use Rattle.std.proofs.lemmas.Bool.Decides.{nat_tests}
-use Rattle.ark_vic.specs.Pace.{Pace, Pass, Keeps, StandsFor, fill_at, filled}
+use Rattle.ark_vic.specs.Pace.{Pace, Pass, WithinRate, IsPaceOf, fill_at, with_fill}
 use Rattle.ark_vic.proofs.PaceLemmas.{may_law, passed_law}
 use Rattle.ark_vic.specs.declared.descriptor.Descriptor.{Descriptor}
 use Rattle.ark_vic.specs.declared.descriptor.Job.{Job}
@@ -115,17 +115,17 @@ module _ (card : Card) (held : Areas) (now : ℕ) where
   pub own : (n : ℕ) → due_of card held now ≡ due.Block n → IsItsOwn card held n
   own n is = (block_means n is).0
 
-  module _ (r : Pace) (p : List Pass) (paced : card.pace ≡ Some r) (stand : StandsFor r p) (later : r.tick ≤ now) where
+  module _ (r : Pace) (p : List Pass) (paced : card.pace ≡ Some r) (stand : IsPaceOf r p) (later : r.tick ≤ now) where
     may : (n : ℕ) → due_of card held now ≡ due.Block n → fill_at r now + 512 ≤ r.burst
     may n is = subst (λ o. May now o) paced (block_means n is).1
 
-    pub keeps : (n : ℕ) → due_of card held now ≡ due.Block n → Keeps r.per_tick r.burst (p ++ (now, 512) ∷ [])
+    pub keeps : (n : ℕ) → due_of card held now ≡ due.Block n → WithinRate r.per_tick r.burst (p ++ (now, 512) ∷ [])
     keeps n is = (may_law r p 512 now stand later).0 (may n is)
 
-    pub stands : (n : ℕ) → due_of card held now ≡ due.Block n → StandsFor (filled r 512 now) (p ++ (now, 512) ∷ [])
+    pub stands : (n : ℕ) → due_of card held now ≡ due.Block n → IsPaceOf (with_fill r 512 now) (p ++ (now, 512) ∷ [])
     stands n is = passed_law r p 512 now stand later (may n is)
 
-    pub waits : due_of card held now ≡ due.Waits → ¬ Keeps r.per_tick r.burst (p ++ (now, 512) ∷ [])
+    pub waits : due_of card held now ≡ due.Waits → ¬ WithinRate r.per_tick r.burst (p ++ (now, 512) ∷ [])
     waits is kept =
         let over : r.burst < fill_at r now + 512 = subst (λ o. MayNot now o) paced (subst (λ x. Means (λ m. IsItsOwn card held m × May now card.pace) (MayNot now card.pace) x) is (means now card held)) in
         let within = (may_law r p 512 now stand later).1 kept in omega (arith, over, within)

@@ -5,11 +5,11 @@ use Rattle.std.proofs.lemmas.List.{take-append-drop}
 use Rattle.std.proofs.Math.Seq.{take-append_seam}
 use Rattle.ark_media.specs.Journal.{History}
 use Rattle.ark_media.specs.Calls.{GivesBlock}
-use Rattle.ark_region.specs.Frames.{Piece, Space, Lies, Wrote, bytes_of, fitted, written}
+use Rattle.ark_region.specs.Frames.{Piece, Space, LiesInRegion, Wrote, bytes_of, fitted, written}
 use Rattle.ark_region.proofs.Putting.{part_of}
 use Rattle.ark_vic.specs.declared.descriptor.Descriptor.{Descriptor}
 use Rattle.ark_vic.specs.declared.descriptor.Job.TheVariants as job
-use Rattle.ark_vsic.specs.Moves.{Got, LeavesBlock, IsSound, IsSoundBy}
+use Rattle.ark_vsic.specs.Moves.{Got, LeavesBlock, CanMove, IsSoundBy}
 
 module _ {X : Type 0} where
   -- a part that is written back as it was leaves all as it was
@@ -21,10 +21,10 @@ module _ {X : Type 0} where
       ∙ take-append_seam xs (drop (length xs) xs)
 
 -- a descriptor that reads has room for the block that is due
-room : (d : Descriptor) (b : Piece) (taken : List Bool) (k : ℕ) → d.job ≡ job.Read → d.buf ≡ Some b → IsSound taken k d → d.from + 512 * k + 512 ≤ b.len
+room : (d : Descriptor) (b : Piece) (taken : List Bool) (k : ℕ) → d.job ≡ job.Read → d.buf ≡ Some b → CanMove taken k d → d.from + 512 * k + 512 ≤ b.len
 room d b taken k reads is sound =
-    let s : (k < d.count) × MatchOption d.buf ⊥ (λ x. Lies taken x × (d.from + 512 * d.count ≤ x.len)) = subst (λ j. IsSoundBy j taken d k) reads sound in
-    let r : Lies taken b × (d.from + 512 * d.count ≤ b.len) = subst (λ o. MatchOption o ⊥ (λ x. Lies taken x × (d.from + 512 * d.count ≤ x.len))) is s.1 in
+    let s : (k < d.count) × MatchOption d.buf ⊥ (λ x. LiesInRegion taken x × (d.from + 512 * d.count ≤ x.len)) = subst (λ j. IsSoundBy j taken d k) reads sound in
+    let r : LiesInRegion taken b × (d.from + 512 * d.count ≤ b.len) = subst (λ o. MatchOption o ⊥ (λ x. LiesInRegion taken x × (d.from + 512 * d.count ≤ x.len))) is s.1 in
     let below = s.0 in let within = r.1 in omega (arith, below, within)
 
 module _ (old : Space) (b : Piece) (at n : ℕ) (after : Option History) (before out : List ℕ) where
@@ -53,7 +53,7 @@ module _ (old : Space) (b : Piece) (at n : ℕ) (after : Option History) (before
 
 -- what is left by a read into the part of a buffer that was lent
 pub left_by_read : {E : Type 0} (old : Space) (d : Descriptor) (k n : ℕ) (after : Option History) (b : Piece) (before out : List ℕ) (r : Result (Unit {0}) E) (ok : Bool)
-    → d.job ≡ job.Read → d.buf ≡ Some b → IsSound old.taken k d → ok ≡ is_ok r
+    → d.job ≡ job.Read → d.buf ≡ Some b → CanMove old.taken k d → ok ≡ is_ok r
     → before ≡ slice_range (bytes_of old b) (d.from + 512 * k) (d.from + 512 * k + 512) → length before ≡ 512 → length out ≡ 512
     → Wrote old (new old b (d.from + 512 * k) n after before out) b (d.from + 512 * k) out → OnOk r (GivesBlock after n out) → OnErr r (out ≡ before)
     → LeavesBlock d.job ok d.buf (d.from + 512 * k) after n old (new old b (d.from + 512 * k) n after before out)

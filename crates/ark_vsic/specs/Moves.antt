@@ -4,8 +4,8 @@ use Rattle.ark_base.specs.declared.kind.Outcome.{Outcome}
 use Rattle.ark_base.specs.declared.kind.Outcome.TheVariants as outcome
 use Rattle.ark_media.specs.Journal.{History}
 use Rattle.ark_media.specs.Calls.{Call, Reads, Writes, Syncs, GivesBlock}
-use Rattle.ark_region.specs.Frames.{Piece, Space, bytes_of, Lies, Wrote}
-use Rattle.ark_vic.specs.Pace.{Pace, fill_at, filled}
+use Rattle.ark_region.specs.Frames.{Piece, Space, bytes_of, LiesInRegion, Wrote}
+use Rattle.ark_vic.specs.Pace.{Pace, fill_at, with_fill}
 use Rattle.ark_vic.specs.Queue.{Queue, finished}
 use Rattle.ark_vic.specs.declared.descriptor.Descriptor.{Descriptor}
 use Rattle.ark_vic.specs.declared.descriptor.Job.{Job}
@@ -125,7 +125,7 @@ ring_after q (moved.Done o) = ended q (head_of q) o
 
 -- a block that is tried passes 512 bytes
 abbrev pub pace_after : Option Pace → Due → ℕ → Option Pace
-pace_after pace (due.Block n) now = option_map (λ p. filled p 512 now) pace
+pace_after pace (due.Block n) now = option_map (λ p. with_fill p 512 now) pace
 pace_after pace _ now = pace
 
 -- block n of the disk was read into a buffer, from its byte `at` on; no other byte of a buffer changed
@@ -152,7 +152,7 @@ Leaves card x ok after old new = LeavesFor (head_of card.ring) x ok card.ring.mo
 
 -- the buffer is one of the region, and has the blocks of the descriptor from byte `from` on
 abbrev pub HasRoom : List Bool → Descriptor → Type 0
-HasRoom taken d = MatchOption d.buf ⊥ (λ b. Lies taken b × (d.from + 512 * d.count ≤ b.len))
+HasRoom taken d = MatchOption d.buf ⊥ (λ b. LiesInRegion taken b × (d.from + 512 * d.count ≤ b.len))
 
 -- The oldest descriptor is one of a storage card, and has a block that has not moved yet, with room in its buffer.
 abbrev pub IsSoundBy : Job → List Bool → Descriptor → ℕ → Type 0
@@ -162,8 +162,8 @@ IsSoundBy job.Zero taken d k = k < d.count
 IsSoundBy job.Sync taken d k = Unit {0}
 IsSoundBy _ taken d k = ⊥
 
-abbrev pub IsSound : List Bool → ℕ → Descriptor → Type 0
-IsSound taken k d = IsSoundBy d.job taken d k
+abbrev pub CanMove : List Bool → ℕ → Descriptor → Type 0
+CanMove taken k d = IsSoundBy d.job taken d k
 
 -- the oldest descriptor is one that moves blocks
 abbrev pub MovesBlocks : Option Descriptor → Type 0

@@ -1,6 +1,6 @@
 -- The blocks that a card may touch.
 use Rattle.std.specs.Prelude.{◌≡◌, ◌≤◌, ℕ, true, List, length, Some, slice_get, Contains}
-use Rattle.ark_vic.specs.Pace.{Pace, Pass, StandsFor}
+use Rattle.ark_vic.specs.Pace.{Pace, Pass, IsPaceOf}
 use Rattle.ark_vic.specs.declared.descriptor.Descriptor.{Descriptor}
 use Rattle.ark_vsic.specs.Card.{Card, Areas, is_bound, head_of}
 use Rattle.ark_vsic.specs.Places.{place_after}
@@ -17,5 +17,5 @@ pub record IsItsOwn (card : Card) (held : Areas) (n : ℕ) : Type 0 where
 -- the rate that paces the card stands for these passes, none of them later than this tick
 pub record IsPacedFor (card : Card) (r : Pace) (p : List Pass) (now : ℕ) : Type 0 where
   pub rate : card.pace ≡ Some r
-  pub stands : StandsFor r p
+  pub stands : IsPaceOf r p
   pub later : r.tick ≤ now

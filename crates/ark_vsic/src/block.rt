@@ -1,7 +1,7 @@
 ghost use Rattle.std.specs.Prelude.{◌≡◌, ◌≢◌, ◌<◌, ◌+◌, ◌*◌, [], ◌∷◌};
 ghost use Rattle.ark_media.specs.Calls.{Went};
 ghost use Rattle.ark_vic.specs.declared.descriptor.Job.TheVariants as job;
-ghost use Rattle.ark_vsic.specs.Moves.{IsSound, LeavesBlock, block_call};
+ghost use Rattle.ark_vsic.specs.Moves.{CanMove, LeavesBlock, block_call};
 
 use ark_media::Disk;
 use ark_region::Region;
@@ -12,7 +12,7 @@ const BLOCK: usize = 512;
 // Reads block `n` into the buffer of a descriptor, where its block `k` stands.
 fn read_block<D: Disk>(head: &Descriptor, k: u32, n: u32, region: &mut Region, disk: &mut D) -> bool
     requires reads { head.now.job ≡ job.Read }
-    requires sound { IsSound region.old.taken k head.now }
+    requires sound { CanMove region.old.taken k head.now }
     requires inside { n < (D.told disk.old).blocks }
     ensures went { Went D.goes (block_call head.now k n region.old ∷ []) result disk.old disk.new }
     ensures region { LeavesBlock head.now.job result head.now.buf (head.now.from + 512 * k)
@@ -29,7 +29,7 @@ fn read_block<D: Disk>(head: &Descriptor, k: u32, n: u32, region: &mut Region, d
 // Writes block `n` from the buffer of a descriptor, where its block `k` stands.
 fn write_block<D: Disk>(head: &Descriptor, k: u32, n: u32, region: &Region, disk: &mut D) -> bool
     requires writes { head.now.job ≡ job.Write }
-    requires sound { IsSound region.now.taken k head.now }
+    requires sound { CanMove region.now.taken k head.now }
     requires inside { n < (D.told disk.old).blocks }
     ensures went { Went D.goes (block_call head.now k n region.now ∷ []) result disk.old disk.new }
 {
@@ -49,7 +49,7 @@ pub(crate) fn try_block<D: Disk>(
     disk: &mut D,
 ) -> bool
     requires blocks { head.now.job ≢ job.Sync }
-    requires sound { IsSound region.old.taken k head.now }
+    requires sound { CanMove region.old.taken k head.now }
     requires inside { n < (D.told disk.old).blocks }
     ensures went { Went D.goes (block_call head.now k n region.old ∷ []) result disk.old disk.new }
     ensures region { LeavesBlock head.now.job result head.now.buf (head.now.from + 512 * k)

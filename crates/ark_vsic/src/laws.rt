@@ -1,6 +1,6 @@
 // Laws of the definitions, each the contract of a function that does nothing.
 ghost use Rattle.std.specs.Prelude.{◌≡◌, ◌≤◌, ◌<◌, ◌+◌, ◌-◌, ◌%◌, ◌++◌, ◌∷◌, [], ℕ, suc, List, Some, length, slice_get};
-ghost use Rattle.ark_vic.specs.Pace.{Keeps, Pace, Pass, StandsFor, filled};
+ghost use Rattle.ark_vic.specs.Pace.{WithinRate, Pace, Pass, IsPaceOf, with_fill};
 ghost use Rattle.ark_vsic.specs.Card.{Areas, Card};
 ghost use Rattle.ark_vsic.specs.Moves.{due_of};
 ghost use Rattle.ark_vic.specs.Queue.{finished};
@@ -27,13 +27,13 @@ pub fn due_laws()
         → due_of card held now ≡ due.Block n → IsItsOwn card held n }
     ensures keeps { (card : Card) (held : Areas) (now n : ℕ) (r : Pace) (p : List Pass)
         → IsPacedFor card r p now → due_of card held now ≡ due.Block n
-        → Keeps r.per_tick r.burst (p ++ (now, 512) ∷ []) }
+        → WithinRate r.per_tick r.burst (p ++ (now, 512) ∷ []) }
     ensures stands { (card : Card) (held : Areas) (now n : ℕ) (r : Pace) (p : List Pass)
         → IsPacedFor card r p now → due_of card held now ≡ due.Block n
-        → StandsFor (filled r 512 now) (p ++ (now, 512) ∷ []) }
+        → IsPaceOf (with_fill r 512 now) (p ++ (now, 512) ∷ []) }
     ensures waits { (card : Card) (held : Areas) (now : ℕ) (r : Pace) (p : List Pass)
         → IsPacedFor card r p now → due_of card held now ≡ due.Waits
-        → ¬ Keeps r.per_tick r.burst (p ++ (now, 512) ∷ []) }
+        → ¬ WithinRate r.per_tick r.burst (p ++ (now, 512) ∷ []) }
 {}
 
 /// Where no move fails, a descriptor ends `Ok` after exactly as many moves as it has blocks left, each of them the next block

@@ -4,7 +4,7 @@ ghost use Rattle.ark_media.specs.Calls.{Went};
 ghost use Rattle.ark_vsic.specs.declared.due.Moved.TheVariants as moved;
 ghost use Rattle.ark_vsic.specs.declared.due.Due.TheVariants as due;
 ghost use Rattle.ark_vsic.specs.Card.{PacedBy, bound_with, bound_without, head_of, is_bound};
-ghost use Rattle.ark_vsic.specs.Moves.{IsSound, Leaves, MayPass, MovesBlocks, answer_of, answer_tried, calls_of, count_of, due_of, ended, is_last, pace_after, ring_after, worked};
+ghost use Rattle.ark_vsic.specs.Moves.{CanMove, Leaves, MayPass, MovesBlocks, answer_of, answer_tried, calls_of, count_of, due_of, ended, is_last, pace_after, ring_after, worked};
 
 use crate::block::try_block;
 use crate::due::{Due, Moved, PASS, outcome_of, paced};
@@ -132,7 +132,7 @@ impl Vsic {
     fn try_next<D: Disk>(&self, n: u32, region: &mut Region, disk: &mut D) -> bool
         requires blocks { MovesBlocks (head_of self.now.ring) }
         requires sound { IfSome (head_of self.now.ring) (λ d.
-            IsSound region.old.taken self.now.ring.moved d) }
+            CanMove region.old.taken self.now.ring.moved d) }
         requires inside { n < (D.told disk.old).blocks }
         ensures went { Went D.goes (calls_of self.now (due.Block n) region.old)
             result disk.old disk.new }
@@ -205,7 +205,7 @@ impl Vsic {
         now: u64,
     ) -> Moved
         requires sound { IfSome (head_of self.old.ring) (λ d.
-            IsSound region.old.taken self.old.ring.moved d) }
+            CanMove region.old.taken self.old.ring.moved d) }
         requires inside { All (λ a. All (λ n. n < (D.told disk.old).blocks) a.1) held.now }
         requires later { PacedBy now self.old.pace }
         ensures went { Went D.goes (calls_of self.old (due_of self.old held.now now) region.old)

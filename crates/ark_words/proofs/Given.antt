@@ -2,7 +2,7 @@
 use Rattle.std.proofs.Common.{◌≡◌, ◌≢◌, ◌∙◌, ◌≤◌, ◌<◌, ◌^◌, ℕ, List, [], ◌∷◌, Option, Some, None, IfSome, length, refl, sym, ap, codes, decimal, bytes_eq, arith, true≢false}
 use Rattle.std.proofs.lemmas.Fmt.{decimal_injective}
 use Rattle.ark_words.specs.Sorted.{Text, Sorted, sorted, SortsTo}
-use Rattle.ark_words.specs.Words.{Command, run, check, work, IsCommand, IsSize, Says, given}
+use Rattle.ark_words.specs.Words.{Command, run, check, work, IsCommand, IsDeviceSize, SortsInto, given}
 
 abbrev sorted_of : List Text → List Text → Sorted
 sorted_of a b = record { new = a; plain = b }
@@ -17,7 +17,7 @@ cons_tail : (a b : Text) (xs ys : List Text) → a ∷ xs ≡ b ∷ ys → xs �
 cons_tail a b xs ys e = cc
 
 -- what a command's words after its name sort into
-says_sorted : (name other : Text) (rest : List Text) (s : Sorted) → Says (name ∷ rest) other s → (name ≡ other) × (sorted rest ≡ Some s)
+says_sorted : (name other : Text) (rest : List Text) (s : Sorted) → SortsInto (name ∷ rest) other s → (name ≡ other) × (sorted rest ≡ Some s)
 says_sorted name other rest s h =
     let head : name ≡ other = cons_head _ _ _ _ h.1 in
     let tail : rest ≡ h.0 = cons_tail _ _ _ _ h.1 in
@@ -35,7 +35,7 @@ check≢work e = true≢false (ap (bytes_eq (codes "check")) e)
 -- ---- the only command that such words can give
 
 pub the_run : (rest : List Text) (c : Command) → IsCommand (codes "run" ∷ rest) c
-    → (blocks : Option ℕ) × (device : Text) × (sorted rest ≡ Some (sorted_of (given blocks) (device ∷ []))) × IfSome blocks IsSize × (device ≢ [])
+    → (blocks : Option ℕ) × (device : Text) × (sorted rest ≡ Some (sorted_of (given blocks) (device ∷ []))) × IfSome blocks IsDeviceSize × (device ≢ [])
 the_run rest (run blocks device) h = (blocks, device, (says_sorted _ _ rest _ h.0).1, h.1, h.2)
 the_run rest (check device) h = absurd (run≢check (says_sorted _ _ rest _ h.0).0)
 the_run rest (work seed lines device) h = absurd (run≢work (says_sorted _ _ rest _ h.0).0)
@@ -75,7 +75,7 @@ no_work rest none c h =
 
 -- ---- words give one command
 
-says_same : (words : List Text) (name other : Text) (s r : Sorted) → Says words name s → Says words other r → (name ≡ other) × (s ≡ r)
+says_same : (words : List Text) (name other : Text) (s r : Sorted) → SortsInto words name s → SortsInto words other r → (name ≡ other) × (s ≡ r)
 says_same words name other s r h k =
     let both : name ∷ h.0 ≡ other ∷ k.0 = sym h.1 ∙ k.1 in
     (cons_head _ _ _ _ both, some_is _ _ (sym h.2 ∙ ap sorted (cons_tail _ _ _ _ both) ∙ k.2))
@@ -83,7 +83,7 @@ says_same words name other s r h k =
 one_same : (a b : Text) → a ∷ [] ≡ b ∷ [] → a ≡ b
 one_same a b e = cc
 
-given_same : (a b : Option ℕ) → IfSome a IsSize → IfSome b IsSize → given a ≡ given b → a ≡ b
+given_same : (a b : Option ℕ) → IfSome a IsDeviceSize → IfSome b IsDeviceSize → given a ≡ given b → a ≡ b
 given_same None None f g e = refl
 given_same None (Some n) f g e = cc
 given_same (Some m) None f g e = cc

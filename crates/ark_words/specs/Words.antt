@@ -12,8 +12,8 @@ pub data Command : Type 0 where
   work : ℕ → ℕ → Text → Command
 
 -- the first word is the name, and those after it sort into these
-abbrev pub Says : List Text → Text → Sorted → Type 0
-Says words name s = (rest : List Text) × (words ≡ name ∷ rest) × (sorted rest ≡ Some s)
+abbrev pub SortsInto : List Text → Text → Sorted → Type 0
+SortsInto words name s = (rest : List Text) × (words ≡ name ∷ rest) × (sorted rest ≡ Some s)
 
 -- the words for a number that may be given: in decimal, with no sign and no leading zero
 abbrev pub given : Option ℕ → List Text
@@ -21,15 +21,15 @@ given None = []
 given (Some n) = decimal n ∷ []
 
 -- a device that is made has from 130 to 1,048,576 blocks
-abbrev pub IsSize : ℕ → Type 0
-IsSize n = (130 ≤ n) × (n ≤ 1048576)
+abbrev pub IsDeviceSize : ℕ → Type 0
+IsDeviceSize n = (130 ≤ n) × (n ≤ 1048576)
 
 -- the words are of the set of commands, and give this one
 abbrev pub IsCommand : List Text → Command → Type 0
 IsCommand words (run blocks device) =
-    Says words (codes "run") (record { new = given blocks; plain = device ∷ [] }) × IfSome blocks IsSize × (device ≢ [])
+    SortsInto words (codes "run") (record { new = given blocks; plain = device ∷ [] }) × IfSome blocks IsDeviceSize × (device ≢ [])
 IsCommand words (check device) =
-    Says words (codes "check") (record { new = []; plain = device ∷ [] }) × (device ≢ [])
+    SortsInto words (codes "check") (record { new = []; plain = device ∷ [] }) × (device ≢ [])
 IsCommand words (work seed lines device) =
-    Says words (codes "work") (record { new = []; plain = decimal seed ∷ decimal lines ∷ device ∷ [] })
+    SortsInto words (codes "work") (record { new = []; plain = decimal seed ∷ decimal lines ∷ device ∷ [] })
     × (seed < 2 ^ 64) × (lines ≤ 1000000) × (device ≢ [])

@@ -11,7 +11,7 @@ use Rattle.ark_entry.specs.Found.{Found, found, found_of}
 use Rattle.ark_script.specs.Line as w
 use Rattle.ark_machine.specs.Row.{answer}
 use Rattle.ark_machine.specs.Step.{step}
-use Rattle.ark_machine.specs.Start.{view}
+use Rattle.ark_machine.specs.Start.{contents_at}
 use Rattle.ark_machine.specs.System.{System, fresh_system}
 use Rattle.ark_machine.specs.Recovers.{Recovers, log_choices}
 use Rattle.ark_worked.proofs.Playing.{Played, played}
@@ -73,11 +73,11 @@ pub may_be_without : MayLeave Whole base journal without_marker
 unfolding superblock
 may_be_without = record { size = refl; each = λ n lt. inr refl }
 
-pub found_with : found_of kind.Log (view with_marker log_slot.blocks) ≡ found (record { first = 1; payloads = (104 ∷ []) ∷ [] })
+pub found_with : found_of kind.Log (contents_at with_marker log_slot.blocks) ≡ found (record { first = 1; payloads = (104 ∷ []) ∷ [] })
 unfolding superblock
 found_with = refl
 
-pub found_without : found_of kind.Log (view without_marker log_slot.blocks) ≡ found (record { first = 1; payloads = [] })
+pub found_without : found_of kind.Log (contents_at without_marker log_slot.blocks) ≡ found (record { first = 1; payloads = [] })
 unfolding superblock
 found_without = refl
 

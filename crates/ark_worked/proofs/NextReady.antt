@@ -9,7 +9,7 @@ use Rattle.ark_entry.specs.Found.{found, found_of}
 use Rattle.ark_script.specs.Text.{reply_words}
 use Rattle.ark_script.specs.declared.said.Said.TheVariants as said
 use Rattle.ark_machine.specs.Plane.{Plane}
-use Rattle.ark_machine.specs.Start.{view, start_system}
+use Rattle.ark_machine.specs.Start.{contents_at, start_system}
 use Rattle.ark_worked.proofs.Scripts.{area}
 use Rattle.ark_worked.proofs.Logs.{wrapped, other}
 use Rattle.ark_worked.proofs.Images.{image_after}
@@ -39,6 +39,6 @@ without_slot-ready = refl
 abbrev wrapped_image : List (List ℕ)
 wrapped_image = image_after 200 (take 10 wrapped)
 
-pub wrapped-found : found_of kind.Log (view wrapped_image (area 1 (codes "a") (codes "l") kind.Log 129 4).blocks) ≡ found (record { first = 2; payloads = other ∷ [] })
+pub wrapped-found : found_of kind.Log (contents_at wrapped_image (area 1 (codes "a") (codes "l") kind.Log 129 4).blocks) ≡ found (record { first = 2; payloads = other ∷ [] })
 unfolding superblock
 wrapped-found = refl

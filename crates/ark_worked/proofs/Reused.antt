@@ -11,7 +11,7 @@ use Rattle.ark_entry.specs.Header.{header_bytes}
 use Rattle.ark_script.specs.Line as w
 use Rattle.ark_machine.specs.Row.{answer}
 use Rattle.ark_machine.specs.Step.{step}
-use Rattle.ark_machine.specs.Start.{view}
+use Rattle.ark_machine.specs.Start.{contents_at}
 use Rattle.ark_machine.specs.System.{System, fresh_system}
 use Rattle.ark_machine.specs.Plane.{Change, makes}
 use Rattle.ark_machine.specs.Recovers.{Recovers, begun, ContentStands, BlocksStand, block_choices, log_choices}
@@ -30,7 +30,7 @@ unwritten m n (inl h) ne = absurd (ne h.0)
 unwritten m n (inr h) ne = h
 
 four_blocks : (image : List (List ℕ)) (first : List ℕ) → block image 129 ≡ first → block image 130 ≡ zero_block → block image 131 ≡ zero_block → block image 132 ≡ zero_block
-    → view image log_slot.blocks ≡ first ∷ replicate 3 zero_block
+    → contents_at image log_slot.blocks ≡ first ∷ replicate 3 zero_block
 four_blocks image first p q s t = rw p (rw q (rw s (rw t refl)))
 
 no_slots : (t : Slot) → Contains {X = Slot} [] t → ⊥
@@ -129,7 +129,7 @@ in_zeroes-none = refl
 abbrev in_slot : List Event
 in_slot = in_zeroes ++ (Sync true ∷ Write 1 (slot_bytes log_slot) true true ∷ [])
 
-pub in_slot-empty : (image : List (List ℕ)) → MayLeave Whole base (onto in_slot []) image → found_of kind.Log (view image log_slot.blocks) ≡ no_entries
+pub in_slot-empty : (image : List (List ℕ)) → MayLeave Whole base (onto in_slot []) image → found_of kind.Log (contents_at image log_slot.blocks) ≡ no_entries
 unfolding superblock
 in_slot-empty image left =
     ap (λ x. found_of kind.Log x) (four_blocks image zero_block
@@ -144,24 +144,24 @@ header = header_bytes kind.Log 1 0 0 0
 abbrev in_opening : List Event
 in_opening = history 200 reused ++ (Sync true ∷ Write 129 header true true ∷ [])
 
-pub in_opening-empty : (image : List (List ℕ)) → MayLeave Whole base (onto in_opening []) image → found_of kind.Log (view image log_slot.blocks) ≡ no_entries
+pub in_opening-empty : (image : List (List ℕ)) → MayLeave Whole base (onto in_opening []) image → found_of kind.Log (contents_at image log_slot.blocks) ≡ no_entries
 unfolding superblock
 in_opening-empty image left = by (left.each 129 (omega arith))
   where
     behind : (n : ℕ) → ((129 ≡ n) × (block image n ≡ header)) ⊎ (block image n ≡ zero_block) → 129 < n → block image n ≡ zero_block
     behind n h lt = unwritten 129 n h (λ e. absurd (omega (arith, e, lt)))
 
-    headed : (first : List ℕ) → block image 129 ≡ first → view image log_slot.blocks ≡ first ∷ replicate 3 zero_block
+    headed : (first : List ℕ) → block image 129 ≡ first → contents_at image log_slot.blocks ≡ first ∷ replicate 3 zero_block
     headed first h = four_blocks image first h (behind 130 (left.each 130 (omega arith)) (omega arith)) (behind 131 (left.each 131 (omega arith)) (omega arith)) (behind 132 (left.each 132 (omega arith)) (omega arith))
 
-    by : (◌≡◌ {A = ℕ} 129 129 × (block image 129 ≡ header)) ⊎ (block image 129 ≡ zero_block) → found_of kind.Log (view image log_slot.blocks) ≡ no_entries
+    by : (◌≡◌ {A = ℕ} 129 129 × (block image 129 ≡ header)) ⊎ (block image 129 ≡ zero_block) → found_of kind.Log (contents_at image log_slot.blocks) ≡ no_entries
     by (inl h) = ap (λ x. found_of kind.Log x) (headed header h.1)
     by (inr h) = ap (λ x. found_of kind.Log x) (headed zero_block h)
 
 abbrev after_opening : List Event
 after_opening = in_opening ++ (Sync true ∷ [])
 
-pub after_opening-empty : (image : List (List ℕ)) → MayLeave Whole base (onto after_opening []) image → found_of kind.Log (view image log_slot.blocks) ≡ no_entries
+pub after_opening-empty : (image : List (List ℕ)) → MayLeave Whole base (onto after_opening []) image → found_of kind.Log (contents_at image log_slot.blocks) ≡ no_entries
 unfolding superblock
 after_opening-empty image left =
     ap (λ x. found_of kind.Log x) (four_blocks image header (left.each 129 (omega arith)) (left.each 130 (omega arith)) (left.each 131 (omega arith)) (left.each 132 (omega arith)))

@@ -14,7 +14,7 @@ use Rattle.ark_entry.specs.Header.{header_bytes}
 use Rattle.ark_script.specs.Line as w
 use Rattle.ark_machine.specs.Row.{answer}
 use Rattle.ark_machine.specs.Step.{step}
-use Rattle.ark_machine.specs.Start.{view}
+use Rattle.ark_machine.specs.Start.{contents_at}
 use Rattle.ark_machine.specs.System.{System, fresh_system}
 use Rattle.ark_machine.specs.Recovers.{Recovers, begun, ContentStands, log_choices}
 use Rattle.ark_worked.proofs.Playing.{Played, played, replies, performed}
@@ -72,11 +72,11 @@ begins_no_change = refl
 abbrev pub log_slot : Slot
 log_slot = area 1 a l kind.Log 129 4
 
-pub found_without : found_of kind.Log (view without_entry log_slot.blocks) ≡ found (record { first = 1; payloads = [] })
+pub found_without : found_of kind.Log (contents_at without_entry log_slot.blocks) ≡ found (record { first = 1; payloads = [] })
 unfolding superblock
 found_without = refl
 
-pub found_with : found_of kind.Log (view with_entry log_slot.blocks) ≡ found (record { first = 1; payloads = (104 ∷ []) ∷ [] })
+pub found_with : found_of kind.Log (contents_at with_entry log_slot.blocks) ≡ found (record { first = 1; payloads = (104 ∷ []) ∷ [] })
 unfolding superblock
 found_with = refl
 
@@ -86,13 +86,13 @@ lists_both = refl
 
 -- one log in one slot, which nothing changes: what is left of its list is all that is to be shown
 pub recovers_log : (s : System) (rest : List Event) (t : Slot) (image : List (List ℕ)) → s.plane.slots ≡ t ∷ [] → t.kind ≡ kind.Log → slots_of image ≡ Ok (t ∷ [])
-    → Contains (log_choices s None t) (found_of kind.Log (view image t.blocks)) → Recovers s None rest image
+    → Contains (log_choices s None t) (found_of kind.Log (contents_at image t.blocks)) → Recovers s None rest image
 recovers_log s rest t image held is_log read there = record {
   slots = t ∷ [];
   readable = read;
   held = λ u h. inl (u, subst (λ ts. Contains ts u) held h, inl (inl refl));
   others = λ u h. inl (0, t, subst (λ ts. 0 < length ts) (sym held) (omega arith), subst (λ ts. slice_index_or ts 0 t ≡ t) (sym held) refl, inl (inl (single t u h)));
-  contents = λ u h. subst (λ x. ContentStands s None rest image x x.kind) (sym (single t u h)) (subst (λ k. ContentStands s None rest image t k) (sym is_log) (subst (λ k. Contains (log_choices s None t) (found_of k (view image t.blocks))) (sym is_log) there));
+  contents = λ u h. subst (λ x. ContentStands s None rest image x x.kind) (sym (single t u h)) (subst (λ k. ContentStands s None rest image t k) (sym is_log) (subst (λ k. Contains (log_choices s None t) (found_of k (contents_at image t.blocks))) (sym is_log) there));
 }
 
 pub recovers_without : Recovers before_settle None rest without_entry
@@ -123,12 +123,12 @@ reused =
     ∷ (w.vsa a l 4 kind.Log, granting log_slot)
     ∷ []
 
-pub zero_again : (image : List (List ℕ)) → MayLeave Whole base (onto (history 200 reused) []) image → view image log_slot.blocks ≡ replicate 4 zero_block
+pub zero_again : (image : List (List ℕ)) → MayLeave Whole base (onto (history 200 reused) []) image → contents_at image log_slot.blocks ≡ replicate 4 zero_block
 unfolding superblock
 zero_again image left =
     rw (left.each 129 (omega arith)) (rw (left.each 130 (omega arith)) (rw (left.each 131 (omega arith)) (rw (left.each 132 (omega arith)) refl)))
 
-pub nothing_found : (image : List (List ℕ)) → MayLeave Whole base (onto (history 200 reused) []) image → found_of kind.Log (view image log_slot.blocks) ≡ found (record { first = 1; payloads = [] })
+pub nothing_found : (image : List (List ℕ)) → MayLeave Whole base (onto (history 200 reused) []) image → found_of kind.Log (contents_at image log_slot.blocks) ≡ found (record { first = 1; payloads = [] })
 nothing_found image left = ap (λ x. found_of kind.Log x) (zero_again image left)
 
 -- The replies of this script.

@@ -1,28 +1,28 @@
 use Rattle.std.proofs.Common.{◌∙◌, inl, inr, ⊎_elim, ap, sym, subst, List, take, drop, length}
 use Rattle.std.proofs.lemmas.List.{take-append-drop}
 use Rattle.ark_base.specs.declared.block.Span.{Span}
-use Rattle.ark_extents.specs.Free.{AreRising, IsPlace, AnyHas}
+use Rattle.ark_extents.specs.Free.{AreRising, IsRunPlace, AnyHas}
 use Rattle.ark_extents.proofs.RisingRuns.{place_front, place_rest, front_length, length-front, any_append}
 use Rattle.ark_extents.proofs.rising.add.Goals as goal
 
 pub with_next-whole-requires-clause-rising : goal.with_next-whole-requires-clause-rising
 with_next-whole-requires-clause-rising c =
-    let place = subst (λ (l : List Span). IsPlace l c.args.run.start c.place_of-i.result) c.deref.ensures.value c.place_of-i.ensures.place in
+    let place = subst (λ (l : List Span). IsRunPlace l c.args.run.start c.place_of-i.result) c.deref.ensures.value c.place_of-i.ensures.place in
     place_rest c.args.runs.now.items c.place_of-i.result c.args.run c.requires.rising place c.requires.some c.requires.apart
 
 pub put_behind-requires-clause-within : goal.put_behind-requires-clause-within
 put_behind-requires-clause-within c =
-    let place = subst (λ (l : List Span). IsPlace l c.args.run.start c.place_of-i.result) c.deref.ensures.value c.place_of-i.ensures.place in
+    let place = subst (λ (l : List Span). IsRunPlace l c.args.run.start c.place_of-i.result) c.deref.ensures.value c.place_of-i.ensures.place in
     front_length c.with_next-whole.new.runs.items c.place_of-i.result (ap length c.with_next-whole.ensures.front ∙ length-front c.args.runs.now.items c.place_of-i.result place.within)
 
 pub put_behind-requires-clause-front : goal.put_behind-requires-clause-front
 put_behind-requires-clause-front c =
-    let place = subst (λ (l : List Span). IsPlace l c.args.run.start c.place_of-i.result) c.deref.ensures.value c.place_of-i.ensures.place in
+    let place = subst (λ (l : List Span). IsRunPlace l c.args.run.start c.place_of-i.result) c.deref.ensures.value c.place_of-i.ensures.place in
     subst (AreRising 0) (sym c.with_next-whole.ensures.front) (place_front c.args.runs.now.items c.place_of-i.result c.args.run c.requires.rising place c.requires.some c.requires.apart)
 
 pub put_behind-requires-clause-before : goal.put_behind-requires-clause-before
 put_behind-requires-clause-before c =
-    let place = subst (λ (l : List Span). IsPlace l c.args.run.start c.place_of-i.result) c.deref.ensures.value c.place_of-i.ensures.place in
+    let place = subst (λ (l : List Span). IsRunPlace l c.args.run.start c.place_of-i.result) c.deref.ensures.value c.place_of-i.ensures.place in
     rw (c.with_next-whole.ensures.front, c.with_next-whole.ensures.start) place.before
 
 pub returns-clause-gained : goal.returns-clause-gained

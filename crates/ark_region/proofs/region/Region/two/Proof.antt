@@ -46,7 +46,7 @@ use Rattle.ark_region.specs.contracts.buf.Buf.{the_row as Bf}
 use Rattle.ark_region.specs.contracts.buf.Place.{the_row as Pl}
 use Rattle.ark_region.specs.declared.buf.Place.{Place}
 use Rattle.ark_region.proofs.buf.Place.TheLaws.{the_row_laws as place_laws}
-use Rattle.ark_region.specs.Frames.{Apart, Lies, fitted, put}
+use Rattle.ark_region.specs.Frames.{Apart, LiesInRegion, fitted, put}
 use Rattle.ark_region.proofs.Sharing.{apart_at, inside_bytes, same_range}
 use Rattle.ark_region.proofs.Following.{follows_on}
 
@@ -67,7 +67,7 @@ two_spec 𝓤 𝓛 𝓜 𝓡 wired =
     let vs = mut_vals self in let va = shr_vals x in let vb = shr_vals y in
     let yy : W.Ghost = ((κs, qs, bounds, a, (vs, (va, (vb, tt)))), tt) in
     qed 𝓛 (((‵ (flft κs.0 qs.0) ⊛ ‵ (flft κs.1.0 qs.1.0) ⊛ ‵ (flft κs.1.1.0 qs.1.1.0) ⊛ ‵ ftrue) ⊛ ‵ ((MutRef (named 0) κs.0 Rg).own_val self vs) ⊛ ‵ ((ShrRef (named 1) κs.1.0 Bf).own_val x va) ⊛ ‵ ((ShrRef (named 2) κs.1.1.0 Bf).own_val y vb) ⊛ ‵ ftrue)
-    ∷ (raw (fact 𝓤 (Apart x.now y.now)) ⊛ raw (fact 𝓤 (Lies self.now.taken x.now)) ⊛ raw (fact 𝓤 (Lies self.now.taken y.now))) ∷ []) ∵
+    ∷ (raw (fact 𝓤 (Apart x.now y.now)) ⊛ raw (fact 𝓤 (LiesInRegion self.now.taken x.now)) ⊛ raw (fact 𝓤 (LiesInRegion self.now.taken y.now))) ∷ []) ∵
     move ! (1 ∷ []) $ split3 ! $ heard ! _ (λ apart. heard ! _ (λ lx. heard ! _ (λ ly.
     split ! $ move ! (1 ∷ []) $ split3 ! $ move ! (2 ∷ []) $ split ! $ move ! (4 ∷ []) $ split3 ! $ move ! (2 ∷ []) $ split ! $
     keep ! (2 ∷ 3 ∷ 0 ∷ 6 ∷ 7 ∷ 4 ∷ []) $
