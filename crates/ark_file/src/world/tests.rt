@@ -141,7 +141,7 @@ fn syncs_the_folder_of_a_file(rt: HostRuntime) -> Result<(), Fail> {
     let name = temporary(&rt, "no folder/device")?;
     assert!(rt; sync_folder(&rt, "device").is_ok());
     assert!(rt; sync_folder(&rt, "/device").is_ok());
-    assert!(rt; sync_folder(&rt, "/tmp/device").is_ok());
+    assert!(rt; sync_folder(&rt, "/usr/device").is_ok());
     assert!(rt; sync_folder(&rt, name.as_str()).is_err());
     Ok(())
 }
