@@ -70,7 +70,8 @@ pub fn marked(block: &[u8; 512]) -> bool
 /// entry may begin with it only where its blocks fit the ring and the place behind them is `next`.
 pub fn read_entry_head(block: &[u8; 512]) -> Option<EntryHead>
     ensures fields { IfSome result (HasFields block.now) }
-    ensures head { (room p number : ℕ) → spec.is_head room p number block.now ≡ goes_at room p number result }
+    ensures head { (room p number : ℕ)
+        → spec.is_head room p number block.now ≡ goes_at room p number result }
 {
     if &block[..4] != b"ENT1".as_slice() {
         return None;
