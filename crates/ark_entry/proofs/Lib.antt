@@ -9,3 +9,4 @@ pub mod Drafts
 pub mod Appending
 pub mod Dropping
 pub mod Repairing
+pub mod Laying

@@ -4,3 +4,4 @@ pub mod Found
 pub mod Reading
 pub mod Writing
 pub mod Repair
+pub mod Stated
