@@ -4,7 +4,8 @@ ghost use Rattle.ark_vsic.specs.Card.{PacedBy};
 
 use ark_base::{Outcome, Span};
 use ark_extents::Spans;
-use ark_media::{Disk, Fail as Failing, MemoryWorld, Outside};
+use ark_media::{Disk, Outside};
+use ark_memory::{Fail as Failing, MemoryWorld};
 use ark_region::{Buf, Region};
 use ark_vic::{Descriptor, Job, Rate};
 use ark_vsic::{Moved, Vsic};
