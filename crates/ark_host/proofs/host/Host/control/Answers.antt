@@ -53,8 +53,5 @@ vsa-said-requires-clause-some g c = (rw c.in-Vsa.is at c.requires.ranges).0
 pub returns-in-App-clause-inside : goal.returns-in-App-clause-inside
 returns-in-App-clause-inside g c = c.make_app-said.ensures.inside (g.D.Disk.told c.args.disk.now).blocks c.requires.inside
 
-pub returns-in-Vsa-clause-inside : goal.returns-in-Vsa-clause-inside
-returns-in-Vsa-clause-inside g c = c.vsa-said.ensures.inside (g.D.Disk.told c.args.disk.now).blocks c.requires.inside
-
 pub returns-in-Tick-clause-inside : goal.returns-in-Tick-clause-inside
 returns-in-Tick-clause-inside g c = c.tick-said.ensures.inside (g.D.Disk.told c.args.disk.now).blocks c.requires.inside
