@@ -1,25 +1,22 @@
-//! Runs of the whole control plane over a world in memory: what no clause says, against values from outside.
+//! Runs of the whole control plane over a world in memory: what no clause says, against values from outside. Their lines and
+//! replies stand in tables.
 #![tactic(auto)]
 
 #[cfg(test)]
 mod areas;
 #[cfg(test)]
-mod built;
-#[cfg(test)]
-mod cards;
-#[cfg(test)]
-mod each_call;
+mod commands;
 #[cfg(test)]
 mod failures;
 #[cfg(test)]
-mod lines;
+mod formatted;
 #[cfg(test)]
-mod once;
+mod lines;
 #[cfg(test)]
 mod runs;
 #[cfg(test)]
 mod stops;
 #[cfg(test)]
-mod watched;
+mod table;
 #[cfg(test)]
 mod words;

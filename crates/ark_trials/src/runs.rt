@@ -6,13 +6,15 @@ use ark_memory::{Fail, MemoryWorld};
 use std::alloc::Global;
 use std::test::Fail as Failure;
 
-/// `words`, as the command line gives them.
-pub(crate) fn words_of(alloc: Global, words: &[&str]) -> Result<Vec<String>, Failure> {
-    let mut list = Vec::new(alloc);
-    for word in words {
-        list.push(String::from_str(alloc, word)?)?;
+/// The words of a command, which stand here behind one another with a comma between two; no text has no word.
+pub(crate) fn words_of(alloc: Global, text: &str) -> Result<Vec<String>, Failure> {
+    let mut words = Vec::new(alloc);
+    if !text.is_empty() {
+        for word in text.split(',') {
+            words.push(String::from_str(alloc, word)?)?;
+        }
     }
-    Ok(list)
+    Ok(words)
 }
 
 /// What came of a run.
@@ -22,20 +24,20 @@ pub(crate) struct Finished {
     pub(crate) world: MemoryWorld,
 }
 
-/// `run --new 200 d` on this script, with ample room and these failures.
-pub(crate) fn run(alloc: Global, script: &[u8], plan: &[Fail]) -> Result<Finished, Failure> {
-    run_on(alloc, "200", script, plan)
-}
-
-/// The same on a device of so many blocks.
-pub(crate) fn run_on(
+/// A run of these words on this script, with ample room and these failures.
+pub(crate) fn run_words(
     alloc: Global,
-    blocks: &str,
+    words: &str,
     script: &[u8],
     plan: &[Fail],
 ) -> Result<Finished, Failure> {
-    let words = words_of(alloc, &["run", "--new", blocks, "d"])?;
-    let mut world = MemoryWorld::new(alloc, b"", 400, script, plan, 100, 2000)?;
+    let words = words_of(alloc, words)?;
+    let mut world = MemoryWorld::new(alloc, b"", 4096, script, plan, 400, 8000)?;
     let status = arrakis(alloc, &words, &mut world);
     Ok(Finished { status, world })
+}
+
+/// `run --new 200 d` on this script.
+pub(crate) fn run(alloc: Global, script: &[u8], plan: &[Fail]) -> Result<Finished, Failure> {
+    run_words(alloc, "run,--new,200,d", script, plan)
 }

@@ -65,21 +65,22 @@ fn leaves_each_choice_of_writes(rt: HostRuntime) -> Result<(), Failure> {
         done.world.out(),
         b"ready 200 0\nok\nok\nok\nok\nok\n".as_slice()
     );
-    assert_eq!(rt; done.world.events(), 11);
-    for front in 0..=11u32 {
-        for first in [false, true] {
-            for second in [false, true] {
-                for third in [false, true] {
-                    let kept = [first, second, third];
-                    let mut image = image_at(rt.alloc(), &done.world, front, &kept)?;
-                    assert!(rt; done.world.may_leave(front, &image), "at {front}");
-                    put_block(&mut image, 131, &[9; 512]);
-                    assert!(rt; !done.world.may_leave(front, &image), "at {front}");
-                }
-            }
+    assert_eq!(rt; done.world.events(), 18);
+    for front in 0..=18u32 {
+        for choice in 0..16u32 {
+            let kept = [
+                choice & 1 != 0,
+                choice & 2 != 0,
+                choice & 4 != 0,
+                choice & 8 != 0,
+            ];
+            let mut image = image_at(rt.alloc(), &done.world, front, &kept)?;
+            assert!(rt; done.world.may_leave(front, &image), "at {front}");
+            put_block(&mut image, 131, &[9; 512]);
+            assert!(rt; !done.world.may_leave(front, &image), "at {front}");
         }
     }
-    let whole = image_at(rt.alloc(), &done.world, 11, &[true, true, true])?;
+    let whole = image_at(rt.alloc(), &done.world, 18, &[true, true, true])?;
     assert_eq!(rt; done.world.image(), whole.as_slice());
     Ok(())
 }
@@ -96,10 +97,15 @@ fn leaves_nothing_else(rt: HostRuntime) -> Result<(), Failure> {
     assert!(rt; world.may_leave(1, &formatted));
     assert!(rt; !world.may_leave(2, &fresh));
     assert!(rt; world.may_leave(2, &formatted));
-    let poked = image_at(rt.alloc(), world, 11, &[true, true, false])?;
-    assert!(rt; world.may_leave(11, &poked));
-    assert!(rt; !world.may_leave(6, &poked));
-    assert!(rt; !world.may_leave(11, poked.get(512..).unwrap_or(&[])));
+    let held = image_at(rt.alloc(), world, 10, &[true])?;
+    assert!(rt; !world.may_leave(9, &held));
+    assert!(rt; world.may_leave(10, &held));
+    assert!(rt; world.may_leave(10, &formatted));
+    assert!(rt; !world.may_leave(11, &formatted));
+    let poked = image_at(rt.alloc(), world, 18, &[true, true, false])?;
+    assert!(rt; world.may_leave(18, &poked));
+    assert!(rt; !world.may_leave(13, &poked));
+    assert!(rt; !world.may_leave(18, poked.get(512..).unwrap_or(&[])));
     let plan = [Fail {
         call: 2,
         took: false,

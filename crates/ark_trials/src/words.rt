@@ -1,87 +1,120 @@
-use crate::runs::{run, words_of};
-use ark_base::Status;
-use ark_cli::arrakis;
-use ark_memory::{Event, MemoryWorld};
-use std::test::Fail;
+/// Time goes on by the ticks of each line, and the answer is the tick.
+pub(crate) const TICKS: &str = "\
+run,--new,200,d => ready 200 0
+tick 1 => ok 1
 
-// A fresh device and an empty script.
-#[test]
-fn formats_a_device(rt: HostRuntime) -> Result<(), Fail> {
-    let done = run(rt.alloc(), b"", &[])?;
-    assert_eq!(rt; done.status, Status::Done);
-    assert_eq!(rt; done.world.out(), b"ready 200 0\n".as_slice());
-    assert_eq!(rt; done.world.events(), 3);
-    assert!(rt;
-        matches!(
-            done.world.event(0),
-            Some(Event::Write {
-                n: 0,
-                took: true,
-                ok: true,
-                ..
-            })
-        )
-    );
-    assert!(rt; matches!(done.world.event(1), Some(Event::Sync { ok: true })));
-    let image = done.world.image();
-    assert_eq!(rt; image.len(), 102_400);
-    assert!(rt; image.starts_with(b"ARRAKIS1\0\0\0\0\0\0\0\xc8\0\x80"));
-    assert!(rt; image[18..].iter().all(|b| *b == 0));
-    Ok(())
-}
+run,--new,200,d => ready 200 0
+tick 5 => ok 5
+tick 7 => ok 12
 
-// Words that are no command: nothing is made, attached or fetched.
-#[test]
-fn refuses_other_words(rt: HostRuntime) -> Result<(), Fail> {
-    let lists: [&[&str]; 20] = [
-        &[],
-        &["run"],
-        &["run", "d"],
-        &["run", "--new", "200"],
-        &["run", "--new", "200", ""],
-        &["run", "--new", "200", "d", "e"],
-        &["run", "--new", "129", "d"],
-        &["run", "--new", "1048577", "d"],
-        &["run", "--new", "4294967496", "d"],
-        &["run", "--new", "0200", "d"],
-        &["run", "--new", "+200", "d"],
-        &["run", "--new", "-200", "d"],
-        &["run", "--new", "", "d"],
-        &["run", "--new", "200 ", "d"],
-        &["run", "--New", "200", "d"],
-        &["Run", "--new", "200", "d"],
-        &["check", "--new", "200", "d"],
-        &["run", "--new", "200", "-x"],
-        &["run", "--new", "200", "--new=200", "d"],
-        &["work", "1", "0", "d"],
-    ];
-    for list in lists {
-        let words = words_of(rt.alloc(), list)?;
-        let mut world = MemoryWorld::new(rt.alloc(), b"", 400, b"app a\n", &[], 100, 100)?;
-        let status = arrakis(rt.alloc(), &words, &mut world);
-        assert_eq!(rt; status, Status::Usage, "at {list:?}");
-        assert_eq!(rt; world.out(), b"fault usage\n".as_slice());
-        assert_eq!(rt; world.events(), 1);
-    }
-    Ok(())
-}
+run,--new,200,d => ready 200 0
+tick 1000000000 => ok 1000000000
+tick 1000000000 => ok 2000000000
+tick 1000000000 => ok 3000000000
+tick 1000000000 => ok 4000000000
+tick 1000000000 => ok 5000000000
 
-// The smallest device, and each spelling of the command.
-#[test]
-fn takes_each_spelling(rt: HostRuntime) -> Result<(), Fail> {
-    let lists: [(&[&str], &str); 5] = [
-        (&["run", "--new", "130", "d"], "ready 130 0\n"),
-        (&["run", "--new=130", "d"], "ready 130 0\n"),
-        (&["run", "d", "--new", "4096"], "ready 4096 0\n"),
-        (&["run", "--new", "4096", "--", "-x"], "ready 4096 0\n"),
-        (&["run", "--new", "4096", "-"], "ready 4096 0\n"),
-    ];
-    for (list, ready) in lists {
-        let words = words_of(rt.alloc(), list)?;
-        let mut world = MemoryWorld::new(rt.alloc(), b"", 4096, b"", &[], 100, 100)?;
-        let status = arrakis(rt.alloc(), &words, &mut world);
-        assert_eq!(rt; status, Status::Done);
-        assert_eq!(rt; world.out(), ready.as_bytes());
-    }
-    Ok(())
-}
+run,--new,200,d => ready 200 0
+tick 2 => ok 2
+app a => ok
+frob => refused 2 unknown word
+tick 2 => ok 4
+
+run,--new,200,d => ready 200 0
+tick 0 => refused 1 syntax
+tick 3 => ok 3
+
+run,--new,200,d => ready 200 0
+tick 1000000001 => refused 1 syntax
+
+run,--new,200,d => ready 200 0
+tick => refused 1 syntax
+
+run,--new,200,d => ready 200 0
+tick 01 => refused 1 syntax";
+
+/// An application may ask for its frames of memory.
+pub(crate) const FRAMES: &str = "\
+run,--new,200,d => ready 200 0
+app a 64 => ok
+
+run,--new,200,d => ready 200 0
+app a 4 => ok
+app a 64 => refused 4 name taken
+
+run,--new,200,d => ready 200 0
+app a 4096 => ok
+app b => ok
+
+run,--new,200,d => ready 200 0
+app a 3 => refused 1 syntax
+
+run,--new,200,d => ready 200 0
+app a 4097 => refused 1 syntax
+
+run,--new,200,d => ready 200 0
+app a 064 => refused 1 syntax
+
+run,--new,200,d => ready 200 0
+app a 64 64 => refused 1 syntax
+
+run,--new,200,d => ready 200 0
+app a  64 => refused 1 syntax";
+
+/// A word that is not built is read, and then refused as unknown.
+pub(crate) const WORDS_TO_COME: &str = "\
+run,--new,200,d => ready 200 0
+vsa a s 8 log => refused 2 unknown word
+
+run,--new,200,d => ready 200 0
+door a d => refused 2 unknown word
+
+run,--new,200,d => ready 200 0
+drop a s => refused 2 unknown word
+
+run,--new,200,d => ready 200 0
+grow a s 1 => refused 2 unknown word
+
+run,--new,200,d => ready 200 0
+append a s - => refused 2 unknown word
+
+run,--new,200,d => ready 200 0
+dev a v => refused 2 unknown word
+
+run,--new,200,d => ready 200 0
+vsa a s 8 => refused 1 syntax
+
+run,--new,200,d => ready 200 0
+door a => refused 1 syntax
+
+run,--new,200,d => ready 200 0
+peek a s x => refused 1 syntax";
+
+/// One run of all words that are built, with lines of other words and forms between them.
+pub(crate) const EVERY_WORD: &str = "\
+run,--new,400,d => ready 400 0
+app web => ok
+app db => ok
+app web => refused 4 name taken
+app => refused 1 syntax
+app Web => refused 1 syntax
+app  web => refused 1 syntax
+apps => refused 2 unknown word
+ => refused 2 unknown word
+frob => refused 2 unknown word
+app a 4 => ok
+app b 3 => refused 1 syntax
+tick 5 => ok 5
+door a d => refused 2 unknown word
+tick 7 => ok 12
+app kv_store_1 => ok
+app a => refused 4 name taken
+vsa a s 2 raw => ok
+poke a s 1 0aff => ok
+peek a s 0 => ok -
+app b => ok
+vsa b s 1 raw => ok
+poke b s 0 0b => ok
+peek a s 1 => ok 0aff
+peek b s 0 => ok 0b
+vsa b t 300 raw => refused 10 no space";
