@@ -120,7 +120,8 @@ pub fn arrakis<W: Outside>(alloc: Global, words: &[String], world: &mut W) -> St
     ensures done { result ≡ Status.Done → NoneFailed (W.beside world.old) (W.beside world.new) }
     ensures usage { result ≡ Status.Usage → (blocks : ℕ) (device : List ℕ) →
         IsRun (map string_bytes words.now) blocks device → ⊥ }
-    ensures no_command { ((blocks : ℕ) (device : List ℕ) → IsRun (map string_bytes words.now) blocks device → ⊥)
+    ensures no_command { ((blocks : ℕ) (device : List ℕ) →
+        IsRun (map string_bytes words.now) blocks device → ⊥)
         → (result ≡ Status.Usage) ⊎ (result ≡ Status.Memory) }
     ensures source { result ≡ Status.Source →
         Rose (W.beside world.old).source_faults (W.beside world.new).source_faults }

@@ -10,7 +10,8 @@ use crate::split::four;
 
 // Whether bytes begin as a number does: with a digit, and with 0 only where it stands alone.
 fn begins_number(word: &[u8]) -> bool
-    ensures { IsTrue result ↔ (IsInRange 48 57 (slice_index word.now 0) × (slice_index word.now 0 ≡ 48 → length word.now ≡ 1)) }
+    ensures { IsTrue result ↔ (IsInRange 48 57 (slice_index word.now 0)
+        × (slice_index word.now 0 ≡ 48 → length word.now ≡ 1)) }
 {
     match word.first() {
         Some(b'0') => word.len() == 1,
@@ -21,7 +22,8 @@ fn begins_number(word: &[u8]) -> bool
 
 // A number with one more digit behind it, where the byte is a digit and 64 bits hold the number.
 fn with_digit(n: u64, byte: u8) -> Option<u64>
-    ensures value { IfSome result (λ m. (digit_value byte < 10) × (m ≡ n * 10 + digit_value byte) × (m < 2 ^ 64)) }
+    ensures value { IfSome result (λ m. (digit_value byte < 10) × (m ≡ n * 10 + digit_value byte)
+        × (m < 2 ^ 64)) }
     ensures none { IfNone result (digit_value byte < 10 → 2 ^ 64 ≤ n * 10 + digit_value byte) }
 {
     if !byte.is_ascii_digit() {

@@ -113,7 +113,8 @@ fn service(word: &[u8], proto: Proto) -> Option<(u16, u16)>
 
 // At most eight services with commas between them.
 fn listed_services(word: &[u8], proto: Proto) -> Option<Services>
-    ensures { option_map services_are (each_of (service_of proto) 8 (parts_of 44 word.now)) ≡ result }
+    ensures { option_map services_are
+        (each_of (service_of proto) 8 (parts_of 44 word.now)) ≡ result }
 {
     let mut items = [(0, 0); 8];
     let mut count = 0;

@@ -38,7 +38,8 @@ fn place_of(byte: u8, bytes: &[u8]) -> Option<usize>
 /// What stands before the first separator, and behind it.
 #[inline(always)]
 pub fn split_once(bytes: &[u8], separator: u8) -> Option<(&[u8], &[u8])>
-    ensures { MatchOption result (parts_of separator bytes.now ≡ bytes.now ∷ []) (λ p. parts_of separator bytes.now ≡ p.0.now ∷ parts_of separator p.1.now) }
+    ensures { MatchOption result (parts_of separator bytes.now ≡ bytes.now ∷ [])
+        (λ p. parts_of separator bytes.now ≡ p.0.now ∷ parts_of separator p.1.now) }
 {
     let at = place_of(separator, bytes)?;
     Some((&bytes[..at], &bytes[at + 1..]))
@@ -71,7 +72,8 @@ pub fn two(bytes: &[u8], separator: u8) -> Option<(&[u8], &[u8])>
 #[tactic(auto, unfolding(crate::specs::Reading::two_of, crate::specs::Reading::three_of))]
 #[inline(always)]
 pub fn three(bytes: &[u8], separator: u8) -> Option<(&[u8], &[u8], &[u8])>
-    ensures { Gives (λ p. (p.0.now, p.1.now, p.2.now)) result (three_of (parts_of separator bytes.now)) }
+    ensures { Gives (λ p. (p.0.now, p.1.now, p.2.now)) result
+        (three_of (parts_of separator bytes.now)) }
 {
     let (a, rest) = split_once(bytes, separator)?;
     let (b, c) = two(rest, separator)?;
@@ -82,7 +84,8 @@ pub fn three(bytes: &[u8], separator: u8) -> Option<(&[u8], &[u8], &[u8])>
 #[tactic(auto, unfolding(crate::specs::Reading::three_of, crate::specs::Reading::four_of))]
 #[inline(always)]
 pub fn four(bytes: &[u8], separator: u8) -> Option<(&[u8], &[u8], &[u8], &[u8])>
-    ensures { Gives (λ p. (p.0.now, p.1.now, p.2.now, p.3.now)) result (four_of (parts_of separator bytes.now)) }
+    ensures { Gives (λ p. (p.0.now, p.1.now, p.2.now, p.3.now)) result
+        (four_of (parts_of separator bytes.now)) }
 {
     let (a, rest) = split_once(bytes, separator)?;
     let (b, c, d) = three(rest, separator)?;
@@ -93,7 +96,8 @@ pub fn four(bytes: &[u8], separator: u8) -> Option<(&[u8], &[u8], &[u8], &[u8])>
 #[tactic(auto, unfolding(crate::specs::Reading::four_of, crate::specs::Reading::five_of))]
 #[inline(always)]
 pub fn five(bytes: &[u8], separator: u8) -> Option<(&[u8], &[u8], &[u8], &[u8], &[u8])>
-    ensures { Gives (λ p. (p.0.now, p.1.now, p.2.now, p.3.now, p.4.now)) result (five_of (parts_of separator bytes.now)) }
+    ensures { Gives (λ p. (p.0.now, p.1.now, p.2.now, p.3.now, p.4.now)) result
+        (five_of (parts_of separator bytes.now)) }
 {
     let (a, rest) = split_once(bytes, separator)?;
     let (b, c, d, e) = four(rest, separator)?;
@@ -104,7 +108,8 @@ pub fn five(bytes: &[u8], separator: u8) -> Option<(&[u8], &[u8], &[u8], &[u8], 
 #[tactic(auto, unfolding(crate::specs::Reading::five_of, crate::specs::Reading::six_of))]
 #[inline(always)]
 pub fn six(bytes: &[u8], separator: u8) -> Option<(&[u8], &[u8], &[u8], &[u8], &[u8], &[u8])>
-    ensures { Gives (λ p. (p.0.now, p.1.now, p.2.now, p.3.now, p.4.now, p.5.now)) result (six_of (parts_of separator bytes.now)) }
+    ensures { Gives (λ p. (p.0.now, p.1.now, p.2.now, p.3.now, p.4.now, p.5.now)) result
+        (six_of (parts_of separator bytes.now)) }
 {
     let (a, rest) = split_once(bytes, separator)?;
     let (b, c, d, e, f) = five(rest, separator)?;

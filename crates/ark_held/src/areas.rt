@@ -34,7 +34,8 @@ impl Model for Areas {
 
     ghost view = { λ a. a.areas.entries };
 
-    ghost invariant = { λ a. (length a.areas.entries ≤ 8) × (8 ≤ length a.areas.entries + map.spare a.areas) };
+    ghost invariant = { λ a. (length a.areas.entries ≤ 8)
+        × (8 ≤ length a.areas.entries + map.spare a.areas) };
 }
 
 impl Areas {

@@ -39,7 +39,8 @@ fn put_words(out: &mut [u8], said: &Said, bytes: &[u8]) -> usize
 // The words of a reply, up to what it names or shows.
 fn head(said: &Said) -> &'static [u8]
     ensures short { length result.now ≤ 18 }
-    ensures head { (bytes : List ℕ) → reply_words said.now bytes ≡ result.now ++ values_of said.now bytes }
+    ensures head { (bytes : List ℕ) →
+        reply_words said.now bytes ≡ result.now ++ values_of said.now bytes }
 {
     match said {
         Said::Ready(_, _) => b"ready ",
@@ -142,7 +143,8 @@ fn outcome_text(outcome: Outcome) -> &'static [u8]
 fn put_ended(out: &mut [u8], at: usize, buffer: &Label, outcome: Outcome) -> usize
     requires room { at + 28 ≤ length out.old }
     ensures short { result ≤ at + 28 }
-    ensures written { take result out.new ≡ take at out.old ++ spaced buffer.now (outcome_words outcome) }
+    ensures written { take result out.new ≡ take at out.old ++ spaced buffer.now
+        (outcome_words outcome) }
     ensures named { is_name buffer.now ≡ true }
 {
     let at = put(out, at, buffer.bytes());

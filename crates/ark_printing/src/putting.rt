@@ -32,7 +32,8 @@ pub(crate) fn put_number(out: &mut [u8], at: usize, n: u64) -> usize
 pub(crate) fn put_numbers(out: &mut [u8], at: usize, first: u64, second: u64) -> usize
     requires room { at + 41 ≤ length out.old }
     ensures short { result ≤ at + 41 }
-    ensures written { take result out.new ≡ take at out.old ++ spaced (decimal first) (decimal second) }
+    ensures written { take result out.new ≡ take at out.old ++ spaced (decimal first)
+        (decimal second) }
 {
     let at = put_number(out, at, first);
     let at = put(out, at, b" ");
@@ -106,7 +107,8 @@ pub(crate) fn put_numbered(out: &mut [u8], at: usize, n: u64, bytes: &[u8]) -> u
     requires bytes { length bytes.now ≤ 32768 }
     requires room { at + 65557 ≤ length out.old }
     ensures short { result ≤ at + 65557 }
-    ensures written { take result out.new ≡ take at out.old ++ spaced (decimal n) (shown bytes.now) }
+    ensures written { take result out.new ≡ take at out.old ++ spaced (decimal n)
+        (shown bytes.now) }
 {
     let at = put_number(out, at, n);
     let at = put(out, at, b" ");

@@ -18,7 +18,8 @@ pub const MAX_LINE: usize = 66_000;
 /// wrong in syntax. Every number of a step is in its word's range, and so is every number of bytes.
 pub fn read_line(line: &[u8]) -> Result<Step<'_>, Refusal>
     requires short { length line.now ≤ max_line }
-    ensures means { MatchResult result (λ step. Says line.now (Ok (line_of step))) (λ refusal. Says line.now (Err refusal)) }
+    ensures means { MatchResult result (λ step. Says line.now (Ok (line_of step)))
+        (λ refusal. Says line.now (Err refusal)) }
     ensures ranges { IfOk result (λ step. InRange (line_of step)) }
 {
     form::read(line)

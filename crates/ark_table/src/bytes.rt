@@ -4,7 +4,8 @@ ghost use Rattle.std.specs.Prelude.{◌≡◌, ◌≤◌, ◌+◌, ◌++◌, len
 pub fn put(block: &mut [u8], at: usize, bytes: &[u8]) -> usize
     requires { at + length bytes.now ≤ length block.old }
     ensures end { result ≡ at + length bytes.now }
-    ensures written { block.new ≡ take at block.old ++ (bytes.now ++ drop (at + length bytes.now) block.old) }
+    ensures written { block.new ≡
+        take at block.old ++ (bytes.now ++ drop (at + length bytes.now) block.old) }
 {
     let end = at + bytes.len();
     block[at..end].copy_from_slice(bytes);

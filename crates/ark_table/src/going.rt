@@ -51,7 +51,8 @@ fn is_of(app: &Name, slot: &Option<Slot>) -> bool
 }
 
 fn goes_beside_all(slot: &Slot, slots: &[Option<Slot>]) -> bool
-    ensures { result ≡ list_all (λ o. beside.goes_beside (stated slot.now) (stated_if o)) slots.now }
+    ensures { result ≡ list_all (λ o. beside.goes_beside (stated slot.now) (stated_if o))
+        slots.now }
 {
     slots.iter().all(|other| goes_beside(slot, other))
 }

@@ -25,7 +25,8 @@ fn write_zeros<D: Disk>(disk: &mut D, spans: &Spans) -> Result<(), DiskFailed>
 pub fn grant<D: Disk>(disk: &mut D, i: u16, slot: &Slot, added: &Spans) -> Result<(), DiskFailed>
     requires inside { All (λ n. n < (D.told disk.old).blocks) added.now }
     requires slot { i < (D.told disk.old).blocks }
-    ensures went { Went D.goes (grant_calls i (stated slot.now) added.now) (is_ok result) disk.old disk.new }
+    ensures went { Went D.goes (grant_calls i (stated slot.now) added.now) (is_ok result) disk.old
+        disk.new }
 {
     write_zeros(disk, added)?;
     disk.sync()?;

@@ -48,7 +48,8 @@ fn read_superblock<D: Disk>(disk: &mut D) -> Result<bool, DiskFailed>
     requires low { 130 ≤ (D.told disk.old).blocks }
     requires high { (D.told disk.old).blocks ≤ 1048576 }
     ensures went { Went D.goes (Reads 0 ∷ []) (is_ok result) disk.old disk.new }
-    ensures device { IfOk result (λ right. OnTold (D.told disk.new) (λ image. right ≡ is_device image)) }
+    ensures device { IfOk result
+        (λ right. OnTold (D.told disk.new) (λ image. right ≡ is_device image)) }
 {
     let mut block = [0; 512];
     let size = disk.blocks();
@@ -60,8 +61,10 @@ fn read_superblock<D: Disk>(disk: &mut D) -> Result<bool, DiskFailed>
 fn load_next<D: Disk>(slots: &mut Vec<Option<Slot>>, disk: &mut D, i: u32) -> Result<(), LoadFault>
     requires inside { i < (D.told disk.old).blocks }
     ensures went { Went D.goes (Reads i ∷ []) (is_read result) disk.old disk.new }
-    ensures more { OnOk result (IsMore (D.told disk.new) (D.told disk.old).blocks i slots.old.items slots.new.items) }
-    ensures damaged { IsDamagedAt (D.told disk.new) (D.told disk.old).blocks i slots.old.items result }
+    ensures more { OnOk result
+        (IsMore (D.told disk.new) (D.told disk.old).blocks i slots.old.items slots.new.items) }
+    ensures damaged { IsDamagedAt (D.told disk.new) (D.told disk.old).blocks i slots.old.items
+        result }
 {
     let slot = match read_next(slots, disk, i) {
         Err(DiskFailed) => return Err(LoadFault::DeviceFault),

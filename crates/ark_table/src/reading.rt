@@ -59,8 +59,10 @@ fn run_at(block: &[u8; 512], at: usize) -> Span
 
 // The runs of a block, if they may be the spans of an area.
 fn spans_in(block: &[u8; 512]) -> Option<Spans>
-    ensures runs { IfSome result (λ s. runs_of s ≡ spec.runs_in (slice_index block.now 5) (drop 38 block.now)) }
-    ensures found { IsSome result ↔ (are_spans (spec.runs_in (slice_index block.now 5) (drop 38 block.now)) ≡ true) }
+    ensures runs { IfSome result
+        (λ s. runs_of s ≡ spec.runs_in (slice_index block.now 5) (drop 38 block.now)) }
+    ensures found { IsSome result ↔
+        (are_spans (spec.runs_in (slice_index block.now 5) (drop 38 block.now)) ≡ true) }
 {
     let count = usize::from(block[5]);
     if count > 16 {
@@ -97,7 +99,8 @@ fn least_blocks(kind: Kind) -> u32
 
 // Whether the blocks lie in the data part, and are enough for the kind.
 fn has_place(size: u32, kind: Kind, spans: &Spans) -> bool
-    ensures { result ≡ list_all (spec.is_data size) (runs_of spans.now) && nat_le (spec.least_blocks kind) (spec.block_total (runs_of spans.now)) }
+    ensures { result ≡ list_all (spec.is_data size) (runs_of spans.now) &&
+        nat_le (spec.least_blocks kind) (spec.block_total (runs_of spans.now)) }
 {
     are_data(size, spans.as_slice()) && least_blocks(kind) <= spans.blocks()
 }

@@ -51,7 +51,8 @@ fn run_field(run: Span) -> [u8; 8]
 // Writes the runs from a place on.
 fn put_runs(block: &mut [u8], at: usize, runs: &[Span])
     requires { at + 8 * length runs.now ≤ length block.old }
-    ensures { block.new ≡ take at block.old ++ (flat_map run_bytes runs.now ++ drop (at + 8 * length runs.now) block.old) }
+    ensures { block.new ≡ take at block.old ++
+        (flat_map run_bytes runs.now ++ drop (at + 8 * length runs.now) block.old) }
 {
     let mut place = at;
     for run in runs {

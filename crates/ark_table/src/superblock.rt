@@ -29,7 +29,8 @@ pub(crate) fn superblock_of(blocks: u32) -> [u8; 512]
 pub fn format<D: Disk>(disk: &mut D) -> Result<(), DiskFailed>
     requires low { 130 ≤ (D.told disk.old).blocks }
     requires high { (D.told disk.old).blocks ≤ 1048576 }
-    ensures went { Went D.goes (format_calls (D.told disk.old).blocks) (is_ok result) disk.old disk.new }
+    ensures went { Went D.goes (format_calls (D.told disk.old).blocks) (is_ok result) disk.old
+        disk.new }
 {
     let block = superblock_of(disk.blocks());
     disk.write(0, &block)?;

@@ -16,7 +16,8 @@ pub fn run_words<'a>(
 ) -> Result<(Option<&'a str>, &'a str), WordsFault>
     ensures ok { IfOk result (λ r. SortsTo (map string_bytes words.entry.now) 1 1
         (record { new = option_to_list (option_map (λ t. t.now) r.0); plain = r.1.now ∷ [] })) }
-    ensures usage { result ≡ Err WordsFault.Usage → (s : Sorted) → SortsTo (map string_bytes words.entry.now) 1 1 s → ⊥ }
+    ensures usage { result ≡ Err WordsFault.Usage → (s : Sorted) →
+        SortsTo (map string_bytes words.entry.now) 1 1 s → ⊥ }
 {
     let matches = run_matches(alloc, words)?;
     let Some(device) = matches.get_str("device") else {
@@ -29,7 +30,8 @@ pub fn run_words<'a>(
 pub fn check_words<'a>(alloc: Global, words: &'a [String]) -> Result<&'a str, WordsFault>
     ensures ok { IfOk result (λ r. SortsTo (map string_bytes words.entry.now) 0 1
         (record { new = []; plain = r.now ∷ [] })) }
-    ensures usage { result ≡ Err WordsFault.Usage → (s : Sorted) → SortsTo (map string_bytes words.entry.now) 0 1 s → ⊥ }
+    ensures usage { result ≡ Err WordsFault.Usage → (s : Sorted) →
+        SortsTo (map string_bytes words.entry.now) 0 1 s → ⊥ }
 {
     let matches = check_matches(alloc, words)?;
     let Some(device) = matches.get_str("device") else {
@@ -45,7 +47,8 @@ pub fn work_words<'a>(
 ) -> Result<(&'a str, &'a str, &'a str), WordsFault>
     ensures ok { IfOk result (λ r. SortsTo (map string_bytes words.entry.now) 0 3
         (record { new = []; plain = r.0.now ∷ r.1.now ∷ r.2.now ∷ [] })) }
-    ensures usage { result ≡ Err WordsFault.Usage → (s : Sorted) → SortsTo (map string_bytes words.entry.now) 0 3 s → ⊥ }
+    ensures usage { result ≡ Err WordsFault.Usage → (s : Sorted) →
+        SortsTo (map string_bytes words.entry.now) 0 3 s → ⊥ }
 {
     let matches = work_matches(alloc, words)?;
     let (Some(seed), Some(lines), Some(device)) = (
@@ -60,8 +63,10 @@ pub fn work_words<'a>(
 
 fn run_matches<'a>(alloc: Global, words: &'a [String]) -> Result<ArgMatches<'a>, WordsFault>
     ensures ok { IfOk result (λ m. fault_of run_app (map string_bytes words.entry.now) ≡ []) }
-    ensures rows { IfOk result (λ m. rows_of (found_of m) ≡ matches_of run_app (map string_bytes words.entry.now)) }
-    ensures usage { result ≡ Err WordsFault.Usage → fault_of run_app (map string_bytes words.entry.now) ≢ [] }
+    ensures rows { IfOk result
+        (λ m. rows_of (found_of m) ≡ matches_of run_app (map string_bytes words.entry.now)) }
+    ensures usage { result ≡ Err WordsFault.Usage →
+        fault_of run_app (map string_bytes words.entry.now) ≢ [] }
 {
     let Ok(command) = run_command(alloc) else {
         return Err(WordsFault::Memory);
@@ -71,8 +76,10 @@ fn run_matches<'a>(alloc: Global, words: &'a [String]) -> Result<ArgMatches<'a>,
 
 fn check_matches<'a>(alloc: Global, words: &'a [String]) -> Result<ArgMatches<'a>, WordsFault>
     ensures ok { IfOk result (λ m. fault_of check_app (map string_bytes words.entry.now) ≡ []) }
-    ensures rows { IfOk result (λ m. rows_of (found_of m) ≡ matches_of check_app (map string_bytes words.entry.now)) }
-    ensures usage { result ≡ Err WordsFault.Usage → fault_of check_app (map string_bytes words.entry.now) ≢ [] }
+    ensures rows { IfOk result
+        (λ m. rows_of (found_of m) ≡ matches_of check_app (map string_bytes words.entry.now)) }
+    ensures usage { result ≡ Err WordsFault.Usage →
+        fault_of check_app (map string_bytes words.entry.now) ≢ [] }
 {
     let Ok(command) = check_command(alloc) else {
         return Err(WordsFault::Memory);
@@ -82,8 +89,10 @@ fn check_matches<'a>(alloc: Global, words: &'a [String]) -> Result<ArgMatches<'a
 
 fn work_matches<'a>(alloc: Global, words: &'a [String]) -> Result<ArgMatches<'a>, WordsFault>
     ensures ok { IfOk result (λ m. fault_of work_app (map string_bytes words.entry.now) ≡ []) }
-    ensures rows { IfOk result (λ m. rows_of (found_of m) ≡ matches_of work_app (map string_bytes words.entry.now)) }
-    ensures usage { result ≡ Err WordsFault.Usage → fault_of work_app (map string_bytes words.entry.now) ≢ [] }
+    ensures rows { IfOk result
+        (λ m. rows_of (found_of m) ≡ matches_of work_app (map string_bytes words.entry.now)) }
+    ensures usage { result ≡ Err WordsFault.Usage →
+        fault_of work_app (map string_bytes words.entry.now) ≢ [] }
 {
     let Ok(command) = work_command(alloc) else {
         return Err(WordsFault::Memory);
@@ -94,7 +103,8 @@ fn work_matches<'a>(alloc: Global, words: &'a [String]) -> Result<ArgMatches<'a>
 // What a simple command makes of the words.
 fn matches_by<'a>(command: Command<'a>, words: &'a [String]) -> Result<ArgMatches<'a>, WordsFault>
     requires { is_simple_and_free (app_of command) ≡ true }
-    ensures ok { IfOk result (λ m. fault_of (app_of command.entry) (map string_bytes words.entry.now) ≡ []) }
+    ensures ok { IfOk result
+        (λ m. fault_of (app_of command.entry) (map string_bytes words.entry.now) ≡ []) }
     ensures rows { IfOk result (λ m. rows_of (found_of m)
         ≡ matches_of (app_of command.entry) (map string_bytes words.entry.now)) }
     ensures usage { result ≡ Err WordsFault.Usage

@@ -19,7 +19,8 @@ const MOST_LINES: u64 = 1_000_000;
 #[tactic(auto, using(crate::proofs::Given::only))]
 pub fn read_words<'a>(alloc: Global, words: &'a [String]) -> Result<Task<'a>, WordsFault>
     ensures task { IfOk result (λ task. IsCommand (map string_bytes words.entry.now) (told task)) }
-    ensures only { IfOk result (λ task. (c : Command) → IsCommand (map string_bytes words.entry.now) c → c ≡ told task) }
+    ensures only { IfOk result (λ task. (c : Command) →
+        IsCommand (map string_bytes words.entry.now) c → c ≡ told task) }
     ensures usage { result ≡ Err WordsFault.Usage
         → (c : Command) → IsCommand (map string_bytes words.entry.now) c → ⊥ }
 {
@@ -39,7 +40,8 @@ pub fn read_words<'a>(alloc: Global, words: &'a [String]) -> Result<Task<'a>, Wo
 
 // `run`, by the words after it.
 fn read_run<'a>(alloc: Global, words: &'a [String]) -> Result<Task<'a>, WordsFault>
-    ensures task { IfOk result (λ task. IsCommand (codes "run" ∷ map string_bytes words.entry.now) (told task)) }
+    ensures task { IfOk result
+        (λ task. IsCommand (codes "run" ∷ map string_bytes words.entry.now) (told task)) }
     ensures usage { result ≡ Err WordsFault.Usage
         → (c : Command) → IsCommand (codes "run" ∷ map string_bytes words.entry.now) c → ⊥ }
 {
@@ -61,7 +63,8 @@ fn read_run<'a>(alloc: Global, words: &'a [String]) -> Result<Task<'a>, WordsFau
 
 // `check`, by the words after it.
 fn read_check<'a>(alloc: Global, words: &'a [String]) -> Result<Task<'a>, WordsFault>
-    ensures task { IfOk result (λ task. IsCommand (codes "check" ∷ map string_bytes words.entry.now) (told task)) }
+    ensures task { IfOk result
+        (λ task. IsCommand (codes "check" ∷ map string_bytes words.entry.now) (told task)) }
     ensures usage { result ≡ Err WordsFault.Usage
         → (c : Command) → IsCommand (codes "check" ∷ map string_bytes words.entry.now) c → ⊥ }
 {
@@ -74,7 +77,8 @@ fn read_check<'a>(alloc: Global, words: &'a [String]) -> Result<Task<'a>, WordsF
 
 // `work`, by the words after it.
 fn read_work<'a>(alloc: Global, words: &'a [String]) -> Result<Task<'a>, WordsFault>
-    ensures task { IfOk result (λ task. IsCommand (codes "work" ∷ map string_bytes words.entry.now) (told task)) }
+    ensures task { IfOk result
+        (λ task. IsCommand (codes "work" ∷ map string_bytes words.entry.now) (told task)) }
     ensures usage { result ≡ Err WordsFault.Usage
         → (c : Command) → IsCommand (codes "work" ∷ map string_bytes words.entry.now) c → ⊥ }
 {

@@ -31,7 +31,8 @@ impl Host {
     pub(super) fn make_app(&mut self, name: &AppName, frames: Option<u64>) -> Said
         requires { IfSome frames (λ f. f ≤ 4096) }
         ensures turned { (size : ℕ) (h : History) (s : System) → Stands self.old size h s →
-            RowDone self.new size h s name.now (w.app name.now frames) (app_row s name.now frames [] result) [] result [] }
+            RowDone self.new size h s name.now (w.app name.now frames)
+            (app_row s name.now frames [] result) [] result [] }
         ensures said { IsSaid result }
         ensures counts { Counts self.old self.new 0 0 }
         ensures inside { KeepsInside self.old self.new }

@@ -26,7 +26,9 @@ impl Host {
         requires room { self.old.clock + a_billion < 2 ^ 64 }
         requires few { self.old.grants < 2 ^ 32 }
         requires inside { IsInside (D.told disk.old).blocks self.old }
-        ensures answers { GoesBy D.goes disk.old disk.new (λ es. Steps self.old self.new (D.told disk.new) (Ok (line_of step.now)) es out.new.said (bytes_shown out.new)) }
+        ensures answers { GoesBy D.goes disk.old disk.new
+            (λ es. Steps self.old self.new (D.told disk.new) (Ok (line_of step.now)) es out.new.said
+            (bytes_shown out.new)) }
         ensures said { IsSaid out.new.said }
         ensures inside { IsInside (D.told disk.old).blocks self.new }
         ensures counts { CountsLine self.old self.new }

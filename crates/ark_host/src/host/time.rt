@@ -14,7 +14,8 @@ impl Host {
     // The word `tick`: time goes on for every machine.
     pub(super) fn tick(&mut self, ticks: u64) -> Said
         requires room { self.old.clock + ticks < 2 ^ 64 }
-        ensures turned { (size : ℕ) (h : History) (s : System) → Stands self.old size h s → TurnDone self.new size h (tick_turn s ticks) result [] }
+        ensures turned { (size : ℕ) (h : History) (s : System) → Stands self.old size h s →
+            TurnDone self.new size h (tick_turn s ticks) result [] }
         ensures said { IsSaid result }
         ensures counts { Counts self.old self.new ticks 0 }
         ensures inside { KeepsInside self.old self.new }
