@@ -4,7 +4,6 @@ ghost use Rattle.ark_held.specs.Words.{with_area};
 
 use ark_base::{Kind, Memory};
 use ark_extents::Spans;
-use indexmap::IndexMap;
 use std::alloc::Global;
 use std::marker::Model;
 
@@ -20,22 +19,34 @@ pub struct Area {
 
 /// The areas of an application by the numbers of their grants, at most 8. Contracts see the list of pairs of a number
 /// and the area, in the order of adding.
+///
+/// They are looked through from the front: there are so few that a look-up by hash would cost more.
 #[derive(Drop)]
 pub struct Areas {
-    areas: IndexMap<u64, Area>,
+    areas: Vec<(u64, Area)>,
 }
 
 impl Model for Areas {
-    ghost use Rattle.std.specs.Prelude.{◌≡◌, ◌≤◌, ◌+◌, List, ℕ, length};
-    ghost use Rattle.indexmap.specs.IndexMap as map;
+    ghost use Rattle.std.specs.Prelude.{◌≤◌, List, ℕ, length, vec_capacity};
     ghost use Rattle.ark_held.specs.declared.areas.Area.{Area};
 
     ghost Value = { List (ℕ × Area) };
 
-    ghost view = { λ a. a.areas.entries };
+    ghost view = { λ a. a.areas.items };
 
-    ghost invariant = { λ a. (length a.areas.entries ≤ 8)
-        × (8 ≤ length a.areas.entries + map.spare a.areas) };
+    ghost invariant = { λ a. (length a.areas.items ≤ 8) × (8 ≤ vec_capacity a.areas) };
+}
+
+// The first area of this grant.
+fn find(areas: &[(u64, Area)], grant: u64) -> Option<&Area>
+    ensures found { option_copied result ≡ lookup (nat_eq grant) areas.now }
+{
+    for area in areas {
+        if area.0 == grant {
+            return Some(&area.1);
+        }
+    }
+    None
 }
 
 impl Areas {
@@ -43,7 +54,7 @@ impl Areas {
     pub fn new(alloc: Global) -> Result<Areas, Memory>
         ensures empty { IfOk result (λ a. a ≡ []) }
     {
-        match IndexMap::with_capacity(alloc, AREAS) {
+        match Vec::with_capacity(alloc, AREAS) {
             Ok(areas) => Ok(Areas { areas }),
             Err(_) => Err(Memory),
         }
@@ -60,7 +71,7 @@ impl Areas {
     pub fn get(&self, grant: u64) -> Option<&Area>
         ensures area { option_copied result ≡ lookup (nat_eq grant) self.now }
     {
-        self.areas.get(&grant)
+        find(&self.areas, grant)
     }
 
     /// Adds an area at the end, unless there is one of this grant. It takes no memory.
@@ -68,11 +79,11 @@ impl Areas {
         requires room { length self.old < 8 }
         ensures added { self.new ≡ with_area self.old grant area }
     {
-        if self.areas.contains_key(&grant) {
+        if self.get(grant).is_some() {
             return;
         }
-        match self.areas.insert(grant, area) {
-            Ok(_) => {}
+        match self.areas.push((grant, area)) {
+            Ok(()) => {}
             Err(_) => unreachable!(),
         }
     }
