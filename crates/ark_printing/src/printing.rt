@@ -5,9 +5,10 @@ ghost use Rattle.ark_script.specs.Text.{IsNamed, IsSaid, outcome_words, reply_wo
 ghost use Rattle.ark_printing.specs.Named.{named_of, values_of};
 ghost use Rattle.ark_script.specs.Reply.{bytes_shown};
 
-use crate::putting::{put, put_address, put_hex, put_names, put_number, put_numbered, put_numbers};
+use crate::putting::{put_address, put_hex, put_names, put_numbered, put_numbers};
 use ark_base::{Label, Outcome, Refusal};
 use ark_script::{Reply, Said};
+use ark_text::{put, put_number};
 
 /// Every reply has fewer bytes than this, its newline included.
 pub const TEXT_ROOM: usize = 66_000;

@@ -1,32 +1,10 @@
-// Bytes, numbers, names and addresses, each written from a place on.
+// Numbers, names and addresses in a row, each written from a place on.
 ghost use Rattle.std.specs.Prelude.{◌≡◌, ◌+◌, ◌*◌, ◌≤◌, ◌++◌, true, length, take, codes, decimal};
-ghost use Rattle.hex.specs.Hex.{encode_lower};
 ghost use Rattle.ark_base.specs.Name.{is_name};
 ghost use Rattle.ark_script.specs.Text.{dotted, shown, spaced};
 
 use ark_base::Name;
-use itoa::Buffer;
-
-// Writes bytes from a place on, and gives the place after them.
-pub(crate) fn put(out: &mut [u8], at: usize, bytes: &[u8]) -> usize
-    requires room { at + length bytes.now ≤ length out.old }
-    ensures after { result ≡ at + length bytes.now }
-    ensures written { take result out.new ≡ take at out.old ++ bytes.now }
-{
-    let end = at + bytes.len();
-    out[at..end].copy_from_slice(bytes);
-    end
-}
-
-// Writes a number in decimal from a place on, and gives the place after it.
-pub(crate) fn put_number(out: &mut [u8], at: usize, n: u64) -> usize
-    requires room { at + 20 ≤ length out.old }
-    ensures short { result ≤ at + 20 }
-    ensures written { take result out.new ≡ take at out.old ++ decimal n }
-{
-    let mut buffer = Buffer::new();
-    put(out, at, buffer.format(n).as_bytes())
-}
+use ark_text::{put, put_digits, put_number};
 
 // Writes two numbers from a place on, and gives the place after them.
 pub(crate) fn put_numbers(out: &mut [u8], at: usize, first: u64, second: u64) -> usize
@@ -86,19 +64,6 @@ pub(crate) fn put_hex(out: &mut [u8], at: usize, bytes: &[u8]) -> usize
     match bytes {
         [] => put(out, at, b"-"),
         [_, ..] => put_digits(out, at, bytes),
-    }
-}
-
-// Writes two hex digits for each byte from a place on, and gives the place after them.
-fn put_digits(out: &mut [u8], at: usize, bytes: &[u8]) -> usize
-    requires room { at + 2 * length bytes.now ≤ length out.old }
-    ensures after { result ≡ at + 2 * length bytes.now }
-    ensures written { take result out.new ≡ take at out.old ++ encode_lower bytes.now }
-{
-    let end = at + 2 * bytes.len();
-    match hex::encode_to_slice(bytes, &mut out[at..end]) {
-        Ok(()) => end,
-        Err(_) => unreachable!(),
     }
 }
 

@@ -1,7 +1,8 @@
--- The script that the command `work` runs, and the line that it puts.
-use Rattle.std.specs.Prelude.{◌≡◌, ℕ, zero, suc, ◌+◌, ◌-◌, ◌*◌, ◌/◌, ◌%◌, ◌^◌, Bool, true, false, not, ◌&&◌, List, [], ◌∷◌, ◌++◌, length, get_or, filter, flat_map, codes, decimal, ◌==◌, ◌||◌, nat_eq, nat_le, nat_lt, bytes_eq, if◌then◌else◌, Ok, Err}
-use Rattle.std.specs.Int.{w32, to_be_bytes}
+-- The line that the command `work` puts, behind the replies of its script.
+use Rattle.std.specs.Prelude.{◌≡◌, ℕ, ◌+◌, Bool, true, false, not, ◌&&◌, List, [], ◌∷◌, length, ◌||◌, nat_eq, nat_le, Ok, Err}
 use Rattle.std.specs.List.{list_all, list_any}
+use Rattle.ark_work.specs.Generated.{prelude, generated}
+use Rattle.ark_work.specs.Tallied.{summary}
 use Rattle.ark_media.specs.Journal.{Event}
 use Rattle.ark_script.specs.Lines.{Meaning, EachSays}
 use Rattle.ark_script.specs.Text.{text}
@@ -10,97 +11,6 @@ use Rattle.ark_machine.specs.Row.{Ended}
 use Rattle.ark_machine.specs.System.{System, Turn, fresh_system, quiet_turn, line_turn}
 use Rattle.ark_machine.specs.Follow.{ends_of}
 use Rattle.ark_machine.specs.Replies.{may_lack}
-
--- the state of the generator after a draw
-abbrev pub next : ℕ → ℕ
-next x = (x * 6364136223846793005 + 1442695040888963407) % 2 ^ 64
-
--- what the draw gives that set this state
-abbrev pub drawn : ℕ → ℕ
-drawn x = x / 2 ^ 33
-
-abbrev pub hex_digit : ℕ → ℕ
-hex_digit d = if nat_lt d 10 then 48 + d else 87 + d
-
--- 8 hex digits
-abbrev pub hex : ℕ → List ℕ
-hex n = flat_map (λ b. hex_digit (b / 16) ∷ hex_digit (b % 16) ∷ []) (to_be_bytes w32 n)
-
--- the lines of application a, for a third draw
-abbrev pub lines_of_a : ℕ → List (List ℕ)
-lines_of_a s =
-    (codes "put a v r " ++ decimal (s % 31) ++ codes " 2 m")
-    ∷ (codes "get a v r " ++ decimal (s % 31) ++ codes " 2 m")
-    ∷ codes "flush a v"
-    ∷ codes "dev a v"
-    ∷ codes "reap a v"
-    ∷ (codes "append a l " ++ hex s)
-    ∷ codes "settle a l"
-    ∷ (codes "trim a l " ++ decimal (1 + s % 64))
-    ∷ []
-
--- and of application b
-abbrev pub lines_of_b : ℕ → List (List ℕ)
-lines_of_b s =
-    (codes "put b v r " ++ decimal (s % 31) ++ codes " 2 m")
-    ∷ (codes "get b v r " ++ decimal (s % 31) ++ codes " 2 m")
-    ∷ codes "flush b v"
-    ∷ codes "dev b v"
-    ∷ codes "reap b v"
-    ∷ (codes "push b q " ++ hex s)
-    ∷ codes "settle b q"
-    ∷ codes "pop b q"
-    ∷ []
-
--- the line of three draws: whose it is, which one, and what stands in it
-abbrev pub line_of : ℕ → ℕ → ℕ → List ℕ
-line_of p t s = get_or (if p % 2 == 0 then lines_of_a s else lines_of_b s) (t % 8) []
-
--- so many lines, from a state on
-abbrev pub lines_from : ℕ → ℕ → List (List ℕ)
-lines_from x zero = []
-lines_from x (suc n) = line_of (drawn (next x)) (drawn (next (next x))) (drawn (next (next (next x)))) ∷ lines_from (next (next (next x))) n
-
-abbrev pub prelude : List (List ℕ)
-prelude =
-    codes "app a"
-    ∷ codes "app b"
-    ∷ codes "vsic a v 8"
-    ∷ codes "vsic b v 8"
-    ∷ codes "vsa a r 32 raw"
-    ∷ codes "vsa b r 32 raw"
-    ∷ codes "bind a v r"
-    ∷ codes "bind b v r"
-    ∷ codes "buf a m 1024"
-    ∷ codes "buf b m 1024"
-    ∷ codes "vsic a w 4"
-    ∷ codes "vsa a l 64 log"
-    ∷ codes "log a l w"
-    ∷ codes "vsic b w 4"
-    ∷ codes "vsa b q 64 queue"
-    ∷ codes "queue b q w"
-    ∷ []
-
--- the script of a seed and a number of lines
-abbrev pub generated : ℕ → ℕ → List (List ℕ)
-generated seed lines = prelude ++ lines_from seed lines
-
--- the bytes up to the first space or newline
-abbrev pub first_word : List ℕ → List ℕ
-first_word [] = []
-first_word (b ∷ bs) = if (b == 32) || (b == 10) then [] else b ∷ first_word bs
-
--- so many of the replies begin with this word
-abbrev pub replies_with : List ℕ → List (List ℕ) → ℕ
-replies_with word replies = length (filter (λ reply. bytes_eq word (first_word reply)) replies)
-
--- the line of so many lines with these replies, those of the prelude too
-abbrev pub summary : ℕ → List (List ℕ) → List ℕ
-summary lines replies =
-    codes "work " ++ decimal lines
-    ++ codes " ok " ++ decimal (replies_with (codes "ok") replies)
-    ++ codes " refused " ++ decimal (replies_with (codes "refused") replies)
-    ++ codes " other " ++ decimal (length replies - replies_with (codes "ok") replies - replies_with (codes "refused") replies)
 
 -- Whose replies these are.
 

@@ -10,7 +10,9 @@ use Rattle.ark_machine.specs.Step.{step}
 use Rattle.ark_machine.specs.System.{fresh_system}
 use Rattle.ark_worked.proofs.Playing.{Played, performed}
 use Rattle.ark_worked.proofs.Scripts.{quiet, app, area, granting, opening_empty}
-use Rattle.ark_report.specs.Work.{generated, summary, prelude, work_blocks, Summary}
+use Rattle.ark_work.specs.Generated.{generated, prelude}
+use Rattle.ark_work.specs.Tallied.{summary}
+use Rattle.ark_report.specs.Work.{work_blocks, Summary}
 
 prelude_has : length (generated 1 0) ≡ 16
 prelude_has = refl
