@@ -1,7 +1,6 @@
 pub mod Chain
 pub mod Numbers
 pub mod Leaves
-pub mod Moving
 pub mod Views
 pub mod Stages
 pub mod Leading

@@ -1,5 +1,5 @@
 // Laws of the definitions, each the contract of a function that does nothing.
-ghost use Rattle.std.specs.Prelude.{◌<◌, Bool, Some, None, ◌≡◌, ◌≤◌, ◌⊎◌, ◌∷◌, drop, ◌+◌, ◌-◌, ◌*◌, ℕ, List, length, take, Contains};
+ghost use Rattle.std.specs.Prelude.{◌<◌, Bool, Some, None, ◌≡◌, ◌≤◌, ◌⊎◌, ◌∷◌, drop, ◌+◌, ◌-◌, ◌*◌, ◌%◌, ℕ, suc, List, length, take, Contains};
 ghost use Rattle.ark_base.specs.declared.kind.Kind.{Kind};
 ghost use Rattle.ark_media.specs.Journal.{zero_block};
 ghost use Rattle.ark_entry.specs.Header.{Header, header_of};
@@ -7,10 +7,11 @@ ghost use Rattle.ark_entry.specs.Reading.{reading};
 ghost use Rattle.ark_entry.specs.Repair.{used_by, blocks_read};
 ghost use Rattle.ark_entry.specs.Entry.{entry_blocks};
 ghost use Rattle.ark_entry.specs.Found.{Entries, Found, found, damaged, found_of};
-ghost use Rattle.ark_entry.specs.Writing.{zeroed};
+ghost use Rattle.ark_entry.specs.Writing.{at, zeroed};
 ghost use Rattle.ark_caladan.specs.Chain.{Command, append, trim, pop, after_command, after_all, next_number, blocks_of, phases_of, moves_of, Log, in_progress, lists, stored};
 ghost use Rattle.ark_caladan.specs.Numbers.{CanFollow, AllFit, GoesOn, payload_of};
 ghost use Rattle.ark_caladan.specs.Leaves.{LiesInRing, AreRingBlocks, RingHolds, HasRoom, with_draft, with_entry, dropped_by, freed_by, HeaderAfter, Repairs};
+ghost use Rattle.ark_caladan.specs.Views.{view_of};
 
 /// An append adds its payload behind the list and drops nothing. A trim drops the entries below its number, a pop the first one,
 /// and neither adds one. After any commands the numbers have only gone on, and an entry that is still there is the same.
@@ -125,4 +126,15 @@ pub fn opening_leaves()
         → reading new_ring new.start v ≡ zero_block)
         → RingHolds new_ring new (blocks_read (reading new_ring new.start) 0 (used_by l.payloads))
         (blocks_read (reading new_ring new.start) 0 (used_by l.payloads)) }
+{}
+
+/// Where the view of a ring has its blocks, and that a ring whose first blocks became zero is the ring of what is left.
+pub fn view_laws()
+    ensures view_at { (room : ℕ) (header : List ℕ) (start : ℕ) (stored : List (List ℕ)) (u : ℕ)
+        → start < room → u < room
+        → view_of room header start stored (suc ((start + u) % room)) ≡ at stored u }
+    ensures zeroed_view { (room : ℕ) (header : List ℕ) (start : ℕ) (stored : List (List ℕ))
+        (z k : ℕ) → start < room → z ≤ length stored → length stored ≤ room → k < suc room
+        → view_of room header start (zeroed z stored) k
+        ≡ view_of room header ((start + z) % room) (drop z stored) k }
 {}
