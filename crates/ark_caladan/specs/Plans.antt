@@ -29,23 +29,17 @@ header_after room h l c = record {
   end = (h.start + blocks_of l.payloads) % room;
 }
 
--- the entry is written without its marker; its last block is written with it
+-- the entry is written without its marker; then its last block is written with it
 abbrev pub append_stages : ℕ → List ℕ → Header → List (List ℕ) → Entries → List ℕ → List Stage
 append_stages room header h stored l payload =
-    writes (view_of room header h.start (with_draft room h stored l payload)) (ring_places room h.start (length stored) (entry_blocks (length payload)))
-    ∷ syncs
-    ∷ decides (view_of room header h.start (with_entry room h stored l payload)) (ring_place room h.start (length stored + entry_blocks (length payload) - 1))
-    ∷ syncs
-    ∷ []
+    writes (view_of room header h.start (with_draft room h stored l payload)) (ring_places room h.start (length stored) (entry_blocks (length payload))) ∷ syncs
+    ∷ decides (view_of room header h.start (with_entry room h stored l payload)) (ring_place room h.start (length stored + entry_blocks (length payload) - 1)) ∷ syncs ∷ []
 
--- the header is written; the freed blocks are made zero
+-- the header is written; then the freed blocks are made zero
 abbrev pub drop_stages : ℕ → List ℕ → Header → List (List ℕ) → ℕ → List Stage
 drop_stages room new_header h stored freed =
-    decides (view_of room new_header h.start stored) 0
-    ∷ syncs
-    ∷ writes (view_of room new_header h.start (zeroed freed stored)) (ring_places room h.start 0 freed)
-    ∷ syncs
-    ∷ []
+    decides (view_of room new_header h.start stored) 0 ∷ syncs
+    ∷ writes (view_of room new_header h.start (zeroed freed stored)) (ring_places room h.start 0 freed) ∷ syncs ∷ []
 
 -- the stages of a command on a list whose blocks lie so in a ring of so many blocks
 abbrev pub stages_of : Kind → ℕ → List ℕ → Header → List (List ℕ) → Entries → Command → List Stage
