@@ -27,18 +27,18 @@ module _ (kind : Kind) (x y : Found) where
   tail_leads n f syncs ss plan = plan.3
 
   -- the stage at a place of a plan: the moment before it, and the stages behind it
-  pub record Here (n : ℕ) (f : Moment) (stages : List Stage) (done : ℕ) : Type 0 where
+  pub record StageIn (n : ℕ) (f : Moment) (stages : List Stage) (done : ℕ) : Type 0 where
     pub before : Moment
     pub behind : List Stage
     pub plan : Leads kind n x y before (get_or stages done syncs ∷ behind)
     pub head : (k : ℕ) → moment_at f stages done k ≡ after_calls before (get_or stages done syncs) k
     pub next : (k : ℕ) → moment_at f stages (suc done) k ≡ moment_at (after_calls before (get_or stages done syncs) (calls_of (get_or stages done syncs))) behind 0 k
 
-  pub here : (n : ℕ) (f : Moment) (stages : List Stage) (done : ℕ) → done < length stages → Leads kind n x y f stages → Here n f stages done
-  here n f [] done lt plan = absurd (omega (arith, lt))
-  here n f (s ∷ ss) zero lt plan = record { before = f; behind = ss; plan = plan; head = λ k. refl; next = λ k. refl }
-  here n f (s ∷ ss) (suc done) lt plan =
-      let r = here n (after_calls f s (calls_of s)) ss done (omega (arith, lt)) (tail_leads n f s ss plan) in
+  pub stage_in : (n : ℕ) (f : Moment) (stages : List Stage) (done : ℕ) → done < length stages → Leads kind n x y f stages → StageIn n f stages done
+  stage_in n f [] done lt plan = absurd (omega (arith, lt))
+  stage_in n f (s ∷ ss) zero lt plan = record { before = f; behind = ss; plan = plan; head = λ k. refl; next = λ k. refl }
+  stage_in n f (s ∷ ss) (suc done) lt plan =
+      let r = stage_in n (after_calls f s (calls_of s)) ss done (omega (arith, lt)) (tail_leads n f s ss plan) in
       record { before = r.before; behind = r.behind; plan = r.plan; head = r.head; next = r.next }
 
   module _ (blocks : List ℕ) (choices : List Found) (has_x : Contains choices x) (has_y : Contains choices y) where

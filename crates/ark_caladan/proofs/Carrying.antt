@@ -14,13 +14,13 @@ use Rattle.ark_entry.proofs.Headers.{read_was_written}
 use Rattle.ark_caladan.specs.Chain.{Command, append, trim, pop, after_command, blocks_of, stored_after, list_choices}
 use Rattle.ark_caladan.specs.Leaves.{LiesInRing}
 use Rattle.ark_caladan.specs.Views.{OnDisk, Elsewhere, AreApart, view_of}
-use Rattle.ark_caladan.specs.Listed.{IsFoundIn, AllFull, SameArea}
+use Rattle.ark_caladan.specs.Listed.{IsFoundIn, AllFull, SameAt}
 use Rattle.ark_caladan.specs.Stages.{Stage, reads, writes, decides, syncs, calls_of, call_of, Moment, resting, after_calls, took_by, event_took, moment_at, IsAt}
 use Rattle.ark_caladan.specs.Leading.{IsFound, Leads}
 use Rattle.ark_caladan.specs.Plans.{stages_of, added_by, AreShort, CanWait}
 use Rattle.ark_caladan.specs.Open.{Layout, oldest_stages, IsPlace, log_moment, oldest, IsOpenWith}
 use Rattle.ark_caladan.proofs.Events.{at_shown, at_begins}
-use Rattle.ark_caladan.proofs.Calls.{tail_leads, Here, here, kept_found, kept_at, at_next, at_turn, kept_failed}
+use Rattle.ark_caladan.proofs.Calls.{tail_leads, StageIn, stage_in, kept_found, kept_at, at_next, at_turn, kept_failed}
 use Rattle.ark_caladan.proofs.Appending.{found_resting}
 use Rattle.ark_caladan.proofs.Dropping.{stages_lead}
 
@@ -59,10 +59,10 @@ module _ (kind : Kind) (room : ℕ) (blocks : List ℕ) (p : Layout) (l : Entrie
   stages c = stages_of kind room p.header p.says p.stored l c
 
   -- the stage at which it is
-  pub at_here : (history : History) (c : Command) (cs : List Command) (done n : ℕ) → IsOpenWith kind room history blocks p l (c ∷ cs) done n
-      → Here kind (found l) (found (after_command l c)) (length blocks) (resting first_view false) (stages c) done
-  at_here history c cs done n opened =
-      here kind (found l) (found (after_command l c)) (length blocks) (resting first_view false) (stages c) done (before_end (stages c) done n (some_stages c) opened.waits.place).0 (plan_of history c cs done n opened)
+  pub at_stage : (history : History) (c : Command) (cs : List Command) (done n : ℕ) → IsOpenWith kind room history blocks p l (c ∷ cs) done n
+      → StageIn kind (found l) (found (after_command l c)) (length blocks) (resting first_view false) (stages c) done
+  at_stage history c cs done n opened =
+      stage_in kind (found l) (found (after_command l c)) (length blocks) (resting first_view false) (stages c) done (before_end (stages c) done n (some_stages c) opened.waits.place).0 (plan_of history c cs done n opened)
 
   -- the places that are written are in the area
   inside : (x y : Found) (f : Moment) (s : Stage) (ss : List Stage) (n : ℕ) → n ≤ calls_of s → Leads kind (length blocks) x y f (s ∷ ss) → ((i : ℕ) → i < f.written → get_or f.places i 0 < length blocks)
@@ -92,7 +92,7 @@ module _ (kind : Kind) (room : ℕ) (blocks : List ℕ) (p : Layout) (l : Entrie
       (plan_of history c cs done n opened) opened.waits.place (λ k less. absurd (omega (arith, less))) i lt
 
   -- Where the area's blocks have what they had, an open log stays as it is.
-  pub open_shown : (history later : History) (cs : List Command) (done n : ℕ) → OnDisk blocks later.base → SameArea blocks history later
+  pub open_shown : (history later : History) (cs : List Command) (done n : ℕ) → OnDisk blocks later.base → SameAt history later blocks
       → IsOpenWith kind room history blocks p l cs done n → IsOpenWith kind room later blocks p l cs done n
   open_shown history later cs done n on_disk same opened = record {
     size = opened.size;
@@ -105,7 +105,7 @@ module _ (kind : Kind) (room : ℕ) (blocks : List ℕ) (p : Layout) (l : Entrie
   pub open_moved : (history : History) (c : Command) (cs : List Command) (done n : ℕ) (e : Event) → n < calls_of (get_or (stages c) done syncs) → Comes (call_of blocks (get_or (stages c) done syncs) n) true e
       → IsOpenWith kind room history blocks p l (c ∷ cs) done n → IsOpenWith kind room (after history (e ∷ [])) blocks p l (c ∷ cs) done (suc n)
   open_moved history c cs done n e lt came opened =
-      let r = at_here history c cs done n opened in
+      let r = at_stage history c cs done n opened in
       record {
         size = opened.size;
         on_disk = opened.on_disk;
@@ -119,7 +119,7 @@ module _ (kind : Kind) (room : ℕ) (blocks : List ℕ) (p : Layout) (l : Entrie
   pub open_posted : (history : History) (c : Command) (cs : List Command) (done n : ℕ) → n ≡ calls_of (get_or (stages c) done syncs) → suc done < length (stages c)
       → IsOpenWith kind room history blocks p l (c ∷ cs) done n → IsOpenWith kind room history blocks p l (c ∷ cs) (suc done) 0
   open_posted history c cs done n last more opened =
-      let r = at_here history c cs done n opened in
+      let r = at_stage history c cs done n opened in
       let s : Stage = get_or (stages c) done syncs in
       record {
         size = opened.size;
@@ -142,7 +142,7 @@ module _ (kind : Kind) (room : ℕ) (blocks : List ℕ) (p : Layout) (l : Entrie
       kept_found kind (found l) (found l) blocks (found l ∷ []) (0, omega arith, refl) (0, omega arith, refl) history opened.on_disk full (resting first_view false) (found l) (0, omega arith, refl)
       (subst (λ (m : ℕ). IsFound kind m first_view first_view (found l)) (sym opened.size) (found_resting kind room opened.waits.some p.header p.says p.stored l opened.waits.lies)) opened.at.left
   open_kept history (c ∷ cs) done n full opened =
-      let r = at_here history c cs done n opened in
+      let r = at_stage history c cs done n opened in
       subst (λ (z : Found). IsFoundIn kind history blocks z (found l ∷ found (after_command l c) ∷ [])) (one_of l (after_command l c) (log_moment kind room p l (c ∷ cs) done n).took)
       (subst (λ (f : Moment). IsFoundIn kind history blocks (if f.took then found (after_command l c) else found l) (found l ∷ found (after_command l c) ∷ [])) (sym (r.head n))
       (kept_at kind (found l) (found (after_command l c)) blocks (found l ∷ found (after_command l c) ∷ []) (0, omega arith, refl) (1, omega arith, refl) history opened.on_disk full
@@ -161,7 +161,7 @@ module _ (kind : Kind) (room : ℕ) (blocks : List ℕ) (p : Layout) (l : Entrie
       → let took = took_by (log_moment kind room p l (c ∷ cs) done n).took (get_or (stages c) done syncs) e in
       IsFoundIn kind (after history (e ∷ [])) blocks (stored_after (found l) (Some (c, took))) (list_choices (found l) (Some (c, took)))
   open_failed history c cs done n e full lt came opened =
-      let r = at_here history c cs done n opened in
+      let r = at_stage history c cs done n opened in
       let s : Stage = get_or (stages c) done syncs in
       subst (λ (z : Found). IsFoundIn kind (after history (e ∷ [])) blocks z (found l ∷ found (after_command l c) ∷ [])) (one_of l (after_command l c) (took_by (log_moment kind room p l (c ∷ cs) done n).took (get_or (stages c) done syncs) e))
       (subst (λ (f : Moment). IsFoundIn kind (after history (e ∷ [])) blocks (if took_by f.took (get_or (stages c) done syncs) e then found (after_command l c) else found l) (found l ∷ found (after_command l c) ∷ [])) (sym (r.head n))
@@ -180,7 +180,7 @@ module _ (kind : Kind) (room : ℕ) (blocks : List ℕ) (p : Layout) (l : Entrie
   pub took_moved : (history : History) (c : Command) (cs : List Command) (done n : ℕ) (e : Event) → n < calls_of (get_or (stages c) done syncs) → Comes (call_of blocks (get_or (stages c) done syncs) n) true e
       → IsOpenWith kind room history blocks p l (c ∷ cs) done n → (log_moment kind room p l (c ∷ cs) done (suc n)).took ≡ took_by (log_moment kind room p l (c ∷ cs) done n).took (get_or (stages c) done syncs) e
   took_moved history c cs done n e lt came opened =
-      let r = at_here history c cs done n opened in
+      let r = at_stage history c cs done n opened in
       ap (λ (f : Moment). f.took) (r.head (suc n)) ∙ took_next r.before (get_or (stages c) done syncs) n e lt came ∙ ap (λ (f : Moment). took_by f.took (get_or (stages c) done syncs) e) (sym (r.head n))
 
   took_first : (f : Moment) (ss : List Stage) → (moment_at f ss 0 0).took ≡ f.took
@@ -193,7 +193,7 @@ module _ (kind : Kind) (room : ℕ) (blocks : List ℕ) (p : Layout) (l : Entrie
   pub took_posted : (history : History) (c : Command) (cs : List Command) (done n : ℕ) → n ≡ calls_of (get_or (stages c) done syncs) → IsOpenWith kind room history blocks p l (c ∷ cs) done n
       → (log_moment kind room p l (c ∷ cs) (suc done) 0).took ≡ (log_moment kind room p l (c ∷ cs) done n).took
   took_posted history c cs done n last opened =
-      let r = at_here history c cs done n opened in
+      let r = at_stage history c cs done n opened in
       let s : Stage = get_or (stages c) done syncs in
       ap (λ (f : Moment). f.took) (r.next 0) ∙ took_first (after_calls r.before s (calls_of s)) r.behind ∙ ap (λ (m : ℕ). (after_calls r.before s m).took) (sym last) ∙ ap (λ (f : Moment). f.took) (sym (r.head n))
 
@@ -264,13 +264,8 @@ module _ (kind : Kind) (room : ℕ) (blocks : List ℕ) (p : Layout) (l : Entrie
       → (other : List ℕ) → AreApart blocks other → n < calls_of (next_stage xs done) → Elsewhere other (call_of blocks (next_stage xs done) n)
   waiting_call_apart history [] done n some opened other apart lt = absurd (omega (arith, some))
   waiting_call_apart history (c ∷ cs) done n some opened other apart lt =
-      let r = at_here history c cs done n opened in
+      let r = at_stage history c cs done n opened in
       call_apart (found l) (found (after_command l c)) r.before (get_or (stages c) done syncs) r.behind n r.plan lt other apart
-
-  -- what waits behind the oldest leaves its moment
-  pub moment_accepts : (cs : List Command) (c : Command) (done n : ℕ) → 0 < length cs → log_moment kind room p l (cs ++ c ∷ []) done n ≡ log_moment kind room p l cs done n
-  moment_accepts [] c done n some = absurd (omega (arith, some))
-  moment_accepts (first ∷ cs) c done n some = refl
 
 -- at rest in a view, and so in any that is the same at each place
 pub at_same : (history : History) (blocks : List ℕ) (a b : ℕ → List ℕ) (took took2 : Bool) → ((k : ℕ) → k < length blocks → a k ≡ b k) → IsAt history blocks (resting a took) → IsAt history blocks (resting b took2)

@@ -7,7 +7,7 @@ use Rattle.ark_media.specs.Stops.{Whole}
 use Rattle.ark_media.specs.Standing.{after, MayStand}
 use Rattle.ark_media.proofs.Stopping.{current_same, current_other, other_write, now_may, sync_narrows}
 use Rattle.ark_caladan.specs.Views.{OnDisk, Elsewhere}
-use Rattle.ark_caladan.specs.Listed.{SameArea}
+use Rattle.ark_caladan.specs.Listed.{SameAt}
 use Rattle.ark_caladan.specs.Stages.{Moment, resting, IsAt}
 use Rattle.ark_caladan.specs.Leading.{AllWritten}
 
@@ -100,7 +100,7 @@ module _ (history : History) (blocks : List ℕ) (on_disk : OnDisk blocks histor
 
 -- where an area's blocks have what they had, its moment stays
 pub at_shown : (history later : History) (blocks : List ℕ) (f : Moment) → ((i : ℕ) → i < f.written → get_or f.places i 0 < length blocks)
-    → SameArea blocks history later → IsAt history blocks f → IsAt later blocks f
+    → SameAt history later blocks → IsAt history blocks f → IsAt later blocks f
 at_shown history later blocks f inside same at = record {
   left = λ k lt c left. at.left k lt c ((same k lt).1 c left);
   there = λ i lt. (same (get_or f.places i 0) (inside i lt)).0 ∙ at.there i lt;

@@ -10,7 +10,7 @@ use Rattle.ark_media.specs.Standing.{after, MayStand}
 use Rattle.ark_media.proofs.Stopping.{sync_narrows}
 use Rattle.ark_entry.specs.Found.{Found, found_of}
 use Rattle.ark_caladan.specs.Views.{OnDisk, Elsewhere, contents_at}
-use Rattle.ark_caladan.specs.Listed.{IsFoundIn, AllFull, WritesFull, SameArea}
+use Rattle.ark_caladan.specs.Listed.{IsFoundIn, AllFull, WritesFull, SameAt}
 use Rattle.ark_caladan.proofs.Events.{left_elsewhere, stays}
 use Rattle.ark_caladan.proofs.Places.{ring_at}
 
@@ -21,7 +21,7 @@ same_contents a b (n ∷ ns) same =
     ap (λ (c : List ℕ). c ∷ contents_at a ns) (same 0 (omega arith)) ∙ ap (λ (cs : List (List ℕ)). block b n ∷ cs) (same_contents a b ns (λ k lt. same (suc k) (omega (arith, lt))))
 
 -- Where an area's blocks have what they had, what is found in them stays,
-pub found_shown : (kind : Kind) (before later : History) (blocks : List ℕ) (x : Found) (choices : List Found) → SameArea blocks before later
+pub found_shown : (kind : Kind) (before later : History) (blocks : List ℕ) (x : Found) (choices : List Found) → SameAt before later blocks
     → IsFoundIn kind before blocks x choices → IsFoundIn kind later blocks x choices
 found_shown kind before later blocks x choices same kept = record {
   now = ap (found_of kind) (same_contents (current later.base later.journal) (current before.base before.journal) blocks (λ k lt. (same k lt).0)) ∙ kept.now;
@@ -30,10 +30,10 @@ found_shown kind before later blocks x choices same kept = record {
 
 -- and so it does by an event elsewhere, and by bytes put out.
 pub elsewhere_same : (history : History) (blocks : List ℕ) → OnDisk blocks history.base → (call : Call) (ok : Bool) (e : Event) → Elsewhere blocks call → Comes call ok e
-    → SameArea blocks history (after history (e ∷ []))
+    → SameAt history (after history (e ∷ [])) blocks
 elsewhere_same history blocks on_disk call ok e off came k lt = (stays history blocks on_disk call ok e off came k lt, left_elsewhere history blocks on_disk call ok e off came k lt)
 
-pub output_same : (history : History) (blocks : List ℕ) (bytes : List ℕ) → SameArea blocks history (after history (Out bytes ∷ []))
+pub output_same : (history : History) (blocks : List ℕ) (bytes : List ℕ) → SameAt history (after history (Out bytes ∷ [])) blocks
 output_same history blocks bytes k lt = (refl, λ c left. left)
 
 -- blocks of 512 bytes stay so

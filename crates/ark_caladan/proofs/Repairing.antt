@@ -29,7 +29,7 @@ use Rattle.ark_caladan.specs.Repairing.{Repair, IsRepair, repair_stages, repaire
 use Rattle.ark_caladan.proofs.Opening.{repaired_is_found}
 use Rattle.ark_caladan.proofs.Places.{place_back, place_forth, ring_at}
 use Rattle.ark_caladan.proofs.Carrying.{first_some, open_from_rest, at_same}
-use Rattle.ark_caladan.proofs.Calls.{Here, here, kept_at, at_next, at_turn, kept_failed}
+use Rattle.ark_caladan.proofs.Calls.{StageIn, stage_in, kept_at, at_next, at_turn, kept_failed}
 
 -- numbers of entries that stand somewhere are low
 numbers_low : (room start : ℕ) (r : ℕ → List ℕ) (u number : ℕ) (xs : List (List ℕ)) (end : ℕ) → number ≤ 2 ^ 62 + 1 → Stands room start r u number xs end → number + length xs ≤ 2 ^ 62 + 1
@@ -224,8 +224,8 @@ module _ (kind : Kind) (room : ℕ) (blocks : List ℕ) where
         sees k lt = sym (ap (λ (x : List (List ℕ)). block x k) is ∙ ring_at (current history.base history.journal) blocks k lt)
 
     module _ (history : History) (done n : ℕ) (inside : Repairing kind room history blocks r done n) where
-      at_stage : Here kind (found r.list) (found r.list) (length blocks) (resting (block r.seen) false) stages done
-      at_stage = here kind (found r.list) (found r.list) (length blocks) (resting (block r.seen) false) stages done inside.place.0 (leads inside.size inside.some inside.right)
+      at_stage : StageIn kind (found r.list) (found r.list) (length blocks) (resting (block r.seen) false) stages done
+      at_stage = stage_in kind (found r.list) (found r.list) (length blocks) (resting (block r.seen) false) stages done inside.place.0 (leads inside.size inside.some inside.right)
 
       either : (t : Bool) → (if t then found r.list else found r.list) ≡ found r.list
       either true = refl

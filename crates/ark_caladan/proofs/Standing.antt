@@ -7,7 +7,7 @@ use Rattle.ark_media.specs.Calls.{Comes}
 use Rattle.ark_entry.specs.Found.{Entries, Found, found}
 use Rattle.ark_caladan.specs.Chain.{Command, after_command, Waiting, Opened, Log, commands, entries, oldest_of, pending, in_progress, stored, stored_after, lists, list_choices}
 use Rattle.ark_caladan.specs.Views.{OnDisk, Elsewhere, AreApart}
-use Rattle.ark_caladan.specs.Listed.{IsFoundIn, IsListed, AllFull, SameArea}
+use Rattle.ark_caladan.specs.Listed.{IsFoundIn, IsListed, AllFull, SameAt}
 use Rattle.ark_caladan.specs.Stages.{Stage, syncs, calls_of, call_of, took_by}
 use Rattle.ark_caladan.specs.Plans.{stages_of, CanWait}
 use Rattle.ark_caladan.specs.Open.{Layout, layout_after, oldest_stages, log_moment, oldest, IsOpenWith}
@@ -41,7 +41,7 @@ module _ (blocks : List ℕ) (g : Log) (p : Layout) where
       by false rests = rests
 
   -- Whatever leaves its blocks what they had leaves it.
-  pub stands_same : (history : History) (later : History) (progress : Progress) (x : Option Opened) → OnDisk blocks later.base → SameArea blocks history later
+  pub stands_same : (history : History) (later : History) (progress : Progress) (x : Option Opened) → OnDisk blocks later.base → SameAt history later blocks
       → LogStandsAs history blocks g p progress x → LogStandsAs later blocks g p progress x
   stands_same history later progress None on_disk same here = found_shown g.kind history later blocks (stored g) (lists g) same here
   stands_same history later progress (Some o) on_disk same here = by (makes_calls o progress) here

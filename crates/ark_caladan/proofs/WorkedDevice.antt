@@ -1,6 +1,5 @@
 -- A log in five blocks of a device, worked out: what the laws of open logs ask of a device can be met.
 use Rattle.std.proofs.Common.{◌≡◌, ◌<◌, ℕ, zero, suc, List, [], ◌∷◌, ◌+◌, length, get_or, refl, arith}
-use Rattle.ark_media.specs.Blocks.{blocks_in}
 use Rattle.ark_media.specs.Journal.{AllBlocks, block, zero_block}
 use Rattle.ark_entry.proofs.WorkedRings.{stored}
 use Rattle.ark_caladan.specs.Views.{OnDisk, view_of}
@@ -44,13 +43,3 @@ whole (suc (suc (suc (suc (suc (suc n)))))) lt = absurd (omega (arith, lt))
 -- a device whose ring has the whole draft, as an opening may find it
 abbrev pub left_over : List (List ℕ)
 left_over = zero_block ∷ (zero_block ∷ draft_ring)
-
-pub left_whole : AllBlocks left_over
-unfolding blocks_in
-left_whole zero lt = refl
-left_whole (suc zero) lt = refl
-left_whole (suc (suc zero)) lt = refl
-left_whole (suc (suc (suc zero))) lt = refl
-left_whole (suc (suc (suc (suc zero)))) lt = refl
-left_whole (suc (suc (suc (suc (suc zero))))) lt = refl
-left_whole (suc (suc (suc (suc (suc (suc n)))))) lt = absurd (omega (arith, lt))

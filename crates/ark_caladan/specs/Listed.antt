@@ -22,6 +22,10 @@ pub record IsFoundIn (kind : Kind) (history : History) (blocks : List ℕ) (x : 
 abbrev pub IsListed : History → List ℕ → Log → Type 0
 IsListed history blocks g = IsFoundIn g.kind history blocks (stored g) (lists g)
 
+-- whatever a stop may leave of these blocks opens to one of the log's lists
+abbrev pub OpensToLists : History → List ℕ → Log → Type 0
+OpensToLists history blocks g = (contents : List (List ℕ)) → MayShow history blocks contents → Contains (lists g) (found_of g.kind contents)
+
 -- each content that a stop may leave of a block has 512 bytes
 abbrev pub AllFull : History → Type 0
 AllFull history = (n : ℕ) → n < length history.base → (content : List ℕ) → MayStand history n content → length content ≡ 512
@@ -32,9 +36,8 @@ WritesFull (Reads n) = Unit {0}
 WritesFull (Writes n content) = length content ≡ 512
 WritesFull Syncs = Unit {0}
 
--- the blocks of an area have what they had, and a stop may leave of them nothing more
-abbrev pub SameArea : List ℕ → History → History → Type 0
-SameArea blocks before later =
-    (k : ℕ) → k < length blocks
-    → (block (current later.base later.journal) (get_or blocks k 0) ≡ block (current before.base before.journal) (get_or blocks k 0))
-    × ((content : List ℕ) → MayStand later (get_or blocks k 0) content → MayStand before (get_or blocks k 0) content)
+-- from history g to h these blocks stay the same, and a stop may leave no more of them
+abbrev pub SameAt : History → History → List ℕ → Type 0
+SameAt g h blocks = (k : ℕ) → k < length blocks →
+    (block (current h.base h.journal) (get_or blocks k 0) ≡ block (current g.base g.journal) (get_or blocks k 0))
+    × ((c : List ℕ) → MayStand h (get_or blocks k 0) c → MayStand g (get_or blocks k 0) c)

@@ -1,5 +1,5 @@
 -- The descriptors that a command posts, one for each of its stages, and what the buffers hold. No standard fixes them.
-use Rattle.std.specs.Prelude.{◌≡◌, ℕ, zero, suc, ◌+◌, ◌-◌, ◌*◌, ◌%◌, List, [], ◌∷◌, length, take, drop, get_or, nat_lt, if◌then◌else◌}
+use Rattle.std.specs.Prelude.{◌≡◌, ℕ, ◌+◌, ◌-◌, ◌*◌, ◌%◌, List, [], ◌∷◌, length, take, drop, get_or, nat_lt, if◌then◌else◌}
 use Rattle.ark_base.specs.declared.kind.Kind.{Kind}
 use Rattle.ark_media.specs.Journal.{zero_block}
 use Rattle.ark_media.specs.Calls.{Call, Reads, Writes, Syncs}
@@ -77,9 +77,3 @@ HoldEntries room place done (c ∷ cs) (b ∷ bs) = HoldsEntry room place done c
 -- the buffer of a pop that has read so many blocks
 abbrev pub HasRead : List (List ℕ) → ℕ → List ℕ → Type 0
 HasRead stored n b = take (512 * n) b ≡ bytes_from (at stored) 0 n
-
--- where the oldest command is a pop, its buffer has what it has read so far
-abbrev pub IsReadSoFar : List (List ℕ) → Entries → List Command → ℕ → ℕ → List (List ℕ) → Type 0
-IsReadSoFar stored l (pop m ∷ cs) zero n (b ∷ bs) = HasRead stored n b
-IsReadSoFar stored l (pop m ∷ cs) (suc done) n (b ∷ bs) = HasRead stored (freed_by l (pop m)) b
-IsReadSoFar stored l cs done n bs = Unit {0}

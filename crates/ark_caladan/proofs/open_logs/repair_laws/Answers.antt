@@ -8,12 +8,14 @@ use Rattle.ark_caladan.specs.Listed.{IsFoundIn}
 use Rattle.ark_caladan.specs.Open.{IsOpenWith}
 use Rattle.ark_caladan.specs.Repairing.{repaired_layout}
 use Rattle.ark_caladan.proofs.Commands.{stored_is_listed}
+use Rattle.ark_caladan.proofs.Seeing.{places_suffice}
 use Rattle.ark_caladan.proofs.Standing.{opens}
 use Rattle.ark_caladan.proofs.Repairing.{repair_begins, repair_kept, repair_moved, repair_failed, repair_written, repair_opens}
 use Rattle.ark_caladan.proofs.open_logs.repair_laws.Goals as goal
 
 pub returns : goal.returns
 returns c = record {
+  places = places_suffice;
   begins = repair_begins;
   listed = λ kind room blocks r history done n inside g same is full.
       subst (λ (k : Kind). IsFoundIn k history blocks (stored g) (lists g)) (sym same) (subst (λ (f : Found). IsFoundIn kind history blocks f (lists g)) (sym is)
