@@ -17,7 +17,7 @@ ghost use Rattle.ark_caladan.specs.Chain.{entries, commands, stored, lists, in_p
 ghost use Rattle.ark_caladan.specs.Numbers.{CanFollow};
 ghost use Rattle.ark_caladan.specs.Leaves.{LiesInRing, freed_by};
 ghost use Rattle.ark_caladan.specs.Views.{OnDisk, Elsewhere, AreApart, contents_at, repaired};
-ghost use Rattle.ark_caladan.specs.Listed.{IsFoundIn, IsListed, AllFull, WritesFull, SameAt};
+ghost use Rattle.ark_caladan.specs.Listed.{IsListed, AllFull, WritesFull, SameAt};
 ghost use Rattle.ark_caladan.specs.Stages.{syncs, calls_of, call_of};
 ghost use Rattle.ark_caladan.specs.Plans.{stages_of, phase_of, ring_place, added_by, CanWait};
 ghost use Rattle.ark_caladan.specs.Postings.{flushes, posted_call, postings_of, place_behind};
@@ -29,7 +29,7 @@ ghost use Rattle.ark_caladan.specs.Standing.{Proceeds, LogStands};
 
 /// At each moment what stands of a log is its stored list, and what a stop may leave is one of its lists. A log stands while its
 /// blocks have what they had; so they have over calls elsewhere, as writes of other blocks, reads and syncs, and over bytes put out.
-/// Blocks of 512 bytes stay so. Where no write since the last sync may change an area, what stands is all that a stop leaves.
+/// Blocks of 512 bytes stay so. Where no write since the last sync may change an area, a log that is not open there is what is found.
 pub fn log_laws()
     ensures listed { (history : History) (blocks : List ℕ) (g : Log) (p : Layout)
         (progress : Progress) → AllFull history → LogStands history blocks g p progress
@@ -48,12 +48,11 @@ pub fn log_laws()
         → SameAt history (after history (Out bytes ∷ [])) blocks }
     ensures full { (history : History) (call : Call) (ok : Bool) (e : Event) → WritesFull call
         → Comes call ok e → AllFull history → AllFull (after history (e ∷ [])) }
-    ensures settled { (kind : Kind) (history : History) (blocks : List ℕ)
-        → OnDisk blocks history.base → ((k : ℕ) → k < length blocks → (c : List ℕ)
-        → MayStand history (get_or blocks k 0) c
+    ensures settled { (history : History) (blocks : List ℕ) (g : Log) → OnDisk blocks history.base
+        → ((k : ℕ) → k < length blocks → (c : List ℕ) → MayStand history (get_or blocks k 0) c
         → c ≡ block (current history.base history.journal) (get_or blocks k 0))
-        → let x = found_of kind (contents_at (current history.base history.journal) blocks) in
-        IsFoundIn kind history blocks x (x ∷ []) }
+        → g.list ≡ found_of g.kind (contents_at (current history.base history.journal) blocks)
+        → g.opened ≡ None → g.left ≡ None → IsListed history blocks g }
 {}
 
 /// What the calls of an open log's oldest command do. One that succeeds is made. One that fails, taken or not, leaves the log as it
@@ -152,8 +151,8 @@ pub fn repair_laws()
 {}
 
 /// What an open log posts and reads: its descriptors make the calls of its stages, as many as the phases of the command say, and
-/// each stage makes one. A walk reads the list's own blocks at each moment, but for those that the oldest command frees; an entry stands
-/// behind the blocks of those before it.
+/// each stage makes one. A walk reads the list's own blocks at each moment, but for those that the oldest command frees; an entry
+/// stands behind the blocks of those before it.
 pub fn posting_laws()
     ensures posts { (kind : Kind) (room : ℕ) (history : History) (blocks : List ℕ) (p : Layout)
         (l : Entries) (c : Command) (cs : List Command) (done n : ℕ)

@@ -1,7 +1,7 @@
 use Rattle.std.proofs.Common.{refl}
 use Rattle.ark_caladan.specs.Chain.{stored, lists}
 use Rattle.ark_caladan.proofs.Standing.{stands_listed, stands_same}
-use Rattle.ark_caladan.proofs.Listing.{elsewhere_same, output_same, full_kept, left_found, settled_kept}
+use Rattle.ark_caladan.proofs.Listing.{elsewhere_same, output_same, full_kept, left_found, settled_listed}
 use Rattle.ark_caladan.proofs.open_logs.log_laws.Goals as goal
 
 pub returns : goal.returns
@@ -12,5 +12,5 @@ returns c = record {
   elsewhere = elsewhere_same;
   output = output_same;
   full = full_kept;
-  settled = settled_kept;
+  settled = settled_listed;
 }
