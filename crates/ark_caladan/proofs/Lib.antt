@@ -2,6 +2,7 @@ mod Worked
 mod WorkedRings
 mod WorkedDevice
 mod WorkedOpen
+mod WorkedTrim
 mod WorkedRepair
 mod Commands
 mod Leaving

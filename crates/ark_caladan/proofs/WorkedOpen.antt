@@ -17,33 +17,33 @@ use Rattle.ark_caladan.specs.Listed.{IsListed, AllFull}
 use Rattle.ark_caladan.specs.Stages.{Stage, call_of, resting, IsAt}
 use Rattle.ark_caladan.specs.Plans.{CanWait}
 use Rattle.ark_caladan.specs.Open.{Layout}
-use Rattle.ark_caladan.specs.Standing.{idle, posted, ended, stage_at, Proceeds, after_event}
+use Rattle.ark_caladan.specs.Standing.{idle, posted, stage_at, Proceeds, after_event}
 use Rattle.ark_caladan.proofs.WorkedRings.{one, lies}
 use Rattle.ark_caladan.proofs.WorkedDevice.{blocks, device, on_device, stands, whole}
 use Rattle.ark_caladan.proofs.Carrying.{open_from_rest}
 use Rattle.ark_caladan.proofs.Listing.{full_kept, left_found}
-use Rattle.ark_caladan.proofs.Standing.{proceeds_listed, starts, call_made, call_failed, stage_posted}
+use Rattle.ark_caladan.proofs.Standing.{proceeds_listed, starts, call_made, call_failed}
 
-abbrev layout : Layout
+abbrev pub layout : Layout
 layout = record { header = zero_block; says = empty; stored = stored }
 
-abbrev at_first : History
+abbrev pub at_first : History
 at_first = record { base = device; journal = [] }
 
-at_rest : IsAt at_first blocks (resting (view_of 4 zero_block 0 stored) false)
+pub at_rest : IsAt at_first blocks (resting (view_of 4 zero_block 0 stored) false)
 at_rest = record { left = λ k lt c is. inl (is ∙ stands k lt); there = λ i lt. absurd (omega (arith, lt)); others = λ k lt none. stands k lt }
 
-full : AllFull at_first
+pub full : AllFull at_first
 full n lt c is = ap (λ (x : List ℕ). length x) is ∙ whole n lt
 
-abbrev opened_with : List chain.Waiting → Opened
+abbrev pub opened_with : List chain.Waiting → Opened
 opened_with ws = record { card = []; failed = false; header_frame = 0; waiting = ws; done = 0; decided = false }
 
-abbrev log_with : Opened → chain.Log
+abbrev pub log_with : Opened → chain.Log
 log_with o = record { kind = Log; blocks = 5; list = found one; opened = Some o; left = None }
 
 -- what a call comes to
-abbrev event_of : Call → Bool → Bool → Event
+abbrev pub event_of : Call → Bool → Bool → Event
 event_of (Writes n c) took ok = Write n c took ok
 event_of (Reads n) took ok = Read n ok
 event_of Syncs took ok = Sync ok
@@ -99,49 +99,3 @@ failed = call_failed blocks (log_with (after_event appending body first_write)) 
 
 stopped : (image : List (List ℕ)) → MayLeave Whole device (second_write ∷ (first_write ∷ [])) image → Contains (lists failed_log) (found_of Log (contents_at image blocks))
 stopped image leaves = left_found Log (after at_second (second_write ∷ [])) blocks (chain.stored failed_log) (lists failed_log) (on_device device refl) failed image leaves
-
--- A trim waits alone.
-can_trim : CanWait 4 one (trim 2 ∷ [])
-can_trim = record { fit = ((omega arith, omega arith), tt); fits = omega arith; short = tt; low = omega arith; few = omega arith }
-
-abbrev trimming : Opened
-trimming = opened_with (record { command = trim 2; room = [] } ∷ [])
-
-trims : Proceeds at_first blocks (log_with trimming) trimming layout idle
-trims = record {
-  list = refl;
-  decided = refl;
-  is_open = open_from_rest Log 4 blocks layout one at_first (trim 2 ∷ []) false refl (omega arith) (on_device device refl) lies can_trim at_rest;
-}
-
--- Its header fails to be written, and was: a stop leaves the list before the trim or after it, and what stands is the later one.
-abbrev heading : Stage
-heading = stage_at (log_with trimming) trimming layout
-
-abbrev header_write : Bool → Event
-header_write ok = event_of (call_of blocks heading 0) true ok
-
-header_full : (ok : Bool) → AllFull (after at_first (header_write ok ∷ []))
-header_full ok = full_kept at_first (call_of blocks heading 0) ok (header_write ok) refl (true, (λ x. refl), refl) full
-
-header_failed : IsListed (after at_first (header_write false ∷ [])) blocks (log_with (after_event trimming heading (header_write false)))
-header_failed = call_failed blocks (log_with trimming) layout at_first trimming (posted 0) (starts blocks (log_with trimming) layout at_first trimming trims) (omega arith)
-    (header_write false) (header_full false) (omega arith) (true, (λ x. absurd (cc)), refl)
-
--- It is written, and the sync behind it fails.
-abbrev headed : Opened
-headed = after_event trimming heading (header_write true)
-
-header_made : Proceeds (after at_first (header_write true ∷ [])) blocks (log_with headed) headed layout (ended true)
-header_made = call_made blocks (log_with trimming) layout at_first trimming (posted 0) (starts blocks (log_with trimming) layout at_first trimming trims) (omega arith)
-    (header_write true) (ended true) (omega arith) refl (true, (λ x. x), refl)
-
-abbrev syncing : Opened
-syncing = record headed { done = 1 }
-
-sync_next : Proceeds (after at_first (header_write true ∷ [])) blocks (log_with syncing) syncing layout (posted 0)
-sync_next = stage_posted blocks (log_with headed) layout (after at_first (header_write true ∷ [])) headed (ended true) header_made (omega arith) 1 refl refl (omega arith)
-
-sync_failed : IsListed (after (after at_first (header_write true ∷ [])) (Sync false ∷ [])) blocks (log_with syncing)
-sync_failed = call_failed blocks (log_with syncing) layout (after at_first (header_write true ∷ [])) syncing (posted 0) sync_next (omega arith)
-    (Sync false) (header_full true) (omega arith) refl
