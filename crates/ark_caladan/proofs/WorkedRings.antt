@@ -108,7 +108,7 @@ unfolding blocks_in
 one_or_two = marker_is_found Log zero_block empty final_ring stored one is_final_ring lies payload has_room holds_final
 
 two_lie : LiesInRing Log 4 zero_block empty final (after_command one (append 2 payload))
-two_lie = entry_lies Log zero_block empty ring stored one is_ring lies payload has_room
+two_lie = entry_lies Log 4 zero_block empty stored one lies payload has_room
 
 -- a trim of the entry, and its header
 pub fits : CanFollow one (trim 2)
@@ -134,7 +134,7 @@ trimmed_found : found_of Log (trimmed_header ∷ ring) ≡ found (after_command 
 trimmed_found = dropped_is_found Log zero_block trimmed_header empty trimmed ring stored one (trim 2) is_ring lies fits (omega arith) header_after holds_zeroed
 
 none_lie : LiesInRing Log 4 trimmed_header trimmed [] (after_command one (trim 2))
-none_lie = rest_lies Log zero_block trimmed_header empty trimmed ring stored one (trim 2) is_ring lies fits (omega arith) header_after
+none_lie = rest_lies Log 4 zero_block trimmed_header empty trimmed stored one (trim 2) lies fits (omega arith) header_after
 
 zeros_ring : AreRingBlocks (replicate 4 zero_block)
 zeros_ring = record { whole = all_whole; some = omega arith }

@@ -1,4 +1,12 @@
 pub mod Chain
 pub mod Numbers
 pub mod Leaves
-pub mod Moving
+pub mod Views
+pub mod Stages
+pub mod Leading
+pub mod Plans
+pub mod Listed
+pub mod Open
+pub mod Repairing
+pub mod Standing
+pub mod Postings

@@ -1,9 +1,11 @@
-//! What a log and a queue mean: their lists, their commands, and what a stop may leave. These are definitions for contracts,
-//! and laws of them.
+//! What a log and a queue mean: their lists, their commands, the stages that carry a command out on its area, and what a stop may
+//! leave. These are definitions for contracts, and laws of them.
 #![tactic(auto)]
 
 mod laws;
-mod stops;
+mod open_logs;
 
-pub use laws::{append_leaves, command_laws, drop_leaves, list_laws, move_laws, opening_leaves};
-pub use stops::{deciding_stops, moving_laws, opening_stops, rest_stops, view_laws};
+pub use laws::{
+    append_leaves, command_laws, drop_leaves, list_laws, move_laws, opening_leaves, view_laws,
+};
+pub use open_logs::{buffer_laws, call_laws, log_laws, posting_laws, repair_laws, waiting_laws};

@@ -13,7 +13,7 @@ use Rattle.ark_entry.proofs.Entries.{blocks_hold, gap, spelling, length-spelling
 use Rattle.ark_entry.proofs.Readings.{some_block}
 use Rattle.ark_entry.proofs.Standing.{bytes_same}
 
-at_blocks : (n k : ℕ) (bytes : List ℕ) → k < n → at (blocks_in n bytes) k ≡ take 512 (drop (512 * k) bytes)
+pub at_blocks : (n k : ℕ) (bytes : List ℕ) → k < n → at (blocks_in n bytes) k ≡ take 512 (drop (512 * k) bytes)
 unfolding blocks_in
 at_blocks zero k bytes lt = absurd (omega arith)
 at_blocks (suc n) zero bytes lt = refl

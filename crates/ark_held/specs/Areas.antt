@@ -5,22 +5,16 @@ use Rattle.ark_base.specs.declared.kind.Kind.TheVariants as kind
 use Rattle.ark_media.specs.Journal.{History, block, current}
 use Rattle.ark_media.specs.Standing.{MayStand}
 use Rattle.ark_table.specs.Slots.{Slot}
-use Rattle.ark_entry.specs.Found.{found_of}
 use Rattle.ark_caps.specs.declared.capability.CapKind.TheVariants as cap_kind
 use Rattle.ark_caps.specs.declared.capability.Capability.{Capability}
 use Rattle.ark_region.specs.Frames.{Piece, LiesInRegion, bytes_of}
-use Rattle.ark_caladan.specs.Chain.{Log, Opened, Waiting, Command, append, trim, pop, stored, lists}
+use Rattle.ark_caladan.specs.Chain.{Log, Opened, Waiting, Command, append, trim, pop}
+pub use Rattle.ark_caladan.specs.Listed.{MayShow, OpensToLists, IsListed}
 use Rattle.ark_machine.specs.Objects.{Raw}
 use Rattle.ark_machine.specs.Bytes.{Frames}
-use Rattle.ark_machine.specs.Start.{contents_at}
 use Rattle.ark_held.specs.Words.{area_in}
 use Rattle.ark_held.specs.Kept.{BufferKept, ChainKept, CommandKept, appends, trims, pops, WaitingKept}
 use Rattle.ark_held.specs.Around.{Around, slot_at, Names, Each, Both}
-
--- a stop may leave these of blocks
-pub record MayShow (h : History) (blocks : List ℕ) (contents : List (List ℕ)) : Type 0 where
-  pub size : length contents ≡ length blocks
-  pub each : (k : ℕ) → k < length blocks → MayStand h (get_or blocks k 0) (get_or contents k [])
 
 -- the area's content is the current image at these blocks, and each content that a stop may leave of a block is one that the
 -- machine lists
@@ -38,16 +32,6 @@ pub record IsArea (x : Around) (l : List ℕ) (c : Capability) (r : Raw) : Type 
   pub there : slot_at x l ≡ Some slot
   pub raw : slot.kind ≡ kind.Raw
   pub fits : IsRaw x.history slot.blocks r
-
--- whatever a stop may leave of these blocks opens to one of the log's lists
-abbrev pub OpensToLists : History → List ℕ → Log → Type 0
-OpensToLists h blocks g = (contents : List (List ℕ)) → MayShow h blocks contents
-    → Contains (lists g) (found_of g.kind contents)
-
--- a log's stored list is found in its blocks, and whatever a stop may leave of them opens to one of its lists
-pub record IsListed (h : History) (blocks : List ℕ) (g : Log) : Type 0 where
-  pub now : found_of g.kind (contents_at (current h.base h.journal) blocks) ≡ stored g
-  pub left : OpensToLists h blocks g
 
 -- the bytes of so many frames
 abbrev pub frames_piece : Frames → Piece

@@ -2,17 +2,13 @@
 use Rattle.std.specs.Prelude.{ℕ, false, List, [], ◌∷◌, length, map, None, if◌then◌else◌, bytes_eq}
 use Rattle.ark_base.specs.declared.kind.Kind.{Kind}
 use Rattle.ark_base.specs.declared.kind.Kind.TheVariants as kind
-use Rattle.ark_media.specs.Journal.{block}
 use Rattle.ark_table.specs.Slots.{Slot}
 use Rattle.ark_entry.specs.Found.{found_of}
+pub use Rattle.ark_caladan.specs.Views.{contents_at}
 use Rattle.ark_machine.specs.Objects
 use Rattle.ark_machine.specs.Objects.{Object}
 use Rattle.ark_machine.specs.Machine.{Machine, unmade, with_new}
 use Rattle.ark_machine.specs.System.{System}
-
--- the blocks of an image at these numbers, in their order
-abbrev pub contents_at : List (List ℕ) → List ℕ → List (List ℕ)
-contents_at image blocks = map (λ n. block image n) blocks
 
 -- what an area of this kind holds: its blocks, or the list of a log or queue that is found in them
 abbrev pub stored_area : Kind → List (List ℕ) → Object

@@ -1,5 +1,0 @@
-use Rattle.ark_caladan.proofs.Stopped.{view_at, zeroed_view}
-use Rattle.ark_caladan.proofs.stops.view_laws.Goals as goal
-
-pub returns : goal.returns
-returns c = record { view_at = view_at; zeroed_view = zeroed_view }
