@@ -1,0 +1,4 @@
+pub mod Keeping
+pub mod OneSocket
+pub mod Pulling
+pub mod Short

@@ -1,0 +1,3 @@
+pub mod Socket
+pub mod Kept
+pub mod Received

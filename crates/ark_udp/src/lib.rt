@@ -1,0 +1,11 @@
+//! Sockets over a network card: datagrams that are kept until they are asked for, and datagrams that are sent.
+#![tactic(auto)]
+
+mod among;
+mod peer;
+mod receive;
+mod socket;
+mod sockets;
+
+pub use peer::Peer;
+pub use sockets::{BindFault, Sockets};
