@@ -1,4 +1,5 @@
 pub mod Keeping
 pub mod OneSocket
+pub mod Posting
 pub mod Pulling
 pub mod Short

@@ -4,8 +4,9 @@
 mod among;
 mod peer;
 mod receive;
+mod send;
 mod socket;
 mod sockets;
 
 pub use peer::Peer;
-pub use sockets::{BindFault, Sockets};
+pub use sockets::{BindFault, SendFault, Sockets};

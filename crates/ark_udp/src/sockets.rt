@@ -1,11 +1,12 @@
-ghost use Rattle.std.specs.Prelude.{◌≡◌, ◌≢◌, ◌≤◌, ◌↔◌, ◌++◌, ◌∷◌, [], true, false, not, length, map, nat_eq, option_map, slice_get, All, Err, IfOk, OnOk, OnErr, filter as select};
+ghost use Rattle.std.specs.Prelude.{◌≡◌, ◌≢◌, ◌≤◌, ◌<◌, ◌+◌, ◌↔◌, ◌++◌, ◌∷◌, [], true, false, not, length, map, nat_eq, option_map, slice_get, All, Err, IfOk, OnOk, OnErr, filter as select};
 ghost use Rattle.std.specs.List.{list_any};
 ghost use Rattle.ark_udp.specs.Socket as spec;
 ghost use Rattle.ark_udp.specs.Received.{IsReceived, all_received, frame_in, posted_again};
+ghost use Rattle.ark_udp.specs.Sent.{HasNoPlace, IsPosted, LiesIn, frame_from, reaped, space_reaped};
 
 use crate::peer::Peer;
 use crate::socket::Socket;
-use crate::{among, receive};
+use crate::{among, receive, send};
 use ark_base::Memory;
 use ark_packet::Own;
 use ark_region::Region;
@@ -16,6 +17,9 @@ use std::marker::Model;
 // A card has at most so many sockets.
 const SOCKETS: usize = 8;
 
+// The bytes of a datagram's frame before its payload.
+const FRAME_HEAD: u32 = 42;
+
 /// Why a socket was not made.
 #[derive(Clone, Copy, Debug, PartialEq, Eq)]
 pub enum BindFault {
@@ -25,6 +29,15 @@ pub enum BindFault {
     Limit,
     /// There was no memory.
     Memory,
+}
+
+/// Why a datagram was not posted to be sent.
+#[derive(Clone, Copy, Debug, PartialEq, Eq)]
+pub enum SendFault {
+    /// The transmit ring is full.
+    RingFull,
+    /// There is no place for its buffer.
+    NoBuffer,
 }
 
 /// The sockets of a network card, at most 8, each at a port, with the datagrams that it keeps, at most 8, oldest first. Contracts
@@ -80,7 +93,8 @@ impl Sockets {
         ensures taken { (result ≡ Err BindFault.Taken)
             ↔ (list_any (λ s. nat_eq s.port port) self.old ≡ true) }
         ensures limit { (result ≡ Err BindFault.Limit)
-            ↔ ((list_any (λ s. nat_eq s.port port) self.old ≡ false) × (length self.old ≡ 8)) }
+            ↔ ((list_any (λ s. nat_eq s.port port) self.old ≡ false)
+            × (length self.old ≡ 8)) }
         ensures err { OnErr result (self.new ≡ self.old) }
     {
         if among::has_port(&self.sockets, port) {
@@ -103,6 +117,43 @@ impl Sockets {
         ensures { self.new ≡ select (λ s. not (nat_eq s.port port)) self.old }
     {
         among::remove(&mut self.sockets, port);
+    }
+
+    /// Posts a datagram to be sent from a port of this end. First the transmit ring is reaped to its end, and those buffers are
+    /// given back; that stays done where the datagram is refused. `RingFull` comes exactly where the ring is full then, else
+    /// `NoBuffer` exactly where there is no place for a buffer of 42 bytes and the payload.
+    pub fn send_to(
+        &self,
+        vnic: &mut Vnic,
+        region: &mut Region,
+        own: &Own,
+        from_port: u16,
+        to: Peer,
+        payload: &[u8],
+    ) -> Result<(), SendFault>
+        requires short { length payload.now ≤ 1472 }
+        requires buffers { All (LiesIn region.old.taken) vnic.old.tx.unreaped }
+        ensures full { (result ≡ Err SendFault.RingFull)
+            ↔ (vnic.old.tx.size ≤ length vnic.old.tx.posted) }
+        ensures no_buffer { (result ≡ Err SendFault.NoBuffer)
+            ↔ ((length vnic.old.tx.posted < vnic.old.tx.size)
+            × HasNoPlace (space_reaped vnic.old.tx region.old).taken (42 + length payload.now)) }
+        ensures ok { OnOk result (IsPosted (frame_from own.now from_port to payload.now)
+            (space_reaped vnic.old.tx region.old) region.new (reaped vnic.old.tx) vnic.new.tx) }
+        ensures card { vnic.new ≡ record vnic.old { tx = vnic.new.tx } }
+        ensures err_card { OnErr result (vnic.new.tx ≡ reaped vnic.old.tx) }
+        ensures err_region { OnErr result (region.new ≡ space_reaped vnic.old.tx region.old) }
+    {
+        send::reap(vnic.tx_mut(), region);
+        if vnic.tx().is_full() {
+            return Err(SendFault::RingFull);
+        }
+        let Some(buf) = region.take(FRAME_HEAD + payload.len() as u32) else {
+            return Err(SendFault::NoBuffer);
+        };
+        send::write_frame(&buf, region, own, from_port, to, payload);
+        send::post(vnic.tx_mut(), buf);
+        Ok(())
     }
 
     /// Takes all frames that the card has received, oldest first, and posts each buffer again. A socket keeps the datagram of a
