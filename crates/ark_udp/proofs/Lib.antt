@@ -2,4 +2,5 @@ pub mod Keeping
 pub mod OneSocket
 pub mod Posting
 pub mod Pulling
+pub mod Reaping
 pub mod Short

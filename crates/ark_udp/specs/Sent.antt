@@ -53,3 +53,12 @@ pub record IsPosted (frame : List ℕ) (old new : Space) (before after : Queue) 
   pub bytes : bytes_of new buffer ≡ frame
   pub others : (a : Piece) → Apart buffer a → bytes_of new a ≡ bytes_of old a
   pub posted : after ≡ record before { posted = before.posted ++ sending buffer ∷ [] }
+
+abbrev pub in_front : Option Piece → List Piece → List Piece
+in_front None buffers = buffers
+in_front (Some b) buffers = b ∷ buffers
+
+-- the buffers of completions
+abbrev pub buffers_of : List Completion → List Piece
+buffers_of [] = []
+buffers_of (c ∷ cs) = in_front c.buf (buffers_of cs)

@@ -2,11 +2,13 @@
 #![tactic(auto)]
 
 mod among;
+mod laws;
 mod peer;
 mod receive;
 mod send;
 mod socket;
 mod sockets;
 
+pub use laws::reaping_laws;
 pub use peer::Peer;
 pub use sockets::{BindFault, SendFault, Sockets};

@@ -6,7 +6,7 @@ ghost use Rattle.ark_udp.specs.Received.{IsReceived};
 use crate::among;
 use crate::socket::Socket;
 use ark_packet::{Own, read_frame, read_udp};
-use ark_region::Region;
+use ark_region::{Buf, Region};
 use ark_vic::{Completion, Descriptor, Job, Ring};
 
 // Keeps the datagram of a frame, if there is one that can be taken, to the own address and the port of a socket with room.
@@ -36,10 +36,12 @@ fn frame_in<'a>(done: &Completion, region: &'a Region) -> &'a [u8]
     region.part(buf, 0, done.len as usize)
 }
 
-// Posts the buffer of a frame that was received again.
-fn post_again(ring: &mut Ring, done: Completion)
+// Posts a buffer for a frame to be received.
+fn post_buffer(ring: &mut Ring, tag: u32, buf: Option<Buf>)
     requires { members ring.old < ring.old.size }
-    ensures { ring.new ≡ record ring.old { posted = ring.old.posted ++ spec.again done ∷ [] } }
+    ensures { ring.new ≡ record ring.old {
+      posted = ring.old.posted ++ spec.receiving tag buf ∷ [];
+    } }
 {
     let receiving = Descriptor {
         job: Job::Receive,
@@ -49,8 +51,8 @@ fn post_again(ring: &mut Ring, done: Completion)
         wrap: 0,
         from: 0,
         len: 0,
-        tag: done.tag,
-        buf: done.buf,
+        tag,
+        buf,
     };
     let Ok(()) = ring.post(receiving) else {
         unreachable!();
@@ -69,6 +71,6 @@ pub(crate) fn pull(sockets: &mut [Socket], ring: &mut Ring, region: &Region, own
             return;
         };
         receive(sockets, own, frame_in(&done, region));
-        post_again(ring, done);
+        post_buffer(ring, done.tag, done.buf);
     }
 }

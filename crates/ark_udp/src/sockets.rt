@@ -141,6 +141,7 @@ impl Sockets {
         ensures ok { OnOk result (IsPosted (frame_from own.now from_port to payload.now)
             (space_reaped vnic.old.tx region.old) region.new (reaped vnic.old.tx) vnic.new.tx) }
         ensures card { vnic.new ≡ record vnic.old { tx = vnic.new.tx } }
+        ensures unreaped { vnic.new.tx.unreaped ≡ [] }
         ensures err_card { OnErr result (vnic.new.tx ≡ reaped vnic.old.tx) }
         ensures err_region { OnErr result (region.new ≡ space_reaped vnic.old.tx region.old) }
     {

@@ -37,8 +37,8 @@ receive-requires-clause-at_most c =
     let is = holds_first (IsReceived c.args.region.now.taken) c.loop.ring.unreaped c.in-Some.done (sym c.reap.ensures.value ∙ c.in-Some.is) c.loop.invariant.sound in
     let most = is.at_most in let len = c.frame_in.ensures.len in omega (arith, most, len)
 
-pub post_again-requires : goal.post_again-requires
-post_again-requires c =
+pub post_buffer-requires : goal.post_buffer-requires
+post_buffer-requires c =
     let one = ap length (first_of c.loop.ring.unreaped c.in-Some.done (sym c.reap.ensures.value ∙ c.in-Some.is)) in
     let posted = ap (λ q. length q.posted) c.reap.ensures.rest in
     let unreaped = ap (λ q. length q.unreaped) c.reap.ensures.rest in
@@ -52,8 +52,8 @@ loop-preserved c =
     let done = c.in-Some.done in
     let first = sym c.reap.ensures.value ∙ c.in-Some.is in
     let one = ap length (first_of q.unreaped done first) in
-    let left : c.post_again.new.ring ≡ record q { posted = q.posted ++ again done ∷ []; unreaped = drop 1 q.unreaped } =
-    c.post_again.ensures ∙ ap (with_again done) c.reap.ensures.rest in
+    let left : c.post_buffer.new.ring ≡ record q { posted = q.posted ++ again done ∷ []; unreaped = drop 1 q.unreaped } =
+    c.post_buffer.ensures ∙ ap (with_again done) c.reap.ensures.rest in
     let unreaped = ap (λ x. length x.unreaped) left in
     let posted = ap (λ x. length x.posted) left in
     let size = ap (λ x. x.size) left in record {
