@@ -1,0 +1,4 @@
+pub mod Socket
+pub mod Kept
+pub mod Received
+pub mod Sent

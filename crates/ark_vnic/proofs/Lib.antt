@@ -1,0 +1,3 @@
+pub mod Passing
+pub mod Arriving
+pub mod LettingOut

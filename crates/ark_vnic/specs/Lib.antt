@@ -1,0 +1,5 @@
+pub mod Card
+pub mod Arrivals
+pub mod Sending
+pub mod LetOut
+pub mod Lending
