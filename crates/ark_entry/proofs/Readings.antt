@@ -36,7 +36,7 @@ module _ (ring : List (List ℕ)) (start : ℕ) (whole : AreWhole ring) (some : 
   behind : (u k : ℕ) → (at u + k) % length ring ≡ (start + u + k) % length ring
   behind u k = mod-add-mod (start + u) (length ring) k
 
-  last_place : (u len : ℕ) → (at u + entry_blocks len - 1) % length ring ≡ at (u + entry_blocks len - 1)
+  pub last_place : (u len : ℕ) → (at u + entry_blocks len - 1) % length ring ≡ at (u + entry_blocks len - 1)
   last_place u len =
       let b : 1 ≤ entry_blocks len = some_block len in
       let e : at u + entry_blocks len - 1 ≡ at u + (entry_blocks len - 1) = omega (arith, b) in
@@ -46,7 +46,7 @@ module _ (ring : List (List ℕ)) (start : ℕ) (whole : AreWhole ring) (some : 
   content_is : (u len : ℕ) → payload_at ring (at u) len ≡ slice_range (bytes_from (reading ring start) u (entry_blocks len)) 20 (20 + len)
   content_is u len = ap (λ t. slice_range t 20 (20 + len)) (bytes_read ring start (at u) u (entry_blocks len) (mod-mod (start + u) (length ring)))
 
-  length-payload_at : (u len : ℕ) → length (payload_at ring (at u) len) ≡ len
+  pub length-payload_at : (u len : ℕ) → length (payload_at ring (at u) len) ≡ len
   length-payload_at u len =
       let hold : 28 + len ≤ 512 * entry_blocks len = (blocks_hold len).0 in
       let all : length (ring_bytes ring (at u) (entry_blocks len)) ≡ 512 * entry_blocks len = length-ring_bytes ring (at u) (entry_blocks len) whole some in

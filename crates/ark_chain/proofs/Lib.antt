@@ -1,0 +1,6 @@
+pub mod Heads
+pub mod Places
+pub mod Looking
+pub mod Nexts
+pub mod Walked
+pub mod Finding
