@@ -1,5 +1,5 @@
 -- What stays where a word changes a buffer, its label and the application's memory, and nothing else that objects are compared with.
-use Rattle.std.proofs.Common.{◌≡◌, ℕ, Bool, true, List, length, refl, ◌∙◌, ap, arith, nat_eq}
+use Rattle.std.proofs.Common.{◌≡◌, ℕ, Bool, true, List, length, refl, sym, ◌∙◌, ap, arith, nat_eq}
 use Rattle.std.specs.Prelude.{Option, Some, None, option_map, slice_get}
 use Rattle.std.specs.Map.{lookup}
 use Rattle.ark_caps.specs.Labels.{value_at}
@@ -19,6 +19,7 @@ use Rattle.ark_held.specs.Keeps.{Keeps}
 use Rattle.ark_held.specs.Beyond.{Beyond, around}
 use Rattle.ark_held.specs.declared.app.App.{App}
 use Rattle.ark_held.proofs.Lists.{not_some}
+use Rattle.ark_held.proofs.Spreading.{spread_same}
 use Rattle.ark_held.proofs.Besides.{same_history}
 use Rattle.ark_held.proofs.Finding.{stands_at}
 
@@ -31,12 +32,15 @@ module _ (r : Beyond) (app app1 : App) (numbers : List ℕ) (machine : Machine) 
     (areas : app1.areas ≡ app.areas) (counts : CountsSame r.machine machine) where
   pub buffers_keep : ((i n : ℕ) → slice_get r.numbers i ≡ Some n → slice_get numbers i ≡ Some n) → length app1.store.region.taken ≡ length app.store.region.taken
       → ((p : Piece) → rests p → bytes_of app1.store.region p ≡ bytes_of app.store.region p) → ((k : List ℕ) (c : Capability) → named k ≡ true → value_at app.labels k ≡ Some c → value_at app1.labels k ≡ Some c)
+      → ((k : List ℕ) (c : Capability) (i : ℕ) → value_at app1.labels k ≡ Some c → slice_get r.numbers i ≡ Some c.grant → value_at app.labels k ≡ Some c)
       → Keeps same named rests (around r app) (around (record r { numbers = numbers; machine = machine }) app1)
-  buffers_keep grown frames bytes labels = record {
+  buffers_keep grown frames bytes labels granted = record {
     now = omega arith;
     numbers = grown;
     frames = frames;
     bytes = bytes;
+    granted = granted;
+    spread = λ i g a old is. spread_same app.areas g a (ap (λ (es : AreaList). lookup (nat_eq g) es) (sym areas) ∙ is);
     labels = labels;
     places = λ k c among is kind. ap (λ (o : Option BufferKept). option_map (λ z. z.piece) o) (entries k c among is kind);
     logs = λ k c among is kind. refl;

@@ -13,7 +13,7 @@ use Rattle.ark_held.proofs.Lists.{by_test, same_name, not_some, some_same}
 
 -- Under one label.
 
-matches_at : (x : Around) (p : List ℕ × Capability) (h : Held) (l : List ℕ) → p.0 ≡ l → Matches x p h → Matches x (l, p.1) h
+pub matches_at : (x : Around) (p : List ℕ × Capability) (h : Held) (l : List ℕ) → p.0 ≡ l → Matches x p h → Matches x (l, p.1) h
 matches_at x p h l same m = record { label = m.label ∙ same; serial = m.serial; object = subst (λ (k : List ℕ). IsObjectOf x k p.1 h.object) same m.object }
 
 pub found : (x : Around) (l : List ℕ) (ps : Labels) (hs : List Held) → AllMatch x ps hs → AtLabel x l (value_at ps l) (find (λ h. bytes_eq l h.label) hs)

@@ -30,7 +30,7 @@ use Rattle.ark_held.proofs.Covering.{in_total, found_in}
 use Rattle.ark_held.proofs.Creating.{but}
 use Rattle.ark_held.proofs.Granted.{not_but}
 use Rattle.ark_held.proofs.Lending.{narrowed}
-use Rattle.ark_held.proofs.Removing.{others_value, others_areas, total_others, removed}
+use Rattle.ark_held.proofs.Removing.{others_value, others_was, others_areas, total_others, removed}
 use Rattle.ark_held.proofs.Staying.{within}
 use Rattle.ark_held.proofs.Taking.{given_bit}
 use Rattle.ark_held.proofs.Doing.{comes}
@@ -59,6 +59,7 @@ module _ (r : Beyond) (app app1 : App) (l : List ℕ) (key : ℕ) (h : Holds (ar
   keeps = buffers_keep r app app1 r.numbers (without r.machine l) (but l) (but l) any_piece (λ k stays. stays) same_key areas counts
       (λ i n is. is) gave.frames (λ p rests. ap (λ (bs : List ℕ). slice_range bs (512 * p.start) (512 * p.start + p.len)) gave.bytes)
       (λ k c named is. ap (λ (ls : Labels). value_at ls k) labels ∙ others_value l k app.labels (not_but l k named) ∙ is)
+      (λ k c i is old. others_was l k c app.labels (ap (λ (ls : Labels). value_at ls k) (sym labels) ∙ is))
 
   kind_is : is_area_cap (value_at app.labels l) ≡ false
   kind_is = ap is_area_cap b.label ∙ ap is_area b.fits.its_kind
