@@ -45,7 +45,8 @@ module _ (r : Beyond) (app app1 : App) (l : List ℕ) (b : Buffer) (held : Held)
   place : piece_of b ≡ piece_of now
   place = ap (λ n. record { start = b.start; len = n }) (sym long)
 
-  module _ (wrote : Wrote app.store.region app1.store.region (piece_of b) off bytes) (buffers : app1.store.buffers ≡ app.store.buffers) (labels : app1.labels ≡ app.labels) (areas : app1.areas ≡ app.areas) where
+  module _ (wrote : Wrote app.store.region app1.store.region (piece_of b) off bytes) (buffers : app1.store.buffers ≡ app.store.buffers) (labels : app1.labels ≡ app.labels) (areas : app1.areas ≡ app.areas)
+      (devices : app1.devices ≡ app.devices) where
     entries : (key : ℕ) → buffer_kept app1.store.buffers key ≡ buffer_kept app.store.buffers key
     entries key = ap (λ (bs : List (Option kept.Buffer)). buffer_kept bs key) buffers
 
@@ -53,7 +54,7 @@ module _ (r : Beyond) (app app1 : App) (l : List ℕ) (b : Buffer) (held : Held)
     counts f none = same_put x h l (Objects.buffer now) held f there (ap f object ∙ none b ∙ sym (none now))
 
     keeps : Keeps (but l) any_label (Apart (piece_of b)) x y
-    keeps = buffers_keep r app app1 r.numbers (with_object r.machine l (Objects.buffer now)) (but l) any_label (Apart (piece_of b)) (λ k stays. refl) (λ k c among is kind. entries c.key) areas counts
+    keeps = buffers_keep r app app1 r.numbers (with_object r.machine l (Objects.buffer now)) (but l) any_label (Apart (piece_of b)) (λ k stays. refl) (λ k c among is kind. entries c.key) areas devices counts
         (λ i n is. is) (ap (λ (t : List Bool). length t) wrote.taken) (λ p rests. wrote.others p rests) (λ k c among is. ap (λ (ls : Labels). value_at ls k) labels ∙ is)
 
     its : (c : Capability) → IsBuffer x l c b → IsBuffer y l c now
