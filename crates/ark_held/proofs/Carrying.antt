@@ -27,7 +27,8 @@ use Rattle.ark_held.specs.Around.{Around, blocks_under}
 use Rattle.ark_held.specs.Kept.{CardKept, PaceKept}
 use Rattle.ark_held.specs.Does.{LogsAtFronts}
 use Rattle.ark_held.specs.Held.{Holds}
-use Rattle.ark_held.specs.Moving.{card_of, blocks_held, card_moved, pace_moved, said_of, Sets, RingsAt}
+use Rattle.ark_held.specs.Moving.{card_of, blocks_held, card_moved, pace_moved, said_of}
+use Rattle.ark_held.specs.Ringing.{Sets, RingsAt}
 use Rattle.ark_held.proofs.Ending.{OnCard, stays, ends_so}
 use Rattle.ark_held.proofs.Fronts.{logs_still}
 use Rattle.ark_held.proofs.MoveRows.{ended_by}

@@ -15,7 +15,7 @@ use Rattle.ark_held.specs.Around.{Around}
 use Rattle.ark_held.specs.Cards.{IsCard}
 use Rattle.ark_held.specs.Held.{Holds, has_key}
 use Rattle.ark_held.specs.Keeps.{Keeps, any_label, any_piece}
-use Rattle.ark_held.specs.Moving.{Sets}
+use Rattle.ark_held.specs.Ringing.{Sets}
 use Rattle.ark_held.proofs.Lists.{by_test, same_name, other_name, some_same}
 use Rattle.ark_held.proofs.Besides.{same_history}
 use Rattle.ark_held.proofs.Changing.{changed, same_put}

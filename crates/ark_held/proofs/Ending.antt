@@ -24,7 +24,7 @@ use Rattle.ark_held.specs.Around.{Around, Each, Both}
 use Rattle.ark_held.specs.Cards.{IsCard, IsJob, IsEnded, IsPaced, IsWatched}
 use Rattle.ark_held.specs.Held.{IsObjectOf, AllMatch, AreDistinctLabels, Holds}
 use Rattle.ark_held.specs.Keeps.{Keeps, Within, JobWithin, any_label, any_piece}
-use Rattle.ark_held.specs.Moving.{Sets, Rings}
+use Rattle.ark_held.specs.Ringing.{Sets, Rings}
 use Rattle.ark_held.proofs.Lists.{by_test, same_name, some_same, total_last, each_kept}
 use Rattle.ark_held.proofs.Changing.{put_at, none_put}
 use Rattle.ark_held.proofs.Creating.{but}

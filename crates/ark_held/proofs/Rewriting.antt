@@ -21,6 +21,7 @@ use Rattle.ark_held.specs.Keeps.{Keeps, any_label}
 use Rattle.ark_held.specs.Beyond.{Beyond, around, tables_of}
 use Rattle.ark_held.specs.declared.app.App.{App}
 use Rattle.ark_held.specs.declared.buffer.Buffer as kept
+use Rattle.ark_held.specs.declared.devices.Devices.{Devices}
 use Rattle.ark_held.proofs.Besides.{same_history}
 use Rattle.ark_held.proofs.Buffers.{CountsSame}
 use Rattle.ark_held.proofs.Creating.{but}
@@ -110,11 +111,13 @@ module _ (x : Around) (l : List ℕ) (b : Buffer) (held : Held) (off : ℕ) (byt
 
 -- the same of an application's memory
 pub rewritten : (r : Beyond) (app app1 : App) (l : List ℕ) (b : Buffer) (held : Held) (off : ℕ) (bytes : List ℕ) → off + length bytes ≤ length b.bytes → Holds (around r app) → at r.machine l ≡ Some held → held.object ≡ Objects.buffer b
-    → Wrote app.store.region app1.store.region (piece_of b) off bytes → app1.store.buffers ≡ app.store.buffers → app1.labels ≡ app.labels → app1.areas ≡ app.areas
+    → Wrote app.store.region app1.store.region (piece_of b) off bytes → app1.store.buffers ≡ app.store.buffers → app1.labels ≡ app.labels → app1.areas ≡ app.areas → app1.devices ≡ app.devices
     → Holds (around (record r { machine = with_object r.machine l (Objects.buffer (with_written b off bytes)) }) app1)
-rewritten r app app1 l b held off bytes fits h there object wrote buffers labels areas =
+rewritten r app app1 l b held off bytes fits h there object wrote buffers labels areas devices =
     let z : Around = around (record r { machine = with_object r.machine l (Objects.buffer (with_written b off bytes)) }) app1 in
-    let same : tables_of app1.store ≡ record (tables_of app.store) { memory = app1.store.region } = ap (λ (bs : List (Option kept.Buffer)). record (tables_of app.store) { memory = app1.store.region; buffers = buffer_kept bs }) buffers in
+    let same : tables_of app1.store app1.devices ≡ record (tables_of app.store app.devices) { memory = app1.store.region } =
+    ap (λ (bs : List (Option kept.Buffer)). record (tables_of app.store app1.devices) { memory = app1.store.region; buffers = buffer_kept bs }) buffers
+    ∙ ap (λ (d : Devices). record (tables_of app.store d) { memory = app1.store.region }) devices in
     subst (λ (ls : Labels). Holds (record z { labels = ls })) (sym labels)
     (subst (λ (es : AreaList). Holds (record z { labels = app.labels; areas = es })) (sym areas)
     (subst (λ (t : Tables). Holds (record z { labels = app.labels; areas = app.areas; tables = t })) (sym same)

@@ -27,7 +27,8 @@ use Rattle.ark_held.specs.Around.{Around, Both}
 use Rattle.ark_held.specs.Cards.{IsPaced}
 use Rattle.ark_held.specs.Kept.{CardKept, PaceKept}
 use Rattle.ark_held.specs.Held.{Holds}
-use Rattle.ark_held.specs.Moving.{with_pass, said_of, Sets, Rings, RingsAt}
+use Rattle.ark_held.specs.Moving.{with_pass, said_of}
+use Rattle.ark_held.specs.Ringing.{Sets, Rings, RingsAt}
 use Rattle.ark_held.proofs.Dues.{fill_same}
 use Rattle.ark_held.proofs.Ending.{OnCard, on_card, moves_on, ends_so}
 use Rattle.ark_held.proofs.Carrying.{carried}

@@ -1,11 +1,13 @@
 -- Moves of the storage cards that an application keeps.
-use Rattle.std.specs.Prelude.{◌≡◌, ℕ, map, Option, Some, None, option_map}
+use Rattle.std.specs.Prelude.{ℕ, List, map, Option, Some, None, option_map, nat_eq}
+use Rattle.std.specs.Map.{lookup}
 use Rattle.ark_vic.specs.Bells.{one_more}
+use Rattle.ark_vic.specs.declared.descriptor.Descriptor.{Descriptor}
 use Rattle.ark_vic.specs.Pace.{with_fill}
 use Rattle.ark_vic.specs.declared.door.Bell.TheVariants as bell
 use Rattle.ark_vic.specs.declared.door.Counts.{Counts}
 use Rattle.ark_vsic.specs.Card.{Card, Areas}
-use Rattle.ark_vsic.specs.Moves.{ring_after}
+use Rattle.ark_vsic.specs.Moves.{due_of, pace_after, ring_after}
 use Rattle.ark_vsic.specs.declared.due.Due.{Due}
 use Rattle.ark_vsic.specs.declared.due.Due.TheVariants as due
 use Rattle.ark_vsic.specs.declared.due.Moved.{Moved}
@@ -13,6 +15,7 @@ use Rattle.ark_vsic.specs.declared.due.Moved.TheVariants as moved
 use Rattle.ark_script.specs.declared.said.Said.{Said}
 use Rattle.ark_script.specs.declared.said.Said.TheVariants as said
 use Rattle.ark_held.specs.Words.{AreaList}
+use Rattle.ark_held.specs.declared.areas.Area.{Area}
 use Rattle.ark_held.specs.Kept.{PaceKept, CardKept}
 
 -- the card itself, without what else its application has to do with it
@@ -42,17 +45,22 @@ said_of moved.Held = said.Held
 said_of moved.Block = said.Moved
 said_of (moved.Done o) = said.Done o
 
--- this key has this now, and each other one what it had
-pub record Sets {X : Type 0} (key : ℕ) (now : X) (old new : ℕ → Option X) : Type 0 where
-  pub here : new key ≡ Some now
-  pub others : (k : ℕ) → (k ≡ key → ⊥) → new k ≡ old k
+-- a card itself after a move with this answer
+abbrev pub vsic_moved : Card → Areas → ℕ → Moved → Card
+vsic_moved v held now answer = record { ring = ring_after v.ring answer; bound = v.bound; pace = pace_after v.pace (due_of v held now) now }
 
--- the bell of a card rang once more at the door that watches it, if one does
-abbrev pub Rings : Option ℕ → (ℕ → Option Counts) → (ℕ → Option Counts) → Type 0
-Rings None old new = new ≡ old
-Rings (Some key) old new = (counts : Counts) × (old key ≡ Some counts) × Sets key (one_more counts bell.Io) old new
+-- a card that nothing paces, and what it does next at any tick
+abbrev pub unpaced : Card → Card
+unpaced v = record v { pace = None }
 
--- a descriptor that has ended rings
-abbrev pub RingsAt : Moved → Option ℕ → (ℕ → Option Counts) → (ℕ → Option Counts) → Type 0
-RingsAt (moved.Done o) door old new = Rings door old new
-RingsAt _ door old new = new ≡ old
+abbrev pub due_alone : Card → AreaList → Due
+due_alone v areas = due_of (unpaced v) (blocks_held areas) 0
+
+-- the area of a descriptor's grant, if it is held
+abbrev pub area_of_grant : ℕ → Option Area → Option (ℕ × List ℕ)
+area_of_grant grant None = None
+area_of_grant grant (Some a) = Some (grant, a.spans)
+
+abbrev pub area_named : Option Descriptor → AreaList → Option (ℕ × List ℕ)
+area_named None areas = None
+area_named (Some d) areas = area_of_grant d.grant (lookup (nat_eq d.grant) areas)

@@ -1,0 +1,33 @@
+-- The storage cards of an application, by key, and their descriptors.
+use Rattle.std.specs.Prelude.{◌≡◌, ℕ, Bool, List, [], length, Option, Some, option_map, IfSome, Contains}
+use Rattle.ark_objects.specs.Held.{at}
+use Rattle.ark_vic.specs.Queue.{Queue}
+use Rattle.ark_vic.specs.declared.descriptor.Descriptor.{Descriptor}
+use Rattle.ark_vsic.specs.Card.{head_of}
+use Rattle.ark_vsic.specs.Moves.{CanMove}
+use Rattle.ark_held.specs.Kept.{CardKept}
+use Rattle.ark_held.specs.declared.card.StorageCard.{StorageCard}
+
+-- what a table keeps of a card
+abbrev pub kept_card : StorageCard → CardKept
+kept_card c = record {
+  ring = c.vsic.ring;
+  bound = c.vsic.bound;
+  pace = option_map (λ p. record { rate = c.rate; pace = p }) c.vsic.pace;
+  door = c.door;
+  log = c.log;
+}
+
+abbrev pub card_kept : List (Option StorageCard) → ℕ → Option CardKept
+card_kept cards key = option_map kept_card (at cards key)
+
+-- In a memory of these frames the oldest descriptor's next block can be moved, and the first one of each descriptor.
+pub record IsSoundRing (taken : List Bool) (q : Queue) : Type 0 where
+  pub oldest : IfSome (head_of q) (λ d. CanMove taken q.moved d)
+  pub each : (d : Descriptor) → Contains q.posted d → CanMove taken 0 d
+  pub none : q.posted ≡ [] → q.moved ≡ 0
+
+-- the ring of each card, in a memory of so many frames
+abbrev pub AreSound : ℕ → List (Option StorageCard) → Type 0
+AreSound frames cards = (taken : List Bool) → length taken ≡ frames
+    → (key : ℕ) (c : StorageCard) → at cards key ≡ Some c → IsSoundRing taken c.vsic.ring
