@@ -16,8 +16,9 @@ use Rattle.ark_machine.specs.Objects
 use Rattle.ark_machine.specs.Objects.{Object, Job, transfer, flush, phase, Place, named as in_buffer, taken, Paced}
 use Rattle.ark_machine.specs.Machine.{Machine, Held}
 use Rattle.ark_machine.specs.Buffers.{is_lent, has_buffer, job_has, place_has}
+use Rattle.ark_machine.specs.Control.{has_log, is_open_on}
 use Rattle.ark_held.specs.Words.{Labels}
-use Rattle.ark_held.specs.Totals.{bit, total, uses, lent_count}
+use Rattle.ark_held.specs.Totals.{bit, total, uses, lent_count, open_count}
 use Rattle.ark_held.specs.Kept.{PaceKept, ChainKept}
 use Rattle.ark_held.specs.Around.{Around, Names, IsGranted, Each, Both}
 use Rattle.ark_held.specs.Areas.{IsOpened}
@@ -66,6 +67,10 @@ uses_is l (Objects.socket z) = refl
 -- a buffer is lent where a descriptor has it
 pub lent_is : (m : Machine) (l : List ℕ) (b : Bool) → bit b ≡ lent_count m l → is_lent m l ≡ b
 lent_is m l b is = any_is (λ h. has_buffer l h.object) (λ h. uses l h.object) (λ h. uses_is l h.object) m.held ∙ ap (λ n. nat_lt 0 n) (sym is) ∙ bit_some b
+
+-- a log is open on a card where one says so
+pub log_is : (m : Machine) (l : List ℕ) (b : Bool) → bit b ≡ open_count m l → has_log m l ≡ b
+log_is m l b is = any_bit (λ h. is_open_on l h.object) m.held ∙ ap (λ n. nat_lt 0 n) (sym is) ∙ bit_some b
 
 -- Nothing has a buffer under a label that is not there.
 

@@ -1,9 +1,9 @@
 -- The storage cards of an application, by key, and their descriptors.
-use Rattle.std.specs.Prelude.{◌≡◌, ℕ, Bool, List, [], length, Option, Some, option_map, IfSome, Contains}
+use Rattle.std.specs.Prelude.{◌≡◌, ℕ, Bool, List, [], length, Option, Some, None, option_map, IfSome, Contains}
 use Rattle.ark_objects.specs.Held.{at}
 use Rattle.ark_vic.specs.Queue.{Queue}
 use Rattle.ark_vic.specs.declared.descriptor.Descriptor.{Descriptor}
-use Rattle.ark_vsic.specs.Card.{head_of}
+use Rattle.ark_vsic.specs.Card.{Card, head_of}
 use Rattle.ark_vsic.specs.Moves.{CanMove}
 use Rattle.ark_held.specs.Kept.{CardKept}
 use Rattle.ark_held.specs.declared.card.StorageCard.{StorageCard}
@@ -31,3 +31,11 @@ pub record IsSoundRing (taken : List Bool) (q : Queue) : Type 0 where
 abbrev pub AreSound : ℕ → List (Option StorageCard) → Type 0
 AreSound frames cards = (taken : List Bool) → length taken ≡ frames
     → (key : ℕ) (c : StorageCard) → at cards key ≡ Some c → IsSoundRing taken c.vsic.ring
+
+-- a ring for so many descriptors, of which there is none
+abbrev pub no_ring : ℕ → Queue
+no_ring size = record { posted = []; unreaped = []; moved = 0; size = size }
+
+-- a card that nothing watches, and on which no log is open
+abbrev pub new_card : Card → StorageCard
+new_card vsic = record { vsic = vsic; rate = 0; door = None; log = None }

@@ -1,11 +1,13 @@
-ghost use Rattle.std.specs.Prelude.{◌≡◌, IfOk};
-ghost use Rattle.ark_objects.specs.Held.{held};
-ghost use Rattle.ark_held.specs.Rings.{AreSound};
+ghost use Rattle.std.specs.Prelude.{◌≡◌, ◌<◌, ◌+◌, [], None, Some, IfOk, IfSome};
+ghost use Rattle.ark_objects.specs.Held.{Changes, at, held};
+ghost use Rattle.ark_vic.specs.Bells.{counts_of};
+ghost use Rattle.ark_held.specs.Rings.{AreSound, new_card, no_ring};
 
 use crate::card::StorageCard;
 use ark_base::Memory;
 use ark_objects::Objects;
-use ark_vic::Door;
+use ark_vic::{Counts, Door};
+use ark_vsic::Vsic;
 use std::alloc::Global;
 
 /// The storage cards and the doors of an application, by key.
@@ -33,5 +35,37 @@ impl Devices {
             doors,
             frames,
         })
+    }
+
+    /// Keeps a card with an empty ring; its key.
+    pub fn add_card(&mut self, vsic: Vsic) -> u32
+        requires room { held self.old.cards < 64 }
+        requires empty { vsic.ring ≡ no_ring vsic.ring.size }
+        ensures vacant { at self.old.cards result ≡ None }
+        ensures changes { Changes self.old.cards self.new.cards result (Some (new_card vsic)) }
+        ensures more { held self.new.cards ≡ held self.old.cards + 1 }
+        ensures doors { self.new.doors ≡ self.old.doors }
+        ensures frames { self.new.frames ≡ self.old.frames }
+    {
+        self.cards.put(StorageCard {
+            vsic,
+            rate: 0,
+            door: None,
+            log: None,
+        })
+    }
+
+    /// The rings of the door of a key since the last look, which starts to count anew; `None` exactly where there is no such
+    /// door.
+    pub fn look(&mut self, key: u32) -> Option<Counts>
+        ensures counts { result ≡ at self.old.doors key }
+        ensures anew { IfSome result
+            (λ counts. Changes self.old.doors self.new.doors key (Some (counts_of []))) }
+        ensures held { held self.new.doors ≡ held self.old.doors }
+        ensures cards { self.new.cards ≡ self.old.cards }
+        ensures frames { self.new.frames ≡ self.old.frames }
+    {
+        self.doors.at(key)?;
+        Some(self.doors.at_mut(key).look())
     }
 }

@@ -20,6 +20,7 @@ use Rattle.ark_host.specs.Time.{Counts, CountsLine}
 abbrev pub has_built : Group → Bool
 has_built group.Control = true
 has_built group.Memory = true
+has_built group.Rates = true
 has_built _ = false
 
 -- no word of any other group is
@@ -34,15 +35,24 @@ unbuilt_group (w.fill a b off bytes) none = absurd (false≢true (sym none))
 unbuilt_group (w.copy a b c len) none = absurd (false≢true (sym none))
 unbuilt_group (w.free a b) none = absurd (false≢true (sym none))
 unbuilt_group (w.tick n) none = absurd (false≢true (sym none))
+unbuilt_group (w.door a d) none = absurd (false≢true (sym none))
+unbuilt_group (w.look a d) none = absurd (false≢true (sym none))
 unbuilt_group _ none = refl
 
-pub other_group : (g : Group) → (g ≡ group.Control → ⊥) → (g ≡ group.Memory → ⊥) → has_built g ≡ false
-other_group group.Control no_control no_memory = absurd (no_control refl)
-other_group group.Memory no_control no_memory = absurd (no_memory refl)
-other_group _ no_control no_memory = refl
+pub other_group : (g : Group) → (g ≡ group.Control → ⊥) → (g ≡ group.Memory → ⊥) → (g ≡ group.Rates → ⊥) → has_built g ≡ false
+other_group group.Control no_control no_memory no_rates = absurd (no_control refl)
+other_group group.Memory no_control no_memory no_rates = absurd (no_memory refl)
+other_group group.Rates no_control no_memory no_rates = absurd (no_rates refl)
+other_group _ no_control no_memory no_rates = refl
 
 two_groups : group.Control ≡ group.Memory → ⊥
 two_groups h = cc
+
+no_rates_control : group.Rates ≡ group.Control → ⊥
+no_rates_control h = cc
+
+no_rates_memory : group.Rates ≡ group.Memory → ⊥
+no_rates_memory h = cc
 
 -- the words about applications, areas and time that are not built
 pub unbuilt_control : (x : Step) → (attributes (line_of x)).group ≡ group.Control
@@ -58,6 +68,8 @@ unbuilt_control (step.Show a l off n) about no_app no_vsa no_tick = absurd (two_
 unbuilt_control (step.Fill a l off hex) about no_app no_vsa no_tick = absurd (two_groups (sym about))
 unbuilt_control (step.Copy a l m n) about no_app no_vsa no_tick = absurd (two_groups (sym about))
 unbuilt_control (step.Free a l) about no_app no_vsa no_tick = absurd (two_groups (sym about))
+unbuilt_control (step.Door a d) about no_app no_vsa no_tick = absurd (no_rates_control about)
+unbuilt_control (step.Look a d) about no_app no_vsa no_tick = absurd (no_rates_control about)
 unbuilt_control _ about no_app no_vsa no_tick = refl
 
 -- each word about blocks and buffers is built
@@ -75,7 +87,25 @@ all_memory (step.Free a l) about no_peek no_poke no_buf no_show no_fill no_copy 
 all_memory (step.App a frames) about no_peek no_poke no_buf no_show no_fill no_copy no_free = absurd (two_groups about)
 all_memory (step.Vsa a l n k) about no_peek no_poke no_buf no_show no_fill no_copy no_free = absurd (two_groups about)
 all_memory (step.Tick n) about no_peek no_poke no_buf no_show no_fill no_copy no_free = absurd (two_groups about)
+all_memory (step.Door a d) about no_peek no_poke no_buf no_show no_fill no_copy no_free = absurd (no_rates_memory about)
+all_memory (step.Look a d) about no_peek no_poke no_buf no_show no_fill no_copy no_free = absurd (no_rates_memory about)
 all_memory _ about no_peek no_poke no_buf no_show no_fill no_copy no_free = refl
+
+-- the words about rates and doors that are not built
+pub unbuilt_rates : (x : Step) → (attributes (line_of x)).group ≡ group.Rates → ((a d : List ℕ) → x ≡ step.Door a d → ⊥) → ((a d : List ℕ) → x ≡ step.Look a d → ⊥) → is_built (line_of x) ≡ false
+unbuilt_rates (step.Door a d) about no_door no_look = absurd (no_door a d refl)
+unbuilt_rates (step.Look a d) about no_door no_look = absurd (no_look a d refl)
+unbuilt_rates (step.App a frames) about no_door no_look = absurd (no_rates_control (sym about))
+unbuilt_rates (step.Vsa a l n k) about no_door no_look = absurd (no_rates_control (sym about))
+unbuilt_rates (step.Tick n) about no_door no_look = absurd (no_rates_control (sym about))
+unbuilt_rates (step.Peek a l off) about no_door no_look = absurd (no_rates_memory (sym about))
+unbuilt_rates (step.Poke a l off hex) about no_door no_look = absurd (no_rates_memory (sym about))
+unbuilt_rates (step.Buf a l n) about no_door no_look = absurd (no_rates_memory (sym about))
+unbuilt_rates (step.Show a l off n) about no_door no_look = absurd (no_rates_memory (sym about))
+unbuilt_rates (step.Fill a l off hex) about no_door no_look = absurd (no_rates_memory (sym about))
+unbuilt_rates (step.Copy a l m n) about no_door no_look = absurd (no_rates_memory (sym about))
+unbuilt_rates (step.Free a l) about no_door no_look = absurd (no_rates_memory (sym about))
+unbuilt_rates _ about no_door no_look = refl
 
 -- a word's counts are those of a line
 pub counted : (old now : Host) (ticks most : ℕ) → ticks ≤ a_billion → most ≤ 1 → Counts old now ticks most → CountsLine old now

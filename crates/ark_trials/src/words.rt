@@ -67,7 +67,7 @@ run,--new,200,d => ready 200 0
 vsa a s 8 log => refused 2 unknown word
 
 run,--new,200,d => ready 200 0
-door a d => refused 2 unknown word
+recv a k => refused 2 unknown word
 
 run,--new,200,d => ready 200 0
 drop a s => refused 2 unknown word
@@ -105,7 +105,9 @@ frob => refused 2 unknown word
 app a 4 => ok
 app b 3 => refused 1 syntax
 tick 5 => ok 5
-door a d => refused 2 unknown word
+door a d => ok
+look a d => ok 0 0 0
+recv a k => refused 2 unknown word
 tick 7 => ok 12
 app kv_store_1 => ok
 app a => refused 4 name taken
