@@ -40,7 +40,7 @@ use Rattle.ark_held.specs.Kept.{CardKept}
 use Rattle.ark_held.specs.Beside.{AreBeside}
 use Rattle.ark_held.specs.Does.{IsSited, LogsAtFronts}
 use Rattle.ark_held.specs.Held.{Holds}
-use Rattle.ark_held.specs.Moving.{card_of, blocks_held, pace_moved, said_of}
+use Rattle.ark_held.specs.Moving.{area_named, area_of_grant, card_of, blocks_held, pace_moved, said_of}
 use Rattle.ark_held.specs.declared.areas.Area.{Area}
 use Rattle.ark_held.proofs.Lists.{by_test, not_some}
 use Rattle.ark_held.proofs.Fronts.{logs_left, logs_beside_raw}
@@ -57,7 +57,7 @@ use Rattle.ark_held.proofs.Trying.{called, Tries, tries, then_on, ends_then}
 module _ (x : Around) (v : List ℕ) (c : Capability) (k : CardKept) (card : Vsic) (on : OnCard x v c k card) (told : Option History) (es : List Event) (a : Moved) (memory : Space) (cards : ℕ → Option CardKept) (doors : ℕ → Option Counts)
     (w : WasMoved x c.key k told es a memory cards doors) (is_told : told ≡ Some (after x.history es)) (size : ℕ) (sited : IsSited x size)
     (in_base : (l : List ℕ) (t : Slot) (n : ℕ) → slot_at x l ≡ Some t → Contains t.blocks n → n < length x.history.base) (sound : IfSome (head_of k.ring) (λ d. CanMove x.tables.memory.taken k.ring.moved d))
-    (distinct : (g : ℕ) (area : Area) → lookup (nat_eq g) x.areas ≡ Some area → AreDistinct area.spans) where
+    (distinct : IfSome (area_named (head_of k.ring) x.areas) (λ area. AreDistinct area.1)) where
   abbrev m : Machine
   m = x.machine
 
@@ -248,7 +248,7 @@ module _ (x : Around) (v : List ℕ) (c : Capability) (k : CardKept) (card : Vsi
               let took = one.2.0 in
               let wrote : Event = Write n bytes took (worked a) in
               let m1 : Machine = with_object m r.held.label (Objects.raw (raw_written off bytes took r.raw)) in
-              let area : AreDistinct r.slot.blocks = distinct d.grant (area_in r.slot) r.kept in
+              let area : AreDistinct r.slot.blocks = subst (λ (o : Option (ℕ × List ℕ)). IfSome o (λ z. AreDistinct z.1)) (ap (λ (o : Option Descriptor). area_named o x.areas) oldest ∙ ap (λ (o : Option Area). area_of_grant d.grant o) r.kept) distinct in
               block_done wrote (one.1 ∙ ap (λ (z : Event). z ∷ []) one.2.2) m1 (Row.writes r.held.label off bytes)
               (ap (λ i. transferred m t i (end_of wrote) (raw_numbered m t.vsa)) on.fits.moved
               ∙ put_is m t k.ring.moved (end_of wrote) r.held r.raw r.numbered r.object puts r.there

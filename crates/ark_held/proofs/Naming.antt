@@ -23,7 +23,7 @@ alone (Some a) = a ∷ []
 
 found_alone : (g : ℕ) (o : Option Area) → option_map (λ z. z.1) (find (λ z. z.0 == g) (alone (area_of_grant g o))) ≡ option_map (λ a. a.spans) o
 found_alone g None = refl
-found_alone g (Some a) = ap (λ t. option_map (λ z. z.1) (cond t (Some (g, a.spans)) None)) (eq-eqb g g refl)
+found_alone g (Some a) = ap (λ t. option_map (λ (z : ℕ × List ℕ). z.1) (cond t (Some (g, a.spans)) None)) (eq-eqb g g refl)
 
 named_alone : (o : Option Descriptor) (card : Card) (areas : AreaList) (now : ℕ) → due_for o card (alone (area_named o areas)) now ≡ due_for o card (blocks_held areas) now
 named_alone None card areas now = refl
@@ -48,12 +48,15 @@ module _ (size : ℕ) where
   all_one a all zero d lt = all
   all_one a all (suc k) d lt = absurd (omega (arith, lt))
 
+  none_of_them : All (λ (z : ℕ × List ℕ). All (λ n. n < size) z.1) []
+  none_of_them k d lt = absurd (omega (arith, lt))
+
   of_grant : (g : ℕ) (o : Option Area) → Below o → All (λ z. All (λ n. n < size) z.1) (alone (area_of_grant g o))
-  of_grant g None below k d lt = absurd (omega (arith, lt))
+  of_grant g None below = none_of_them
   of_grant g (Some a) below = all_one (g, a.spans) below
 
   named_below : (o : Option Descriptor) (areas : AreaList) → AreasInside size areas → All (λ z. All (λ n. n < size) z.1) (alone (area_named o areas))
-  named_below None areas inside k d lt = absurd (omega (arith, lt))
+  named_below None areas inside = none_of_them
   named_below (Some d) areas inside = of_grant d.grant (lookup (nat_eq d.grant) areas) (below_found d.grant areas inside)
 
   pub named_inside : (card : Card) (areas : AreaList) (o : Option (ℕ × List ℕ)) → o ≡ area_named (head_of card.ring) areas → AreasInside size areas → All (λ z. All (λ n. n < size) z.1) (alone o)

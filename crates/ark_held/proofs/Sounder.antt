@@ -1,6 +1,6 @@
 -- A ring that is sound stays so when its oldest descriptor moves a block or ends.
-use Rattle.std.proofs.Common.{◌≡◌, inl, inr, ℕ, zero, suc, ◌+◌, ◌<◌, ◌≤◌, Bool, true, false, not, ◌&&◌, nat_le, List, [], ◌∷◌, length, drop, refl, sym, ◌∙◌, ap, subst, arith, Contains}
-use Rattle.std.specs.Prelude.{if◌then◌else◌, Option, Some, None, IfSome, slice_get}
+use Rattle.std.proofs.Common.{◌≡◌, inl, inr, ℕ, zero, suc, ◌+◌, ◌*◌, ◌<◌, ◌≤◌, Bool, true, false, not, ◌&&◌, nat_le, List, [], ◌∷◌, length, drop, set, refl, sym, ◌∙◌, ap, subst, arith, Contains}
+use Rattle.std.specs.Prelude.{if◌then◌else◌, Option, Some, None, IfSome, MatchOption, slice_get}
 use Rattle.std.proofs.lemmas.Bool.Decides.{nat_tests}
 use Rattle.ark_base.specs.declared.kind.Outcome.{Outcome}
 use Rattle.ark_vic.specs.Queue.{Queue, finished}
@@ -13,7 +13,15 @@ use Rattle.ark_vsic.specs.declared.due.Due.{Due}
 use Rattle.ark_vsic.specs.declared.due.Due.TheVariants as due
 use Rattle.ark_vsic.specs.declared.due.Moved.{Moved}
 use Rattle.ark_vsic.specs.declared.due.Moved.TheVariants as moved
-use Rattle.ark_held.specs.Rings.{IsSoundRing}
+use Rattle.std.proofs.Math.Logic.{∥∥₁_elim}
+use Rattle.std.proofs.Math.Bridge.{le_prop}
+use Rattle.ark_objects.specs.Held.{at}
+use Rattle.ark_region.specs.Frames.{Piece, LiesInRegion}
+use Rattle.ark_held.specs.Moving.{unpaced}
+use Rattle.ark_held.specs.Rings.{IsSoundRing, AreSound}
+use Rattle.ark_held.specs.declared.card.StorageCard.{StorageCard}
+use Rattle.ark_held.proofs.Keyed.{changes_set}
+use Rattle.ark_held.proofs.Sounding.{sound_set}
 use Rattle.ark_held.proofs.Members.{In, contains_in, in_contains}
 
 -- a descriptor that can move its block k, and has one more, can move that
@@ -78,3 +86,42 @@ module _ (taken : List Bool) (v : Card) (x : Due) (ok : Bool) (s : IsSoundRing t
 
   pub sound_moved : (a : Moved) → a ≡ answer_of v x ok → IsSoundRing taken (ring_after v.ring a)
   sound_moved a is = by_posted v.ring.posted refl a is
+
+-- What can move is a plain fact.
+
+both_plain : {A B : Type 0} → IsProp A → IsProp B → IsProp (A × B)
+both_plain p q x y = λ i. (p x.0 y.0 i, q x.1 y.1 i)
+
+room_plain : (taken : List Bool) (size : ℕ) (b : Option Piece) → IsProp (MatchOption b ⊥ (λ p. LiesInRegion taken p × (size ≤ p.len)))
+room_plain taken size None = λ x y. absurd x
+room_plain taken size (Some p) = both_plain le_prop le_prop
+
+sound_plain : (taken : List Bool) (k : ℕ) (d : Descriptor) (j : Job) → IsProp (IsSoundBy j taken d k)
+sound_plain taken k d vic.Read = both_plain le_prop (room_plain taken (d.from + 512 * d.count) d.buf)
+sound_plain taken k d vic.Write = both_plain le_prop (room_plain taken (d.from + 512 * d.count) d.buf)
+sound_plain taken k d vic.Zero = le_prop
+sound_plain taken k d vic.Sync = λ x y. refl
+sound_plain taken k d vic.Receive = λ x y. absurd x
+sound_plain taken k d vic.Send = λ x y. absurd x
+
+oldest_plain : (taken : List Bool) (k : ℕ) (o : Option Descriptor) → IsProp (IfSome o (λ d. CanMove taken k d))
+oldest_plain taken k None = λ x y. refl
+oldest_plain taken k (Some d) = sound_plain taken k d d.job
+
+-- The cards of an application.
+
+-- the oldest descriptor of a card can be moved
+pub oldest_can : (frames : ℕ) (cards : List (Option StorageCard)) (key : ℕ) (one : StorageCard) (taken : List Bool) → ∥ AreSound frames cards ∥₁ → at cards key ≡ Some one → frames ≡ length taken
+    → IfSome (head_of one.vsic.ring) (λ d. CanMove taken one.vsic.ring.moved d)
+oldest_can frames cards key one taken sound there size = ∥∥₁_elim sound (oldest_plain taken one.vsic.ring.moved (head_of one.vsic.ring)) (λ all. (all taken (sym size) key one there).oldest)
+
+pub unpaced_can : (frames : ℕ) (cards : List (Option StorageCard)) (key : ℕ) (one : StorageCard) (v : Card) (taken : List Bool) → ∥ AreSound frames cards ∥₁ → at cards key ≡ Some one → v ≡ unpaced one.vsic → frames ≡ length taken
+    → IfSome (head_of v.ring) (λ d. CanMove taken v.ring.moved d)
+unpaced_can frames cards key one v taken sound there is size = subst (λ (z : Card). IfSome (head_of z.ring) (λ d. CanMove taken z.ring.moved d)) (sym is) (oldest_can frames cards key one taken sound there size)
+
+-- all cards stay sound when one of them moves
+pub sound_after : (frames : ℕ) (before : List (Option StorageCard)) (key : ℕ) (one now : StorageCard) (v : Card) (x : Due) (ok : Bool) (a : Moved) → at before key ≡ Some one → v ≡ unpaced one.vsic → now.vsic.ring ≡ ring_after v.ring a → a ≡ answer_of v x ok
+    → AreSound frames before → AreSound frames (set before key (Some now))
+sound_after frames before key one now v x ok a there is ring answer all =
+    sound_set frames before (set before key (Some now)) key now (changes_set before key one now there)
+    (λ taken long. subst (λ (q : Queue). IsSoundRing taken q) (sym ring) (sound_moved taken v x ok (subst (λ (z : Card). IsSoundRing taken z.ring) (sym is) (all taken long key one there)) a answer)) all

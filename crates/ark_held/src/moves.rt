@@ -1,6 +1,7 @@
 // Moves of the storage cards that an application holds.
 ghost use Rattle.std.specs.Prelude.{◌≡◌, ℕ, Some, IfSome, IsSome, length};
 ghost use Rattle.ark_objects.specs.Held.{Changes, at, held};
+ghost use Rattle.ark_extents.specs.Blocks.{AreDistinct};
 ghost use Rattle.ark_media.specs.Calls.{Went};
 ghost use Rattle.ark_vsic.specs.Card.{PacedBy, head_of};
 ghost use Rattle.ark_vsic.specs.Moves.{CanMove, Leaves, answer_of, calls_of, due_of, pace_after, ring_after, worked};
@@ -19,10 +20,13 @@ use ark_vsic::{Moved, Vsic};
 
 // The area that the oldest descriptor of a card names, if it is held.
 fn named(vsic: &Vsic, areas: &Areas) -> Option<(u64, Spans)>
-    ensures { result ≡ area_named (head_of vsic.now.ring) areas.now }
+    ensures area { result ≡ area_named (head_of vsic.now.ring) areas.now }
+    ensures distinct { IfSome result (λ a. AreDistinct a.1) }
 {
     let head = vsic.ring().head()?;
     let area = areas.get(head.grant)?;
+    let blocks = area.spans.blocks();
+    prove!(blocks >= 1);
     Some((head.grant, area.spans))
 }
 
@@ -47,6 +51,8 @@ fn move_vsic<D: Disk>(
     ensures pace { vsic.new.pace
         ≡ pace_after vsic.old.pace (due_of vsic.old (blocks_held areas.now) now) now }
     ensures bound { vsic.new.bound ≡ vsic.old.bound }
+    ensures distinct { IfSome (area_named (head_of vsic.old.ring) areas.now)
+        (λ a. AreDistinct a.1) }
     ensures frames { region.new.taken ≡ region.old.taken }
     ensures region { Leaves vsic.old (due_of vsic.old (blocks_held areas.now) now) (worked result)
         (D.told disk.new).history region.old region.new }
@@ -102,6 +108,11 @@ impl Devices {
         ensures doors { (one : StorageCard) → at self.old.cards key ≡ Some one →
             IsWatching one.door (at self.old.doors) →
             RingsAt result one.door (at self.old.doors) (at self.new.doors) }
+        ensures distinct { (one : StorageCard) → at self.old.cards key ≡ Some one →
+            IfSome (area_named (head_of one.vsic.ring) areas.now) (λ a. AreDistinct a.1) }
+        ensures sound { (one : StorageCard) → at self.old.cards key ≡ Some one →
+            IfSome (head_of one.vsic.ring) (λ d.
+            CanMove region.old.taken one.vsic.ring.moved d) }
         ensures held_cards { held self.new.cards ≡ held self.old.cards }
         ensures held_doors { held self.new.doors ≡ held self.old.doors }
         ensures frames { self.new.frames ≡ self.old.frames }
