@@ -81,8 +81,8 @@ impl Devices {
         }
     }
 
-    /// Makes one move of the card of a key, which nothing paces, for an application that holds these areas. A descriptor that
-    /// has ended rings at the door that watches the card.
+    /// Makes one move of the card of a key, which nothing paces, for an application that holds
+    /// these areas. A descriptor that has ended rings at the door that watches the card.
     pub fn move_card<D: Disk>(
         &mut self,
         key: u32,

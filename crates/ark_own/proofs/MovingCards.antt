@@ -1,16 +1,15 @@
 -- The row of `dev`: one move of a storage card.
-use Rattle.std.proofs.Common.{◌≡◌, inl, ℕ, Bool, true, false, not, ◌&&◌, List, [], ◌∷◌, refl, sym, ◌∙◌, ap, subst, arith, nat_eq}
-use Rattle.std.specs.Prelude.{Option, Some, None, Result, Ok, Err, IfSome, is_some, is_none, option_map}
+use Rattle.std.proofs.Common.{◌≡◌, inl, ℕ, true, false, not, ◌&&◌, List, [], ◌∷◌, refl, sym, ◌∙◌, ap, subst, arith}
+use Rattle.std.specs.Prelude.{Option, Some, None, Ok, Err, IfSome, is_some, is_none, option_map}
 use Rattle.std.proofs.lemmas.Bool.{false≢true}
 use Rattle.ark_base.specs.Conditions.{Conditions, none, early}
 use Rattle.ark_base.specs.declared.refusal.Refusal.{Refusal}
 use Rattle.ark_base.specs.declared.refusal.Refusal.TheVariants as refusal
-use Rattle.ark_media.specs.Journal.{Event, History}
+use Rattle.ark_media.specs.Journal.{Event}
 use Rattle.ark_media.specs.Calls.{Told, Makes}
 use Rattle.ark_media.specs.Standing.{after}
 use Rattle.ark_media.proofs.Planning.{makes_devices}
 use Rattle.ark_extents.specs.Blocks.{AreDistinct}
-use Rattle.ark_script.specs.declared.said.Said.{Said}
 use Rattle.ark_script.specs.declared.said.Said.TheVariants as said
 use Rattle.ark_caps.specs.Labels.{value_at}
 use Rattle.ark_caps.specs.declared.capability.Capability.{Capability}
@@ -18,14 +17,13 @@ use Rattle.ark_caps.specs.declared.capability.CapKind.TheVariants as cap_kind
 use Rattle.ark_caladan.specs.Chain.{Opened}
 use Rattle.ark_objects.specs.Held.{at as slot, Changes}
 use Rattle.ark_vic.specs.Pace.{Pace}
-use Rattle.ark_vic.specs.declared.door.Counts.{Counts}
 use Rattle.ark_vsic.specs.Card.{Card, head_of}
 use Rattle.ark_vsic.specs.Moves.{due_of, calls_of, answer_of, worked, Leaves, CanMove, pace_after, ring_after}
 use Rattle.ark_vsic.specs.declared.due.Due.{Due}
 use Rattle.ark_vsic.specs.declared.due.Due.TheVariants as due
 use Rattle.ark_vsic.specs.declared.due.Moved.{Moved}
 use Rattle.ark_machine.specs.Objects
-use Rattle.ark_machine.specs.Objects.{Object, Vsic, Paced, as_vsic, as_vnic}
+use Rattle.ark_machine.specs.Objects.{Object, Vsic, Vnic, Paced, as_vsic, as_vnic}
 use Rattle.ark_machine.specs.Machine.{Machine, Held, at, missing, vsic_at, vnic_at}
 use Rattle.ark_machine.specs.Control.{is_open_on}
 use Rattle.ark_machine.specs.Devices as devices
@@ -44,7 +42,7 @@ use Rattle.ark_held.specs.Held.{IsObjectOf, AtLabel, AllMatch, Holds}
 use Rattle.ark_held.specs.Beyond.{Beyond, around, tables_of}
 use Rattle.ark_held.specs.Does.{Acts}
 use Rattle.ark_held.specs.Moving.{card_of, blocks_held, pace_moved, card_moved, vsic_moved, said_of, area_named, unpaced, due_alone}
-use Rattle.ark_held.specs.Ringing.{Sets, IsWatching, Rings, RingsAt}
+use Rattle.ark_held.specs.Ringing.{IsWatching, RingsAt}
 use Rattle.ark_held.specs.declared.app.App.{App}
 use Rattle.ark_held.specs.declared.buffer.Buffer.{Buffer}
 use Rattle.ark_held.specs.declared.card.StorageCard.{StorageCard}
@@ -52,7 +50,7 @@ use Rattle.ark_held.proofs.Lists.{not_some, some_same}
 use Rattle.ark_held.proofs.Finding.{found, stands_at}
 use Rattle.ark_held.proofs.Doing.{refused_first, refuses, never, IsBased, in_base}
 use Rattle.ark_held.proofs.Ending.{OnCard, on_card}
-use Rattle.ark_held.proofs.Carrying.{Carries, WasMoved, carried}
+use Rattle.ark_held.proofs.Carrying.{WasMoved, carried}
 use Rattle.ark_held.proofs.MovedCard.{carries}
 use Rattle.ark_held.proofs.Naming.{any_tick}
 use Rattle.ark_own.specs.Keys.{card_key}
@@ -91,9 +89,14 @@ module _ (r : Beyond) (app : App) (l : List ℕ) where
   why holds refusal.WrongKind h = let made = holds.made in let net = no_net holds h.0 h.1 in rw (made, h.1, h.2, net) refl
   why holds _ h = absurd h
 
-moves_row : (r : Beyond) (app : App) (l : List ℕ) (g : Given) (h : Held) (v : Vsic) → r.machine.made ≡ true → at r.machine l ≡ Some h → h.object ≡ Objects.vsic v → row l r.machine g ≡ row_of (move r.machine l (first_end g.ended))
+accepted : (m : Machine) (l : List ℕ) (h : Held) (v : Vsic) (z : Move) → m.made ≡ true → at m l ≡ Some h → h.object ≡ Objects.vsic v → answer m (conditions m l) (row_of z) ≡ row_of z
 unfolding answer
-moves_row r app l g h v made there object = rw (made, there, object) refl
+accepted m l h v z made there object = rw (made, there, object) refl
+
+moves_row : (m : Machine) (l : List ℕ) (g : Given) (h : Held) (v : Vsic) → m.made ≡ true → at m l ≡ Some h → h.object ≡ Objects.vsic v → row l m g ≡ row_of (move m l (first_end g.ended))
+moves_row m l g h v made there object =
+    let no_vnic : vnic_at m l ≡ None = rw (there, object) refl in
+    ap (λ (o : Option Vnic). answer m (conditions m l) (row_of (devices.card_moves m l g o))) no_vnic ∙ accepted m l h v (move m l (first_end g.ended)) made there object
 
 -- Where no rate is there, nothing paces a card, and its door is there.
 module _ (r : Beyond) (app : App) (holds : Holds (around r app)) where
@@ -244,7 +247,7 @@ module _ (t : Told) (app : App) (l : List ℕ) where
             let m = move r.machine l (first_end (ends_of es)) in
             let done = carries (around r app) l (v r h).cap (k r h) (v r h).vsic (on r h) t.history es a app1.store.region (card_kept app1.devices.cards) (slot app1.devices.doors) (was_moved r h) told t.blocks sited
             (in_base r app t es told based sited) sound distinct (no_open_log r h) in
-            let is_row : row l r.machine g ≡ row_of m = moves_row r app l g (v r h).held (v r h).vsic h.made (v r h).there (v r h).object ∙ ap (λ (ends : List Ended). row_of (move r.machine l (first_end ends))) came in
+            let is_row : row l r.machine g ≡ row_of m = moves_row r.machine l g (v r h).held (v r h).vsic h.made (v r h).there (v r h).object ∙ ap (λ (ends : List Ended). row_of (move r.machine l (first_end ends))) came in
             rw is_row (record {
               said = done.said;
               bytes = sym done.bytes;
