@@ -9,7 +9,7 @@ use Rattle.ark_machine.specs.Objects.{Object, is_vsa, is_card}
 use Rattle.ark_machine.specs.Machine.{Held, at, is_full, held_count}
 use Rattle.ark_held.specs.Words.{Labels}
 use Rattle.ark_held.specs.Around.{Around}
-use Rattle.ark_held.specs.Held.{IsObjectOf, Matches, AllMatch, AtLabel, Holds, is_area, area_labels, is_card_kind, card_labels}
+use Rattle.ark_held.specs.Held.{IsObjectOf, Matches, AllMatch, AtLabel, Holds, is_area, is_card_kind, card_labels}
 use Rattle.ark_held.proofs.Lists.{by_test, same_name, not_some, some_same}
 
 -- Under one label.

@@ -1,7 +1,7 @@
 -- What stays where a word changes cards and doors, and neither its application's memory nor its areas. A new object that counts
 -- nothing, and one that counts as before.
-use Rattle.std.proofs.Common.{◌≡◌, ℕ, ◌+◌, Bool, true, false, List, [], ◌∷◌, ◌++◌, length, refl, sym, ◌∙◌, ap, arith, bytes_eq, nat_eq}
-use Rattle.std.specs.Prelude.{Option, Some, None, option_map, option_and_then, slice_get, slice_index_or}
+use Rattle.std.proofs.Common.{◌≡◌, ℕ, ◌+◌, Bool, true, false, List, [], ◌∷◌, ◌++◌, length, refl, sym, ◌∙◌, ap, arith, nat_eq}
+use Rattle.std.specs.Prelude.{Some, None, option_map, option_and_then, slice_get, slice_index_or}
 use Rattle.std.specs.Map.{lookup}
 use Rattle.ark_objects.specs.Held.{at as key_at}
 use Rattle.ark_caps.specs.Labels.{value_at}
@@ -12,7 +12,7 @@ use Rattle.ark_machine.specs.Objects.{Object}
 use Rattle.ark_machine.specs.Machine.{Machine, Held, at, with_new, with_object}
 use Rattle.ark_machine.specs.Control.{is_open_on, is_socket_on}
 use Rattle.ark_held.specs.Words.{Labels, AreaList}
-use Rattle.ark_held.specs.Totals.{bit, uses, object_covers, lent_count, open_count, socket_count, cover_count}
+use Rattle.ark_held.specs.Totals.{bit, uses, object_covers, lent_count, open_count, socket_count}
 use Rattle.ark_held.specs.Stored.{buffer_kept}
 use Rattle.ark_held.specs.Rings.{card_kept}
 use Rattle.ark_held.specs.Around.{Around}
@@ -22,7 +22,7 @@ use Rattle.ark_held.specs.Beyond.{Beyond, around}
 use Rattle.ark_held.specs.Does.{IsFresh}
 use Rattle.ark_held.specs.declared.app.App.{App}
 use Rattle.ark_held.specs.declared.store.Store.{Store}
-use Rattle.ark_held.proofs.Lists.{plus_zero, number_front, lookup_front, total_last}
+use Rattle.ark_held.proofs.Lists.{plus_zero, number_front, total_last}
 use Rattle.ark_held.proofs.Besides.{same_history}
 use Rattle.ark_held.proofs.Changing.{changed, same_put}
 use Rattle.ark_held.proofs.Creating.{but, areas_last, created}

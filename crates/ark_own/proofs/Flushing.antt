@@ -1,11 +1,10 @@
 -- The row of `flush`.
-use Rattle.std.proofs.Common.{◌≡◌, ℕ, ◌+◌, ◌<◌, ◌≤◌, Bool, true, false, List, [], ◌∷◌, ◌++◌, refl, sym, ◌∙◌, ap, arith}
-use Rattle.std.specs.Prelude.{Option, Some, None, Ok, is_some}
+use Rattle.std.proofs.Common.{◌≡◌, ℕ, ◌<◌, ◌≤◌, Bool, true, false, List, [], ◌∷◌, ◌++◌, refl, sym, ◌∙◌, arith}
+use Rattle.std.specs.Prelude.{Some, None, Ok, is_some}
 use Rattle.ark_media.specs.Calls.{Told}
 use Rattle.ark_script.specs.declared.said.Said.TheVariants as said
 use Rattle.ark_objects.specs.Held.{at as slot, Changes}
 use Rattle.ark_vic.specs.Queue.{members}
-use Rattle.ark_vic.specs.declared.door.Counts.{Counts}
 use Rattle.ark_vic.specs.declared.descriptor.Descriptor.{Descriptor}
 use Rattle.ark_vic.specs.declared.descriptor.Job.TheVariants as vic
 use Rattle.ark_machine.specs.Objects
@@ -15,7 +14,7 @@ use Rattle.ark_machine.specs.Buffers.{job_has}
 use Rattle.ark_machine.specs.Cards as rows
 use Rattle.ark_machine.specs.Cards.{posting, is_ring_full}
 use Rattle.ark_machine.specs.Row.{Row, Given, says}
-use Rattle.ark_held.specs.Totals.{bit, total}
+use Rattle.ark_held.specs.Totals.{bit}
 use Rattle.ark_held.specs.Rings.{kept_card, with_posted}
 use Rattle.ark_held.specs.Around.{Around}
 use Rattle.ark_held.specs.Cards.{IsCard, IsJob}

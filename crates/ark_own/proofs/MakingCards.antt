@@ -1,5 +1,5 @@
 -- The row of `vsic`.
-use Rattle.std.proofs.Common.{◌≡◌, ℕ, ◌+◌, ◌<◌, ◌≤◌, Bool, true, false, not, List, [], ◌∷◌, ◌++◌, length, refl, sym, ◌∙◌, ap, subst, arith, bytes_eq}
+use Rattle.std.proofs.Common.{◌≡◌, ℕ, ◌<◌, ◌≤◌, Bool, true, false, not, List, [], ◌∷◌, ◌++◌, length, refl, sym, ◌∙◌, ap, arith, bytes_eq}
 use Rattle.std.specs.Prelude.{Option, Some, None, ◌||◌, is_some, option_map, option_and_then, nat_le}
 use Rattle.ark_base.specs.Conditions.{Conditions, none}
 use Rattle.ark_base.specs.declared.refusal.Refusal.TheVariants as refusal
@@ -17,21 +17,19 @@ use Rattle.ark_vic.specs.declared.door.Counts.{Counts}
 use Rattle.ark_vsic.specs.Card.{Card}
 use Rattle.ark_machine.specs.Objects
 use Rattle.ark_machine.specs.Objects.{Vsic, is_card, no_queue}
-use Rattle.ark_machine.specs.Machine.{Machine, Held, at, is_full, with_new, held_count}
+use Rattle.ark_machine.specs.Machine.{Machine, Held, at, with_new, held_count}
 use Rattle.ark_machine.specs.Control.{is_open_on}
 use Rattle.ark_machine.specs.Cards as rows
 use Rattle.ark_machine.specs.Cards.{no_more_cards}
 use Rattle.ark_machine.specs.Row.{Row, Given, says, answer}
 use Rattle.ark_held.specs.Words.{Labels}
-use Rattle.ark_held.specs.Totals.{bit, total, open_count}
+use Rattle.ark_held.specs.Totals.{bit, open_count}
 use Rattle.ark_held.specs.Rings.{card_kept, kept_card, new_card, no_ring}
-use Rattle.ark_held.specs.Around.{Around}
 use Rattle.ark_held.specs.Cards.{IsCard}
 use Rattle.ark_held.specs.Held.{Holds}
 use Rattle.ark_held.specs.Beyond.{Beyond, around}
 use Rattle.ark_held.specs.Does.{Grants}
 use Rattle.ark_held.specs.declared.app.App.{App}
-use Rattle.ark_held.specs.declared.card.StorageCard.{StorageCard}
 use Rattle.ark_held.proofs.ByKind.{card_of}
 use Rattle.ark_held.proofs.Lists.{le_true, le_false, none_of, not_some, lookup_front, total_last}
 use Rattle.ark_held.proofs.Creating.{but}
@@ -40,7 +38,7 @@ use Rattle.ark_held.proofs.Finding.{there_same, full_is, stands_at, count_cards}
 use Rattle.ark_held.proofs.Lending.{none_open}
 use Rattle.ark_held.proofs.Parts.{KeepsParts, added}
 use Rattle.ark_held.specs.Held.{card_labels}
-use Rattle.ark_own.proofs.Making.{free_name, few_labels}
+use Rattle.ark_own.proofs.Making.{free_name}
 
 abbrev conditions : Machine → List ℕ → Bool → Conditions
 conditions m v lacks = record none { no_application = not m.made; name_taken = is_some (at m v); limit = no_more_cards m; no_memory = lacks }

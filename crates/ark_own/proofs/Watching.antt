@@ -1,5 +1,5 @@
 -- The row of `watch`.
-use Rattle.std.proofs.Common.{◌≡◌, ℕ, Bool, true, false, not, List, [], ◌∷◌, refl, sym, ◌∙◌, ap, subst}
+use Rattle.std.proofs.Common.{◌≡◌, ℕ, true, not, List, [], ◌∷◌, refl, sym, ◌∙◌, ap, subst}
 use Rattle.std.specs.Prelude.{Option, Some, None, Result, Ok, Err, ◌||◌, is_ok, is_some}
 use Rattle.std.proofs.lemmas.Bool.{false≢true}
 use Rattle.ark_base.specs.Conditions.{Conditions, none, early}
@@ -10,10 +10,8 @@ use Rattle.ark_script.specs.declared.said.Said.TheVariants as said
 use Rattle.ark_script.specs.declared.step.Side.{Side}
 use Rattle.ark_script.specs.declared.step.Side.TheVariants as side
 use Rattle.ark_caps.specs.Labels.{value_at}
-use Rattle.ark_caps.specs.declared.capability.CapKind.TheVariants as cap_kind
 use Rattle.ark_caps.specs.declared.capability.Capability.{Capability}
 use Rattle.ark_objects.specs.Held.{at as slot, Changes}
-use Rattle.ark_vic.specs.declared.door.Counts.{Counts}
 use Rattle.ark_machine.specs.Objects
 use Rattle.ark_machine.specs.Objects.{Object, Vsic, as_vnic}
 use Rattle.ark_machine.specs.Machine.{Machine, Held, at, given_label, missing, with_object}

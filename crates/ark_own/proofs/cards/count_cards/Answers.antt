@@ -1,4 +1,4 @@
-use Rattle.std.proofs.Common.{◌≡◌, ◌≤◌, length, arith}
+use Rattle.std.proofs.Common.{◌≤◌, length, arith}
 use Rattle.ark_own.proofs.Counting.{counted, few_counted, either}
 use Rattle.ark_own.proofs.cards.count_cards.Goals as goal
 

@@ -1,5 +1,4 @@
-use Rattle.std.proofs.Common.{◌≡◌, ◌<◌, ◌≤◌, false, true, rules, refl}
-use Rattle.std.specs.Prelude.{is_some}
+use Rattle.std.proofs.Common.{◌<◌, ◌≤◌, rules, refl}
 use Rattle.ark_vic.specs.Queue.{members}
 use Rattle.ark_own.proofs.OfCards.{no_key, no_card_there, is_busy, is_full}
 use Rattle.ark_own.proofs.Flushing.{flushed, full_at, full_there, flush_done}
