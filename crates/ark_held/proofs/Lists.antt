@@ -178,3 +178,16 @@ each_all P Q f [] [] e = tt
 each_all P Q f (x ∷ xs) (y ∷ ys) e = (f x y e.0, each_all P Q f xs ys e.1)
 each_all P Q f [] (y ∷ ys) e = absurd e
 each_all P Q f (x ∷ xs) [] e = absurd e
+
+pub each_length : {X Y : Type 0} (P : X → Y → Type 0) (xs : List X) (ys : List Y) → Each P xs ys → length xs ≡ length ys
+each_length P [] [] e = refl
+each_length P (x ∷ xs) (y ∷ ys) e = ap suc (each_length P xs ys e.1)
+each_length P [] (y ∷ ys) e = absurd e
+each_length P (x ∷ xs) [] e = absurd e
+
+-- one more at the end of both
+pub each_more : {X Y : Type 0} (P : X → Y → Type 0) (xs : List X) (ys : List Y) (x : X) (y : Y) → Each P xs ys → P x y → Each P (xs ++ x ∷ []) (ys ++ y ∷ [])
+each_more P [] [] x y e one = (one, tt)
+each_more P (z ∷ zs) (w ∷ ws) x y e one = (e.0, each_more P zs ws x y e.1 one)
+each_more P [] (w ∷ ws) x y e one = absurd e
+each_more P (z ∷ zs) [] x y e one = absurd e

@@ -125,16 +125,19 @@ module _ (r : Beyond) (app app1 : App) (l : List ℕ) (g : Held) (o : Object) (h
   abbrev then : Around
   then = around (record r { machine = with_object r.machine l o }) app1
 
-  alike_counts : AreCounted (but l) r.machine (with_object r.machine l o)
-  alike_counts k stays = (
+  pub alike_all : (k : List ℕ) → (lent_count (with_object r.machine l o) k ≡ lent_count r.machine k) × (open_count (with_object r.machine l o) k ≡ open_count r.machine k) × (socket_count (with_object r.machine l o) k ≡ socket_count r.machine k)
+  alike_all k = (
     same_put (around r app) h l o g (uses k) there (alike.uses k),
     same_put (around r app) h l o g (λ z. bit (is_open_on k z)) there (alike.opens k),
     same_put (around r app) h l o g (λ z. bit (is_socket_on k z)) there (alike.sockets k),
   )
 
+  pub alter_keeps : Keeps (but l) any_label any_piece (around r app) then
+  alter_keeps = parts_keep r app app1 r.numbers (with_object r.machine l o) (but l) p (λ k stays. alike_all k) (λ i n is. is) (λ k c i is old. ap (λ (ls : Labels). value_at ls k) (sym labels) ∙ is)
+
   -- the machine has the new content too
   pub altered : ((c : Capability) → value_at app.labels l ≡ Some c → IsObjectOf (around r app) l c g.object → IsObjectOf then l c o) → Holds then
-  altered own = changed (around r app) then h l g o there any_piece (parts_keep r app app1 r.numbers (with_object r.machine l o) (but l) p alike_counts (λ i n is. is) (λ k c i is old. ap (λ (ls : Labels). value_at ls k) (sym labels) ∙ is)) (λ q k apart among m. within k.object) refl labels refl refl
+  altered own = changed (around r app) then h l g o there any_piece alter_keeps (λ q k apart among m. within k.object) refl labels refl refl
       (ap (λ (es : AreaList). length es) p.areas) (λ k. refl)
       (λ j.
       let covers = alike.covers j in

@@ -1,7 +1,7 @@
 -- The storage cards of an application, by key, and their descriptors.
-use Rattle.std.specs.Prelude.{◌≡◌, ℕ, Bool, List, [], length, Option, Some, None, option_map, IfSome, Contains}
-use Rattle.ark_objects.specs.Held.{at}
-use Rattle.ark_vic.specs.Queue.{Queue}
+use Rattle.std.specs.Prelude.{◌≡◌, ◌<◌, ℕ, Bool, List, [], ◌∷◌, ◌++◌, length, drop, Option, Some, None, option_map, IfSome, Contains}
+use Rattle.ark_objects.specs.Held.{at, Changes}
+use Rattle.ark_vic.specs.Queue.{Queue, members}
 use Rattle.ark_vic.specs.declared.descriptor.Descriptor.{Descriptor}
 use Rattle.ark_vsic.specs.Card.{Card, head_of}
 use Rattle.ark_vsic.specs.Moves.{CanMove}
@@ -39,3 +39,21 @@ no_ring size = record { posted = []; unreaped = []; moved = 0; size = size }
 -- a card that nothing watches, and on which no log is open
 abbrev pub new_card : Card → StorageCard
 new_card vsic = record { vsic = vsic; rate = 0; door = None; log = None }
+
+-- with one more descriptor posted
+abbrev pub with_posted : Descriptor → StorageCard → StorageCard
+with_posted d c = record c { vsic = record c.vsic { ring = record c.vsic.ring { posted = c.vsic.ring.posted ++ d ∷ [] } } }
+
+-- without the oldest completion
+abbrev pub with_reaped : StorageCard → StorageCard
+with_reaped c = record c { vsic = record c.vsic { ring = record c.vsic.ring { unreaped = drop 1 c.vsic.ring.unreaped } } }
+
+-- the card of a key has room for one more descriptor
+pub record HasRoomFor (cards : List (Option StorageCard)) (key : ℕ) : Type 0 where
+  pub one : StorageCard
+  pub there : at cards key ≡ Some one
+  pub room : members one.vsic.ring < one.vsic.ring.size
+
+-- the card of a key, if there is one, is changed so
+abbrev pub ChangesCard : List (Option StorageCard) → List (Option StorageCard) → ℕ → (StorageCard → StorageCard) → Type 0
+ChangesCard old new key f = (one : StorageCard) → at old key ≡ Some one → Changes old new key (Some (f one))

@@ -1,12 +1,13 @@
-ghost use Rattle.std.specs.Prelude.{◌≡◌, ◌<◌, ◌+◌, [], None, Some, IfOk, IfSome};
+ghost use Rattle.std.specs.Prelude.{◌≡◌, ◌<◌, ◌+◌, Bool, List, [], None, Some, IfOk, IfSome, IsSome, length, slice_get};
 ghost use Rattle.ark_objects.specs.Held.{Changes, at, held};
 ghost use Rattle.ark_vic.specs.Bells.{counts_of};
-ghost use Rattle.ark_held.specs.Rings.{AreSound, new_card, no_ring};
+ghost use Rattle.ark_vsic.specs.Moves.{CanMove};
+ghost use Rattle.ark_held.specs.Rings.{AreSound, ChangesCard, HasRoomFor, new_card, no_ring, with_posted, with_reaped};
 
 use crate::card::StorageCard;
 use ark_base::Memory;
 use ark_objects::Objects;
-use ark_vic::{Counts, Door};
+use ark_vic::{Completion, Counts, Descriptor, Door};
 use ark_vsic::Vsic;
 use std::alloc::Global;
 
@@ -67,5 +68,46 @@ impl Devices {
     {
         self.doors.at(key)?;
         Some(self.doors.at_mut(key).look())
+    }
+
+    /// A door watches the card of a key from now on, or none.
+    pub fn watch(&mut self, key: u32, door: Option<u32>)
+        requires there { IsSome (at self.old.cards key) }
+        ensures changes { ChangesCard self.old.cards self.new.cards key
+            (λ c. record c { door = door }) }
+        ensures held { held self.new.cards ≡ held self.old.cards }
+        ensures doors { self.new.doors ≡ self.old.doors }
+        ensures frames { self.new.frames ≡ self.old.frames }
+    {
+        self.cards.at_mut(key).door = door;
+    }
+
+    /// Posts a descriptor on the card of a key, behind all that are posted.
+    pub fn post(&mut self, key: u32, descriptor: Descriptor)
+        requires room { HasRoomFor self.old.cards key }
+        requires sound { (taken : List Bool) → length taken ≡ self.old.frames →
+            CanMove taken 0 descriptor }
+        ensures changes { ChangesCard self.old.cards self.new.cards key (with_posted descriptor) }
+        ensures held { held self.new.cards ≡ held self.old.cards }
+        ensures doors { self.new.doors ≡ self.old.doors }
+        ensures frames { self.new.frames ≡ self.old.frames }
+    {
+        match self.cards.at_mut(key).vsic.ring_mut().post(descriptor) {
+            Ok(()) => {}
+            Err(_) => unreachable!(),
+        }
+    }
+
+    /// Takes the oldest completion of the card of a key; `None` exactly where there is none.
+    pub fn reap(&mut self, key: u32) -> Option<Completion>
+        requires there { IsSome (at self.old.cards key) }
+        ensures oldest { (one : StorageCard) → at self.old.cards key ≡ Some one →
+            result ≡ slice_get one.vsic.ring.unreaped 0 }
+        ensures changes { ChangesCard self.old.cards self.new.cards key with_reaped }
+        ensures held { held self.new.cards ≡ held self.old.cards }
+        ensures doors { self.new.doors ≡ self.old.doors }
+        ensures frames { self.new.frames ≡ self.old.frames }
+    {
+        self.cards.at_mut(key).vsic.ring_mut().reap()
     }
 }

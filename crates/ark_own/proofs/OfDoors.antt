@@ -1,33 +1,23 @@
 -- Doors, as words on them come to their rows.
-use Rattle.std.proofs.Common.{◌≡◌, ℕ, ◌<◌, ◌≤◌, true, false, not, List, [], ◌∷◌, ◌++◌, refl, sym, ◌∙◌, ap, subst, bytes_eq, length}
-use Rattle.std.specs.Prelude.{Option, Some, None, Result, Ok, Err, is_some, is_none, IfSome}
-use Rattle.ark_base.specs.Conditions.{Conditions, none, early}
+use Rattle.std.proofs.Common.{◌≡◌, ℕ, List, refl, sym, ◌∙◌, ap, subst}
+use Rattle.std.specs.Prelude.{Option, Some, None, Result, Ok, Err}
 use Rattle.ark_base.specs.declared.refusal.Refusal.{Refusal}
 use Rattle.ark_base.specs.declared.refusal.Refusal.TheVariants as r
-use Rattle.ark_media.specs.Calls.{Told}
-use Rattle.ark_script.specs.declared.said.Said.TheVariants as said
 use Rattle.ark_caps.specs.Labels.{value_at}
 use Rattle.ark_caps.specs.declared.capability.Capability.{Capability}
 use Rattle.ark_caps.specs.declared.capability.CapKind.{CapKind}
 use Rattle.ark_caps.specs.declared.capability.CapKind.TheVariants as cap_kind
-use Rattle.ark_objects.specs.Held.{at as slot, Changes}
-use Rattle.ark_vic.specs.Bells.{counts_of}
+use Rattle.ark_objects.specs.Held.{at as slot}
 use Rattle.ark_vic.specs.declared.door.Counts.{Counts}
 use Rattle.ark_machine.specs.Objects
 use Rattle.ark_machine.specs.Objects.{Object, as_door}
-use Rattle.ark_machine.specs.Machine.{Machine, Held, at, door_at, is_full, missing, with_object, with_new}
-use Rattle.ark_machine.specs.Rates as rows
-use Rattle.ark_machine.specs.Rates.{no_rings, counts_at}
-use Rattle.ark_machine.specs.Row.{Row, Given, says, answer}
+use Rattle.ark_machine.specs.Machine.{Held, at}
 use Rattle.ark_held.specs.Around.{Around}
 use Rattle.ark_held.specs.Cards.{IsDoor}
-use Rattle.ark_held.specs.Held.{IsObjectOf, AtLabel, Holds, has_key}
+use Rattle.ark_held.specs.Held.{IsObjectOf, AtLabel, Holds}
 use Rattle.ark_held.specs.Beyond.{Beyond, around}
-use Rattle.ark_held.specs.Does.{Acts, Grants, IsFresh}
 use Rattle.ark_held.specs.declared.app.App.{App}
-use Rattle.ark_held.proofs.Lists.{not_some, none_of}
 use Rattle.ark_held.proofs.Finding.{found}
-use Rattle.ark_held.proofs.Doing.{refused_first, refuses, never, comes, makes}
 use Rattle.ark_held.proofs.ByKind.{door_of, no_door}
 use Rattle.ark_own.specs.Keys.{door_key, door_under, key_if_door}
 

@@ -4,11 +4,11 @@ ghost use Rattle.ark_script.specs.Text.{IsSaid, wants_memory};
 ghost use Rattle.ark_machine.specs.Rates as rates;
 ghost use Rattle.ark_held.specs.Does.{Acts, Grants};
 
-use crate::keys::key_of_door;
+use crate::keys::{key_of_door, keys_to_watch};
 use ark_base::{Label, Refusal};
 use ark_caps::{CapKind, Capability, LABELS};
 use ark_held::App;
-use ark_script::Said;
+use ark_script::{Said, Side};
 use ark_vic::Door;
 
 /// The word `door`.
@@ -54,4 +54,28 @@ pub fn look(app: &mut App, label: &Label) -> Said
         return Said::Refused(Refusal::WrongKind);
     };
     Said::Rings(counts.rx, counts.tx, counts.io)
+}
+
+/// The word `watch`.
+pub fn watch(app: &mut App, label: &Label, door: &Option<Label>, side: Side) -> Said
+    ensures acts { (t : Told) →
+        Acts t app.old app.new (λ m g. rates.watch m label.now door.now side g) [] result [] }
+    ensures areas { app.new.areas ≡ app.old.areas }
+    ensures said { IsSaid result }
+    ensures enough { wants_memory result ≡ false }
+{
+    let (card, door) = match keys_to_watch(app, label, door) {
+        Err(refusal) => return Said::Refused(refusal),
+        Ok(keys) => keys,
+    };
+    // A storage card has no queue of frames.
+    let Side::Io = side else {
+        return Said::Refused(Refusal::WrongKind);
+    };
+    // A card's label has its card.
+    if app.devices.cards.at(card).is_none() {
+        return Said::Refused(Refusal::WrongKind);
+    }
+    app.devices.watch(card, door);
+    Said::Ok
 }

@@ -32,7 +32,9 @@ impl Host {
         ensures counts { CountsLine self.old self.new }
     {
         match step {
-            Step::Door(name, ..) | Step::Look(name, ..) => self.act_own(name, step, disk, out),
+            Step::Door(name, ..) | Step::Watch(name, ..) | Step::Look(name, ..) => {
+                self.act_own(name, step, disk, out);
+            }
             _ => say(out, Said::Refused(Refusal::UnknownWord)),
         }
     }
