@@ -79,7 +79,7 @@ run,--new,200,d => ready 200 0
 append a s - => refused 2 unknown word
 
 run,--new,200,d => ready 200 0
-dev a v => refused 2 unknown word
+settle a s => refused 2 unknown word
 
 run,--new,200,d => ready 200 0
 vsa a s 8 => refused 1 syntax
@@ -155,6 +155,16 @@ watch a v e rx => refused 5 no grant e
 watch a w e io => refused 5 no grant w
 watch a d e io => refused 5 no grant e
 look a d => ok 0 0 0
+dev b v => refused 3 no application
+dev a w => refused 5 no grant w
+dev a d => refused 6 wrong kind
+watch a v d io => ok
+dev a v => done ok
+look a d => ok 0 0 1
+dev a v => done ok
+dev a v => idle
+look a d => ok 0 0 1
+flush a v => refused 13 ring full
 
 run,--new,200,d => ready 200 0
 app a 4 => ok
