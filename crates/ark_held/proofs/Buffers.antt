@@ -1,6 +1,6 @@
 -- What stays where a word changes a buffer, its label and the application's memory, and nothing else that objects are compared with.
-use Rattle.std.proofs.Common.{◌≡◌, ℕ, Bool, true, List, length, refl, ◌∙◌, ap, arith, nat_eq}
-use Rattle.std.specs.Prelude.{Option, Some, None, option_map, slice_get}
+use Rattle.std.proofs.Common.{◌≡◌, ℕ, Bool, true, List, length, refl, sym, ◌∙◌, ap, arith, nat_eq}
+use Rattle.std.specs.Prelude.{Option, Some, None, option_map, option_and_then, slice_get}
 use Rattle.std.specs.Map.{lookup}
 use Rattle.ark_caps.specs.Labels.{value_at}
 use Rattle.ark_caps.specs.declared.capability.Capability.{Capability}
@@ -13,12 +13,16 @@ use Rattle.ark_machine.specs.Control.{is_open_on, is_socket_on}
 use Rattle.ark_held.specs.Words.{AreaList}
 use Rattle.ark_held.specs.Totals.{bit, total, uses}
 use Rattle.ark_held.specs.Kept.{BufferKept}
+use Rattle.ark_objects.specs.Held.{at as key_at}
 use Rattle.ark_held.specs.Stored.{buffer_kept}
+use Rattle.ark_held.specs.Rings.{card_kept}
 use Rattle.ark_held.specs.Held.{IsObjectOf, Holds}
 use Rattle.ark_held.specs.Keeps.{Keeps}
 use Rattle.ark_held.specs.Beyond.{Beyond, around}
 use Rattle.ark_held.specs.declared.app.App.{App}
+use Rattle.ark_held.specs.declared.devices.Devices.{Devices}
 use Rattle.ark_held.proofs.Lists.{not_some}
+use Rattle.ark_held.proofs.Spreading.{spread_same}
 use Rattle.ark_held.proofs.Besides.{same_history}
 use Rattle.ark_held.proofs.Finding.{stands_at}
 
@@ -28,22 +32,25 @@ CountsSame m n = (f : Object → ℕ) → ((z : Buffer) → f (Objects.buffer z)
 
 module _ (r : Beyond) (app app1 : App) (numbers : List ℕ) (machine : Machine) (same named : List ℕ → Bool) (rests : Piece → Type 0) (wider : (k : List ℕ) → same k ≡ true → named k ≡ true)
     (entries : (k : List ℕ) (c : Capability) → named k ≡ true → value_at app.labels k ≡ Some c → c.kind ≡ cap_kind.Buf → buffer_kept app1.store.buffers c.key ≡ buffer_kept app.store.buffers c.key)
-    (areas : app1.areas ≡ app.areas) (counts : CountsSame r.machine machine) where
+    (areas : app1.areas ≡ app.areas) (devices : app1.devices ≡ app.devices) (counts : CountsSame r.machine machine) where
   pub buffers_keep : ((i n : ℕ) → slice_get r.numbers i ≡ Some n → slice_get numbers i ≡ Some n) → length app1.store.region.taken ≡ length app.store.region.taken
       → ((p : Piece) → rests p → bytes_of app1.store.region p ≡ bytes_of app.store.region p) → ((k : List ℕ) (c : Capability) → named k ≡ true → value_at app.labels k ≡ Some c → value_at app1.labels k ≡ Some c)
+      → ((k : List ℕ) (c : Capability) (i : ℕ) → value_at app1.labels k ≡ Some c → slice_get r.numbers i ≡ Some c.grant → value_at app.labels k ≡ Some c)
       → Keeps same named rests (around r app) (around (record r { numbers = numbers; machine = machine }) app1)
-  buffers_keep grown frames bytes labels = record {
+  buffers_keep grown frames bytes labels granted = record {
     now = omega arith;
     numbers = grown;
     frames = frames;
     bytes = bytes;
+    granted = granted;
+    spread = λ i g a old is. spread_same app.areas g a (ap (λ (es : AreaList). lookup (nat_eq g) es) (sym areas) ∙ is);
     labels = labels;
     places = λ k c among is kind. ap (λ (o : Option BufferKept). option_map (λ z. z.piece) o) (entries k c among is kind);
-    logs = λ k c among is kind. refl;
+    logs = λ k c among is kind. ap (λ (d : Devices). option_and_then (λ z. z.log) (card_kept d.cards c.key)) devices;
     buffers = λ k c stays is kind. entries k c (wider k stays) is kind;
-    cards = λ k c stays is kind. refl;
+    cards = λ k c stays is kind. ap (λ (d : Devices). card_kept d.cards c.key) devices;
     nets = λ k c stays is kind. refl;
-    doors = λ k c stays is kind. refl;
+    doors = λ k c stays is kind. ap (λ (d : Devices). key_at d.doors c.key) devices;
     rates = λ k c stays is kind. refl;
     sockets = λ k c stays is kind. refl;
     rules = λ k c stays is kind. refl;

@@ -2,18 +2,19 @@
 use Rattle.std.proofs.Common.{◌≡◌, ℕ, suc, Bool, true, false, cond, List, [], ◌∷◌, length, refl, sym, ◌∙◌, ap, subst, bytes_eq}
 use Rattle.std.specs.Prelude.{Option, Some, None, is_some, find, nat_le, filter as select}
 use Rattle.ark_caps.specs.Labels.{value_at}
+use Rattle.ark_caps.specs.declared.capability.CapKind.{CapKind}
 use Rattle.ark_caps.specs.declared.capability.Capability.{Capability}
 use Rattle.ark_machine.specs.Objects
-use Rattle.ark_machine.specs.Objects.{Object, is_vsa}
+use Rattle.ark_machine.specs.Objects.{Object, is_vsa, is_card}
 use Rattle.ark_machine.specs.Machine.{Held, at, is_full, held_count}
 use Rattle.ark_held.specs.Words.{Labels}
 use Rattle.ark_held.specs.Around.{Around}
-use Rattle.ark_held.specs.Held.{IsObjectOf, Matches, AllMatch, AtLabel, Holds, is_area, area_labels}
+use Rattle.ark_held.specs.Held.{IsObjectOf, Matches, AllMatch, AtLabel, Holds, is_area, is_card_kind, card_labels}
 use Rattle.ark_held.proofs.Lists.{by_test, same_name, not_some, some_same}
 
 -- Under one label.
 
-matches_at : (x : Around) (p : List ℕ × Capability) (h : Held) (l : List ℕ) → p.0 ≡ l → Matches x p h → Matches x (l, p.1) h
+pub matches_at : (x : Around) (p : List ℕ × Capability) (h : Held) (l : List ℕ) → p.0 ≡ l → Matches x p h → Matches x (l, p.1) h
 matches_at x p h l same m = record { label = m.label ∙ same; serial = m.serial; object = subst (λ (k : List ℕ). IsObjectOf x k p.1 h.object) same m.object }
 
 pub found : (x : Around) (l : List ℕ) (ps : Labels) (hs : List Held) → AllMatch x ps hs → AtLabel x l (value_at ps l) (find (λ h. bytes_eq l h.label) hs)
@@ -79,16 +80,32 @@ pub longer : {A B : Type 0} (t : Bool) (a : A) (xs : List A) (b : B) (ys : List 
 longer true a xs b ys same = ap suc same
 longer false a xs b ys same = same
 
-count_held : (x : Around) (ps : Labels) (hs : List Held) → AllMatch x ps hs → length (select (λ h. is_vsa h.object) hs) ≡ length (area_labels ps)
-count_held x [] [] all = refl
-count_held x (p ∷ ps) (h ∷ hs) all =
-    ap (λ t. length (cond t (h ∷ select (λ h. is_vsa h.object) hs) (select (λ h. is_vsa h.object) hs))) (kind_is x p.0 p.1 h.object all.0.object)
-    ∙ longer (is_area p.1.kind) h (select (λ h. is_vsa h.object) hs) p (area_labels ps) (count_held x ps hs all.1)
-count_held x [] (h ∷ hs) all = absurd all
-count_held x (p ∷ ps) [] all = absurd all
+-- of the objects and of the labels as many pass, where a test of an object is that of its capability's kind
+module _ (x : Around) (is : Object → Bool) (of : CapKind → Bool) (same : (l : List ℕ) (c : Capability) (o : Object) → IsObjectOf x l c o → is o ≡ of c.kind) where
+  count_held : (ps : Labels) (hs : List Held) → AllMatch x ps hs → length (select (λ h. is h.object) hs) ≡ length (select (λ (p : List ℕ × Capability). of p.1.kind) ps)
+  count_held [] [] all = refl
+  count_held (p ∷ ps) (h ∷ hs) all =
+      ap (λ t. length (cond t (h ∷ select (λ h. is h.object) hs) (select (λ h. is h.object) hs))) (same p.0 p.1 h.object all.0.object)
+      ∙ longer (of p.1.kind) h (select (λ h. is h.object) hs) p (select (λ (q : List ℕ × Capability). of q.1.kind) ps) (count_held ps hs all.1)
+  count_held [] (h ∷ hs) all = absurd all
+  count_held (p ∷ ps) [] all = absurd all
 
 pub count_areas : (x : Around) → Holds x → held_count is_vsa x.machine ≡ length x.areas
-count_areas x h = count_held x x.labels x.machine.held h.held ∙ sym h.areas
+count_areas x h = count_held x is_vsa is_area (kind_is x) x.labels x.machine.held h.held ∙ sym h.areas
+
+card_is : (x : Around) (l : List ℕ) (c : Capability) (o : Object) → IsObjectOf x l c o → is_card o ≡ is_card_kind c.kind
+card_is x l c (Objects.raw r) f = sym (ap is_card_kind f.its_kind)
+card_is x l c (Objects.log g) f = sym (ap is_card_kind f.its_kind)
+card_is x l c (Objects.vsic v) f = sym (ap is_card_kind f.its_kind)
+card_is x l c (Objects.vnic v) f = sym (ap is_card_kind f.its_kind)
+card_is x l c (Objects.filter g card) f = sym (ap is_card_kind f.its_kind)
+card_is x l c (Objects.door d) f = sym (ap is_card_kind f.its_kind)
+card_is x l c (Objects.rate q b) f = sym (ap is_card_kind f.its_kind)
+card_is x l c (Objects.buffer b) f = sym (ap is_card_kind f.its_kind)
+card_is x l c (Objects.socket k) f = sym (ap is_card_kind f.its_kind)
+
+pub count_cards : (x : Around) → Holds x → held_count is_card x.machine ≡ length (card_labels x.labels)
+count_cards x h = count_held x is_card is_card_kind (card_is x) x.labels x.machine.held h.held
 
 pub count_labels : (x : Around) (ps : Labels) (hs : List Held) → AllMatch x ps hs → length hs ≡ length ps
 count_labels x [] [] all = refl

@@ -1,6 +1,6 @@
 -- The descriptors that have a buffer.
 use Rattle.std.proofs.Common.{◌≡◌, ℕ, ◌+◌, ◌<◌, Bool, true, false, not, nat_lt, List, [], ◌∷◌, refl, sym, ◌∙◌, ap, arith, bytes_eq}
-use Rattle.std.specs.Prelude.{Option, Some, None, ◌||◌}
+use Rattle.std.specs.Prelude.{Option, Some, None, ◌||◌, option_map, unwrap_or}
 use Rattle.std.specs.List.{list_any, AllByRecursion}
 use Rattle.std.proofs.lemmas.Bool.Decides.{nat_tests}
 use Rattle.ark_base.specs.declared.kind.Outcome.{Outcome}
@@ -16,8 +16,9 @@ use Rattle.ark_machine.specs.Objects
 use Rattle.ark_machine.specs.Objects.{Object, Job, transfer, flush, phase, Place, named as in_buffer, taken, Paced}
 use Rattle.ark_machine.specs.Machine.{Machine, Held}
 use Rattle.ark_machine.specs.Buffers.{is_lent, has_buffer, job_has, place_has}
+use Rattle.ark_machine.specs.Control.{has_log, is_open_on}
 use Rattle.ark_held.specs.Words.{Labels}
-use Rattle.ark_held.specs.Totals.{bit, total, uses, lent_count}
+use Rattle.ark_held.specs.Totals.{bit, total, uses, lent_count, open_count}
 use Rattle.ark_held.specs.Kept.{PaceKept, ChainKept}
 use Rattle.ark_held.specs.Around.{Around, Names, IsGranted, Each, Both}
 use Rattle.ark_held.specs.Areas.{IsOpened}
@@ -66,6 +67,10 @@ uses_is l (Objects.socket z) = refl
 -- a buffer is lent where a descriptor has it
 pub lent_is : (m : Machine) (l : List ℕ) (b : Bool) → bit b ≡ lent_count m l → is_lent m l ≡ b
 lent_is m l b is = any_is (λ h. has_buffer l h.object) (λ h. uses l h.object) (λ h. uses_is l h.object) m.held ∙ ap (λ n. nat_lt 0 n) (sym is) ∙ bit_some b
+
+-- a log is open on a card where one says so
+pub log_is : (m : Machine) (l : List ℕ) (b : Bool) → bit b ≡ open_count m l → has_log m l ≡ b
+log_is m l b is = any_bit (λ h. is_open_on l h.object) m.held ∙ ap (λ n. nat_lt 0 n) (sym is) ∙ bit_some b
 
 -- Nothing has a buffer under a label that is not there.
 
@@ -126,6 +131,32 @@ module _ (x : Around) (l : List ℕ) (absent : value_at x.labels l ≡ None) whe
   none_lent (p ∷ ps) (h ∷ hs) all = let a = none_uses p.0 p.1 h.object all.0.object in let b = none_lent ps hs all.1 in omega (arith, a, b)
   none_lent [] (h ∷ hs) all = absurd all
   none_lent (p ∷ ps) [] all = absurd all
+
+-- Nor is a log open on a card there.
+
+module _ (x : Around) (l : List ℕ) (absent : value_at x.labels l ≡ None) where
+  opened_none : (grant : ℕ) (k : Option ChainKept) (o : Option Opened) → Both (IsOpened x grant) k o → bit (unwrap_or (option_map (λ z. bytes_eq l z.card) o) false) ≡ 0
+  opened_none grant None None is = refl
+  opened_none grant (Some k) (Some o) is = name_none x l absent o.card cap_kind.Vsic k.card is.card
+  opened_none grant None (Some o) is = absurd is
+  opened_none grant (Some k) None is = absurd is
+
+  object_open : (k : List ℕ) (c : Capability) (o : Object) → IsObjectOf x k c o → bit (is_open_on l o) ≡ 0
+  object_open k c (Objects.log g) f = opened_none c.grant (x.tables.chains c.grant) g.opened f.opened
+  object_open k c (Objects.vsic v) f = refl
+  object_open k c (Objects.vnic v) f = refl
+  object_open k c (Objects.raw z) f = refl
+  object_open k c (Objects.filter z y) f = refl
+  object_open k c (Objects.door z) f = refl
+  object_open k c (Objects.rate z y) f = refl
+  object_open k c (Objects.buffer z) f = refl
+  object_open k c (Objects.socket z) f = refl
+
+  pub none_open : (ps : Labels) (hs : List Held) → AllMatch x ps hs → total (λ h. bit (is_open_on l h.object)) hs ≡ 0
+  none_open [] [] all = refl
+  none_open (p ∷ ps) (h ∷ hs) all = let a = object_open p.0 p.1 h.object all.0.object in let b = none_open ps hs all.1 in omega (arith, a, b)
+  none_open [] (h ∷ hs) all = absurd all
+  none_open (p ∷ ps) [] all = absurd all
 
 -- An object that does not have the buffer under a label names other labels alone.
 

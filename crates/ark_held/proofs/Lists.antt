@@ -1,5 +1,5 @@
 -- Lists of labels, numbers and sums.
-use Rattle.std.proofs.Common.{◌≡◌, inl, inr, ℕ, zero, suc, ◌+◌, ◌<◌, ◌≤◌, nat_le, nat_lt, Bool, true, false, cond, List, [], ◌∷◌, ◌++◌, length, refl, sym, ◌∙◌, ap, arith, bytes_eq}
+use Rattle.std.proofs.Common.{◌≡◌, inl, inr, ℕ, zero, suc, ◌+◌, ◌<◌, ◌≤◌, nat_le, nat_lt, Bool, true, false, cond, List, [], ◌∷◌, ◌++◌, length, refl, sym, ◌∙◌, ap, subst, arith, bytes_eq}
 use Rattle.std.specs.Prelude.{◌⊎◌, Option, Some, None, is_some, slice_get, unwrap_or}
 use Rattle.std.specs.Option.{option_or}
 use Rattle.std.specs.Map.{lookup}
@@ -111,6 +111,28 @@ value_last ps l c none = lookup_last (bytes_eq l) ps (l, c) none ∙ ap (λ b. c
 pub value_other : (ps : Labels) (l k : List ℕ) (c : Capability) → bytes_eq l k ≡ false → value_at (ps ++ (l, c) ∷ []) k ≡ value_at ps k
 value_other ps l k c apart = lookup_other (bytes_eq k) ps (l, c) (turned l k apart)
 
+-- what is under a label then was there, unless it is the last
+pub value_old : (ps : Labels) (l : List ℕ) (c : Capability) (k : List ℕ) (d : Capability) → value_at (ps ++ (l, c) ∷ []) k ≡ Some d → (d ≡ c → ⊥) → value_at ps k ≡ Some d
+value_old [] l c k d is other = absurd (last_is (bytes_eq k l) is)
+  where
+    last_is : (b : Bool) → cond b (Some c) None ≡ Some d → ⊥
+    last_is true e = other (sym (some_same (Some c) c d refl e))
+    last_is false e = not_some None d refl e
+value_old (p ∷ ps) l c k d is other = by (bytes_eq k p.0) (value_old ps l c k d) is
+  where
+    by : (b : Bool) → (value_at (ps ++ (l, c) ∷ []) k ≡ Some d → (d ≡ c → ⊥) → value_at ps k ≡ Some d) → cond b (Some p.1) (value_at (ps ++ (l, c) ∷ []) k) ≡ Some d → cond b (Some p.1) (value_at ps k) ≡ Some d
+    by true rest h = h
+    by false rest h = rest h other
+
+-- what holds of all of a list holds of what is under a label
+pub all_values : (P : Capability → Type 0) (ps : Labels) → AllByRecursion (λ p. P p.1) ps → (l : List ℕ) (c : Capability) → value_at ps l ≡ Some c → P c
+all_values P [] all l c is = absurd (not_some None c refl is)
+all_values P (p ∷ ps) all l c is = by (bytes_eq l p.0) (all_values P ps all.1 l c) is
+  where
+    by : (b : Bool) → (value_at ps l ≡ Some c → P c) → cond b (Some p.1) (value_at ps l) ≡ Some c → P c
+    by true rest e = subst P (some_same (Some p.1) p.1 c refl e) all.0
+    by false rest e = rest e
+
 -- none of a list has the label of one that is not in it
 pub head_apart : (p : List ℕ × Capability) (ps : Labels) (l : List ℕ) → value_at (p ∷ ps) l ≡ None → (bytes_eq l p.0 ≡ false) × (value_at ps l ≡ None)
 head_apart p ps l none = by_test (λ b. bytes_eq l p.0 ≡ b → cond b (Some p.1) (value_at ps l) ≡ None → (bytes_eq l p.0 ≡ false) × (value_at ps l ≡ None)) (bytes_eq l p.0)
@@ -156,3 +178,16 @@ each_all P Q f [] [] e = tt
 each_all P Q f (x ∷ xs) (y ∷ ys) e = (f x y e.0, each_all P Q f xs ys e.1)
 each_all P Q f [] (y ∷ ys) e = absurd e
 each_all P Q f (x ∷ xs) [] e = absurd e
+
+pub each_length : {X Y : Type 0} (P : X → Y → Type 0) (xs : List X) (ys : List Y) → Each P xs ys → length xs ≡ length ys
+each_length P [] [] e = refl
+each_length P (x ∷ xs) (y ∷ ys) e = ap suc (each_length P xs ys e.1)
+each_length P [] (y ∷ ys) e = absurd e
+each_length P (x ∷ xs) [] e = absurd e
+
+-- one more at the end of both
+pub each_more : {X Y : Type 0} (P : X → Y → Type 0) (xs : List X) (ys : List Y) (x : X) (y : Y) → Each P xs ys → P x y → Each P (xs ++ x ∷ []) (ys ++ y ∷ [])
+each_more P [] [] x y e one = (one, tt)
+each_more P (z ∷ zs) (w ∷ ws) x y e one = (e.0, each_more P zs ws x y e.1 one)
+each_more P [] (w ∷ ws) x y e one = absurd e
+each_more P (z ∷ zs) [] x y e one = absurd e

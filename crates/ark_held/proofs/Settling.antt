@@ -20,6 +20,7 @@ use Rattle.ark_media.specs.Standing.{MayStand}
 use Rattle.ark_held.specs.Beside.{AreBeside}
 use Rattle.ark_held.specs.Held.{IsObjectOf, Holds}
 use Rattle.ark_held.specs.Keeps.{Keeps, any_label, any_piece}
+use Rattle.ark_held.proofs.Spreading.{spread_same}
 use Rattle.ark_held.proofs.Besides.{same_history, current_beside, may_beside}
 use Rattle.ark_held.proofs.Keeping.{fits_kept}
 use Rattle.ark_held.proofs.Staying.{within}
@@ -66,6 +67,8 @@ module _ (x : Around) (h : Holds x)
     numbers = λ i g is. is;
     frames = refl;
     bytes = λ p rests. refl;
+    granted = λ l c i is old. is;
+    spread = λ i g a old is. spread_same x.areas g a is;
     labels = λ l c named is. is;
     places = λ l c named is its. refl;
     logs = λ l c named is its. refl;
@@ -92,6 +95,8 @@ module _ (x : Around) (h : Holds x)
     numbers = keeps.numbers;
     frames = refl;
     bytes = keeps.bytes;
+    granted = keeps.granted;
+    spread = keeps.spread;
     labels = keeps.labels;
     places = keeps.places;
     logs = keeps.logs;

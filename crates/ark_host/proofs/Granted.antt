@@ -350,7 +350,7 @@ module _ (host : Host) (size : ℕ) (past : History) (s : System) (a l : List �
             (0, omega arith, get_or-replicate n k zero_block [] (omega (arith, lt, count)) ∙ sym is);
       }
 
-      module _ (now : Host) (app1 : App) (labels : app1.labels ≡ app.labels ++ (l, new_area_cap host.grants) ∷ []) (held : app1.areas ≡ with_area app.areas host.grants (raw_area spans)) (region : app1.store.region ≡ app.store.region) (buffers : app1.store.buffers ≡ app.store.buffers) (name : app1.name ≡ app.name)
+      module _ (now : Host) (app1 : App) (labels : app1.labels ≡ app.labels ++ (l, new_area_cap host.grants) ∷ []) (held : app1.areas ≡ with_area app.areas host.grants (raw_area spans)) (region : app1.store.region ≡ app.store.region) (buffers : app1.store.buffers ≡ app.store.buffers) (devices : app1.devices ≡ app.devices) (name : app1.name ≡ app.name)
           (items : now.apps.items ≡ set host.apps.items place app1) (free : now.free ≡ drop n host.free) (tables : now.table ≡ with_slot host.table i (Some (record { app = a; label = l; kind = kind.Raw; runs = runs_of spans }))) (failed : now.failed ≡ host.failed)
           (grants : now.grants ≡ host.grants + 1) (clock : now.clock ≡ host.clock) where
         abbrev plane : Plane
@@ -387,7 +387,7 @@ module _ (host : Host) (size : ℕ) (past : History) (s : System) (a l : List �
           numbers = h.numbers ++ host.grants ∷ [];
           holds = granted (record then { machine = each_object settled (machine_of s a) }) (around later (after past es) a (h.numbers ++ host.grants ∷ []) app1 (machine_of later a)) (heeded true synced_yes) l host.grants slot zeros
               unlabelled (h.unused host.grants (omega arith)) new_number refl refl refl zero_content
-              refl refl refl labels more_areas (same_tables app1.store app.store region buffers) refl refl refl (set_here s plane a one one_made ∙ one_is);
+              refl refl refl labels more_areas (same_tables app1.store app.store app1.devices app.devices region buffers devices) refl refl refl (set_here s plane a one one_made ∙ one_is);
           below = λ k g is. elim (number_cases h.numbers host.grants k g is) [
             | inl old ↦ let lt = h.below k g old in omega (arith, lt, grants)
             | inr new ↦ omega (arith, new.1, grants)

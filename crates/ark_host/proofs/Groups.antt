@@ -10,6 +10,7 @@ use Rattle.ark_script.specs.Line.{Line, line_of}
 use Rattle.ark_script.specs.declared.group.Group.{Group}
 use Rattle.ark_script.specs.declared.group.Group.TheVariants as group
 use Rattle.ark_script.specs.declared.step.Hex.{Hex}
+use Rattle.ark_script.specs.declared.step.Side.{Side}
 use Rattle.ark_script.specs.declared.step.Step.{Step}
 use Rattle.ark_script.specs.declared.step.Step.TheVariants as step
 use Rattle.ark_machine.specs.Built.{is_built}
@@ -20,6 +21,8 @@ use Rattle.ark_host.specs.Time.{Counts, CountsLine}
 abbrev pub has_built : Group → Bool
 has_built group.Control = true
 has_built group.Memory = true
+has_built group.Rates = true
+has_built group.Cards = true
 has_built _ = false
 
 -- no word of any other group is
@@ -34,15 +37,38 @@ unbuilt_group (w.fill a b off bytes) none = absurd (false≢true (sym none))
 unbuilt_group (w.copy a b c len) none = absurd (false≢true (sym none))
 unbuilt_group (w.free a b) none = absurd (false≢true (sym none))
 unbuilt_group (w.tick n) none = absurd (false≢true (sym none))
+unbuilt_group (w.vsic a v size) none = absurd (false≢true (sym none))
+unbuilt_group (w.flush a v) none = absurd (false≢true (sym none))
+unbuilt_group (w.dev a v) none = absurd (false≢true (sym none))
+unbuilt_group (w.door a d) none = absurd (false≢true (sym none))
+unbuilt_group (w.watch a v d q) none = absurd (false≢true (sym none))
+unbuilt_group (w.look a d) none = absurd (false≢true (sym none))
 unbuilt_group _ none = refl
 
-pub other_group : (g : Group) → (g ≡ group.Control → ⊥) → (g ≡ group.Memory → ⊥) → has_built g ≡ false
-other_group group.Control no_control no_memory = absurd (no_control refl)
-other_group group.Memory no_control no_memory = absurd (no_memory refl)
-other_group _ no_control no_memory = refl
+pub other_group : (g : Group) → (g ≡ group.Control → ⊥) → (g ≡ group.Memory → ⊥) → (g ≡ group.Rates → ⊥) → (g ≡ group.Cards → ⊥) → has_built g ≡ false
+other_group group.Control no_control no_memory no_rates no_cards = absurd (no_control refl)
+other_group group.Memory no_control no_memory no_rates no_cards = absurd (no_memory refl)
+other_group group.Rates no_control no_memory no_rates no_cards = absurd (no_rates refl)
+other_group group.Cards no_control no_memory no_rates no_cards = absurd (no_cards refl)
+other_group _ no_control no_memory no_rates no_cards = refl
 
 two_groups : group.Control ≡ group.Memory → ⊥
 two_groups h = cc
+
+no_rates_control : group.Rates ≡ group.Control → ⊥
+no_rates_control h = cc
+
+no_rates_memory : group.Rates ≡ group.Memory → ⊥
+no_rates_memory h = cc
+
+no_cards_control : group.Cards ≡ group.Control → ⊥
+no_cards_control h = cc
+
+no_cards_memory : group.Cards ≡ group.Memory → ⊥
+no_cards_memory h = cc
+
+no_cards_rates : group.Cards ≡ group.Rates → ⊥
+no_cards_rates h = cc
 
 -- the words about applications, areas and time that are not built
 pub unbuilt_control : (x : Step) → (attributes (line_of x)).group ≡ group.Control
@@ -58,6 +84,12 @@ unbuilt_control (step.Show a l off n) about no_app no_vsa no_tick = absurd (two_
 unbuilt_control (step.Fill a l off hex) about no_app no_vsa no_tick = absurd (two_groups (sym about))
 unbuilt_control (step.Copy a l m n) about no_app no_vsa no_tick = absurd (two_groups (sym about))
 unbuilt_control (step.Free a l) about no_app no_vsa no_tick = absurd (two_groups (sym about))
+unbuilt_control (step.Door a d) about no_app no_vsa no_tick = absurd (no_rates_control about)
+unbuilt_control (step.Watch a v d q) about no_app no_vsa no_tick = absurd (no_rates_control about)
+unbuilt_control (step.Look a d) about no_app no_vsa no_tick = absurd (no_rates_control about)
+unbuilt_control (step.Vsic a v size) about no_app no_vsa no_tick = absurd (no_cards_control about)
+unbuilt_control (step.Flush a v) about no_app no_vsa no_tick = absurd (no_cards_control about)
+unbuilt_control (step.Dev a v) about no_app no_vsa no_tick = absurd (no_cards_control about)
 unbuilt_control _ about no_app no_vsa no_tick = refl
 
 -- each word about blocks and buffers is built
@@ -75,7 +107,53 @@ all_memory (step.Free a l) about no_peek no_poke no_buf no_show no_fill no_copy 
 all_memory (step.App a frames) about no_peek no_poke no_buf no_show no_fill no_copy no_free = absurd (two_groups about)
 all_memory (step.Vsa a l n k) about no_peek no_poke no_buf no_show no_fill no_copy no_free = absurd (two_groups about)
 all_memory (step.Tick n) about no_peek no_poke no_buf no_show no_fill no_copy no_free = absurd (two_groups about)
+all_memory (step.Door a d) about no_peek no_poke no_buf no_show no_fill no_copy no_free = absurd (no_rates_memory about)
+all_memory (step.Watch a v d q) about no_peek no_poke no_buf no_show no_fill no_copy no_free = absurd (no_rates_memory about)
+all_memory (step.Look a d) about no_peek no_poke no_buf no_show no_fill no_copy no_free = absurd (no_rates_memory about)
+all_memory (step.Vsic a v size) about no_peek no_poke no_buf no_show no_fill no_copy no_free = absurd (no_cards_memory about)
+all_memory (step.Flush a v) about no_peek no_poke no_buf no_show no_fill no_copy no_free = absurd (no_cards_memory about)
+all_memory (step.Dev a v) about no_peek no_poke no_buf no_show no_fill no_copy no_free = absurd (no_cards_memory about)
 all_memory _ about no_peek no_poke no_buf no_show no_fill no_copy no_free = refl
+
+-- the words about rates and doors that are not built
+pub unbuilt_rates : (x : Step) → (attributes (line_of x)).group ≡ group.Rates → ((a d : List ℕ) → x ≡ step.Door a d → ⊥) → ((a v : List ℕ) (d : Option (List ℕ)) (q : Side) → x ≡ step.Watch a v d q → ⊥) → ((a d : List ℕ) → x ≡ step.Look a d → ⊥) → is_built (line_of x) ≡ false
+unbuilt_rates (step.Door a d) about no_door no_watch no_look = absurd (no_door a d refl)
+unbuilt_rates (step.Watch a v d q) about no_door no_watch no_look = absurd (no_watch a v d q refl)
+unbuilt_rates (step.Look a d) about no_door no_watch no_look = absurd (no_look a d refl)
+unbuilt_rates (step.App a frames) about no_door no_watch no_look = absurd (no_rates_control (sym about))
+unbuilt_rates (step.Vsa a l n k) about no_door no_watch no_look = absurd (no_rates_control (sym about))
+unbuilt_rates (step.Tick n) about no_door no_watch no_look = absurd (no_rates_control (sym about))
+unbuilt_rates (step.Peek a l off) about no_door no_watch no_look = absurd (no_rates_memory (sym about))
+unbuilt_rates (step.Poke a l off hex) about no_door no_watch no_look = absurd (no_rates_memory (sym about))
+unbuilt_rates (step.Buf a l n) about no_door no_watch no_look = absurd (no_rates_memory (sym about))
+unbuilt_rates (step.Show a l off n) about no_door no_watch no_look = absurd (no_rates_memory (sym about))
+unbuilt_rates (step.Fill a l off hex) about no_door no_watch no_look = absurd (no_rates_memory (sym about))
+unbuilt_rates (step.Copy a l m n) about no_door no_watch no_look = absurd (no_rates_memory (sym about))
+unbuilt_rates (step.Free a l) about no_door no_watch no_look = absurd (no_rates_memory (sym about))
+unbuilt_rates (step.Vsic a v size) about no_door no_watch no_look = absurd (no_cards_rates about)
+unbuilt_rates (step.Flush a v) about no_door no_watch no_look = absurd (no_cards_rates about)
+unbuilt_rates (step.Dev a v) about no_door no_watch no_look = absurd (no_cards_rates about)
+unbuilt_rates _ about no_door no_watch no_look = refl
+
+-- the words about storage cards that are not built
+pub unbuilt_cards : (x : Step) → (attributes (line_of x)).group ≡ group.Cards → ((a v : List ℕ) (size : ℕ) → x ≡ step.Vsic a v size → ⊥) → ((a v : List ℕ) → x ≡ step.Flush a v → ⊥) → ((a v : List ℕ) → x ≡ step.Dev a v → ⊥) → is_built (line_of x) ≡ false
+unbuilt_cards (step.Vsic a v size) about no_vsic no_flush no_dev = absurd (no_vsic a v size refl)
+unbuilt_cards (step.Flush a v) about no_vsic no_flush no_dev = absurd (no_flush a v refl)
+unbuilt_cards (step.Dev a v) about no_vsic no_flush no_dev = absurd (no_dev a v refl)
+unbuilt_cards (step.Door a d) about no_vsic no_flush no_dev = absurd (no_cards_rates (sym about))
+unbuilt_cards (step.Watch a v d q) about no_vsic no_flush no_dev = absurd (no_cards_rates (sym about))
+unbuilt_cards (step.Look a d) about no_vsic no_flush no_dev = absurd (no_cards_rates (sym about))
+unbuilt_cards (step.App a frames) about no_vsic no_flush no_dev = absurd (no_cards_control (sym about))
+unbuilt_cards (step.Vsa a l n k) about no_vsic no_flush no_dev = absurd (no_cards_control (sym about))
+unbuilt_cards (step.Tick n) about no_vsic no_flush no_dev = absurd (no_cards_control (sym about))
+unbuilt_cards (step.Peek a l off) about no_vsic no_flush no_dev = absurd (no_cards_memory (sym about))
+unbuilt_cards (step.Poke a l off hex) about no_vsic no_flush no_dev = absurd (no_cards_memory (sym about))
+unbuilt_cards (step.Buf a l n) about no_vsic no_flush no_dev = absurd (no_cards_memory (sym about))
+unbuilt_cards (step.Show a l off n) about no_vsic no_flush no_dev = absurd (no_cards_memory (sym about))
+unbuilt_cards (step.Fill a l off hex) about no_vsic no_flush no_dev = absurd (no_cards_memory (sym about))
+unbuilt_cards (step.Copy a l m n) about no_vsic no_flush no_dev = absurd (no_cards_memory (sym about))
+unbuilt_cards (step.Free a l) about no_vsic no_flush no_dev = absurd (no_cards_memory (sym about))
+unbuilt_cards _ about no_vsic no_flush no_dev = refl
 
 -- a word's counts are those of a line
 pub counted : (old now : Host) (ticks most : ℕ) → ticks ≤ a_billion → most ≤ 1 → Counts old now ticks most → CountsLine old now

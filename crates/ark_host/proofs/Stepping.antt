@@ -122,13 +122,13 @@ module _ (host now : Host) (told : Told) (a l : List ℕ) (n i place : ℕ) (app
     fronts = fronts false made;
   }
 
-  pub steps_granted : plan true → (app1 : App) → app1.labels ≡ app.labels ++ (l, new_area_cap host.grants) ∷ [] → app1.areas ≡ with_area app.areas host.grants (raw_area spans) → app1.store.region ≡ app.store.region → app1.store.buffers ≡ app.store.buffers → app1.name ≡ app.name
+  pub steps_granted : plan true → (app1 : App) → app1.labels ≡ app.labels ++ (l, new_area_cap host.grants) ∷ [] → app1.areas ≡ with_area app.areas host.grants (raw_area spans) → app1.store.region ≡ app.store.region → app1.store.buffers ≡ app.store.buffers → app1.devices ≡ app.devices → app1.name ≡ app.name
       → now.apps.items ≡ set host.apps.items place app1 → now.free ≡ drop n host.free → now.table ≡ with_slot host.table i (Some (record { app = a; label = l; kind = kind.Raw; runs = runs_of spans })) → now.failed ≡ host.failed → now.grants ≡ host.grants + 1 → now.clock ≡ host.clock
       → Steps host now told (Ok (w.vsa a l n kind.Raw)) es said.Ok []
-  steps_granted made app1 labels held region buffers name items free tables failed grants clock = record {
+  steps_granted made app1 labels held region buffers devices name items free tables failed grants clock = record {
     devices = makes_devices _ true es made;
     answered = λ s h stood. vsa_answered now told.blocks (after h es) s a l n es said.Ok [] refl
-        (vsa_granted host told.blocks h s a l n i place app stood.stands small some app_name label_name ok there compact spans taken true es made refl now app1 labels held region buffers name items free tables failed grants clock);
+        (vsa_granted host told.blocks h s a l n i place app stood.stands small some app_name label_name ok there compact spans taken true es made refl now app1 labels held region buffers devices name items free tables failed grants clock);
     fronts = fronts true made;
   }
 

@@ -38,8 +38,8 @@ module _ (t : Told) (app app1 : App) (b c : List ℕ) (len j k : ℕ) (keys : Ok
   to_is = second_is t app b c len len row (copied b c len) (λ m g. refl) j k keys
 
   pub copy_done : Wrote app.store.region app1.store.region target 0 (take len (bytes_of app.store.region source)) → app1.store.buffers ≡ app.store.buffers
-      → app1.labels ≡ app.labels → app1.areas ≡ app.areas → app1.name ≡ app.name → Acts t app app1 row [] said.Ok []
-  copy_done wrote buffers labels areas name = comes t app app1 row said.Ok [] areas name (λ y g sited h.
+      → app1.labels ≡ app.labels → app1.areas ≡ app.areas → app1.devices ≡ app.devices → app1.name ≡ app.name → Acts t app app1 row [] said.Ok []
+  copy_done wrote buffers labels areas devices name = comes t app app1 row said.Ok [] areas name (λ y g sited h.
       let p = its app b j from_is y h in
       let q = its app c k to_is y h in
       let bytes = take len p.buffer.bytes in
@@ -52,5 +52,5 @@ module _ (t : Told) (app app1 : App) (b c : List ℕ) (len j k : ℕ) (keys : Ok
         is,
         rewritten y app app1 c q.buffer q.held 0 bytes (omega (arith, long, room)) h q.there q.object
             (subst (λ (z : List ℕ). Wrote app.store.region app1.store.region (piece_of q.buffer) 0 (take len z)) was
-            (subst (λ (z : Piece). Wrote app.store.region app1.store.region z 0 (take len (bytes_of app.store.region source))) (place_same app c k to_is to there y q target its_right) wrote)) buffers labels areas,
+            (subst (λ (z : Piece). Wrote app.store.region app1.store.region z 0 (take len (bytes_of app.store.region source))) (place_same app c k to_is to there y q target its_right) wrote)) buffers labels areas devices,
       ))

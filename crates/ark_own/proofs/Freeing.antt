@@ -30,7 +30,7 @@ use Rattle.ark_held.proofs.Covering.{in_total, found_in}
 use Rattle.ark_held.proofs.Creating.{but}
 use Rattle.ark_held.proofs.Granted.{not_but}
 use Rattle.ark_held.proofs.Lending.{narrowed}
-use Rattle.ark_held.proofs.Removing.{others_value, others_areas, total_others, removed}
+use Rattle.ark_held.proofs.Removing.{others_value, others_was, others_areas, total_others, removed}
 use Rattle.ark_held.proofs.Staying.{within}
 use Rattle.ark_held.proofs.Taking.{given_bit}
 use Rattle.ark_held.proofs.Doing.{comes}
@@ -38,7 +38,8 @@ use Rattle.ark_own.specs.Keys.{buffer_key}
 use Rattle.ark_own.proofs.OfBuffers.{HasBuffer, conditions, its, entry_same, place_same, done}
 
 module _ (r : Beyond) (app app1 : App) (l : List ℕ) (key : ℕ) (h : Holds (around r app)) (b : HasBuffer (around r app) l key) (gave : Gave app.store.region app1.store.region app.store.buffers app1.store.buffers key)
-    (place : gave.right ≡ piece_of b.buffer) (unlent : lent_count r.machine l ≡ 0) (labels : app1.labels ≡ others l app.labels) (areas : app1.areas ≡ app.areas) where
+    (place : gave.right ≡ piece_of b.buffer) (unlent : lent_count r.machine l ≡ 0) (labels : app1.labels ≡ others l app.labels) (areas : app1.areas ≡ app.areas)
+    (devices : app1.devices ≡ app.devices) where
   abbrev x : Around
   x = around r app
 
@@ -56,9 +57,10 @@ module _ (r : Beyond) (app app1 : App) (l : List ℕ) (key : ℕ) (h : Holds (ar
       omega (arith, all, zero)
 
   keeps : Keeps (but l) (but l) any_piece x y
-  keeps = buffers_keep r app app1 r.numbers (without r.machine l) (but l) (but l) any_piece (λ k stays. stays) same_key areas counts
+  keeps = buffers_keep r app app1 r.numbers (without r.machine l) (but l) (but l) any_piece (λ k stays. stays) same_key areas devices counts
       (λ i n is. is) gave.frames (λ p rests. ap (λ (bs : List ℕ). slice_range bs (512 * p.start) (512 * p.start + p.len)) gave.bytes)
       (λ k c named is. ap (λ (ls : Labels). value_at ls k) labels ∙ others_value l k app.labels (not_but l k named) ∙ is)
+      (λ k c i is old. others_was l k c app.labels (ap (λ (ls : Labels). value_at ls k) (sym labels) ∙ is))
 
   kind_is : is_area_cap (value_at app.labels l) ≡ false
   kind_is = ap is_area_cap b.label ∙ ap is_area b.fits.its_kind
@@ -94,12 +96,12 @@ free_row l m g =
     let near : false ≡ nat_lt (length (bytes_at m l)) 0 = grind (arith, nat_tests) in
     ap (λ t. answer m (record none { no_application = not m.made; no_grant = missing m (l ∷ []); wrong_kind = is_none (buffer_at m l); out_of_range = t; lent = is_lent m l }) (freed l m g)) near
 
-pub free_done : (t : Told) (app app1 : App) (l : List ℕ) (key : ℕ) (is : Ok key ≡ buffer_key app.labels l) (gave : Gave app.store.region app1.store.region app.store.buffers app1.store.buffers key) → app1.labels ≡ others l app.labels → app1.areas ≡ app.areas → app1.name ≡ app.name
+pub free_done : (t : Told) (app app1 : App) (l : List ℕ) (key : ℕ) (is : Ok key ≡ buffer_key app.labels l) (gave : Gave app.store.region app1.store.region app.store.buffers app1.store.buffers key) → app1.labels ≡ others l app.labels → app1.areas ≡ app.areas → app1.devices ≡ app.devices → app1.name ≡ app.name
     → Acts t app app1 (λ m g. rows.free m l g) [] said.Ok []
-free_done t app app1 l key is gave labels areas name = comes t app app1 (λ m g. rows.free m l g) said.Ok [] areas name (λ r g sited h.
+free_done t app app1 l key is gave labels areas devices name = comes t app app1 (λ m g. rows.free m l g) said.Ok [] areas name (λ r g sited h.
     let b = its app l key is r h in
     let here : is_none b.fits.entry.buf ≡ false = ap (λ (z : BufferKept). is_none z.buf) (entry_same app l key is gave.one gave.was r b) ∙ ap (λ o. is_none o) gave.its in (
       without r.machine l,
       done t app l 0 (λ m g. rows.free m l g) (freed l) (free_row l) key is gave.one gave.was (omega arith) r g h gave.right gave.its,
-      holds_freed r app app1 l key h b gave (place_same app l key is gave.one gave.was r b gave.right gave.its) (sym b.fits.lent ∙ ap bit here) labels areas,
+      holds_freed r app app1 l key h b gave (place_same app l key is gave.one gave.was r b gave.right gave.its) (sym b.fits.lent ∙ ap bit here) labels areas devices,
     ))

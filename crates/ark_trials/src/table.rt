@@ -5,7 +5,7 @@ use crate::areas::{BLOCKS, GRANTS};
 use crate::commands::{COMMANDS, OTHER_WORDS};
 use crate::lines::{EMPTY_LINES, LINES};
 use crate::runs::{Finished, run_words};
-use crate::words::{EVERY_WORD, FRAMES, TICKS, WORDS_TO_COME};
+use crate::words::{CARDS_AND_DOORS, EVERY_WORD, FRAMES, TICKS, WORDS_TO_COME};
 use ark_base::Status;
 use std::alloc::Global;
 use std::test::Fail;
@@ -90,6 +90,7 @@ fn answers_as_the_tables_say(rt: HostRuntime) -> Result<(), Fail> {
         FRAMES,
         WORDS_TO_COME,
         EVERY_WORD,
+        CARDS_AND_DOORS,
         GRANTS,
         BLOCKS,
     ] {

@@ -51,4 +51,4 @@ returns-clause-acts c = λ t.
     let to : at c.args.app.now.store.buffers c.in-Ok.keys.1 ≡ Some c.in-Some-at.target.now = search rules in
     copy_done t c.args.app.now _ c.args.from.now c.args.to.now c.args.len c.in-Ok.keys.0 c.in-Ok.keys.1 c.in-Ok.ensures.keys c.in-Some.source.now c.in-Some-at.target.now from to (search rules) (search rules) source.0 target.0 source.1 target.1
     (c.copy.ensures.wrote source.0 target.0 (right_found c.args.app.now.store.buffers c.in-Ok.keys.0 c.in-Some.source.now source.0 from source.1) (right_found c.args.app.now.store.buffers c.in-Ok.keys.1 c.in-Some-at.target.now target.0 to target.1))
-    c.copy.ensures.buffers refl refl refl
+    c.copy.ensures.buffers refl refl refl refl

@@ -44,4 +44,4 @@ returns-clause-acts c = λ t.
     let right = some_right c.in-Some.buffer.now.buf some in
     let there : at c.args.app.now.store.buffers c.in-Ok.key ≡ Some c.in-Some.buffer.now = search rules in
     fill_done t c.args.app.now _ c.args.label.now c.args.off c.in-Ok.key (spelled digits) c.in-Ok.ensures.key c.in-Some.buffer.now there (omega (arith, half, within)) right.0 right.1
-    (c.spell_into.ensures.wrote right.0 (right_found c.args.app.now.store.buffers c.in-Ok.key c.in-Some.buffer.now right.0 there right.1)) c.spell_into.ensures.buffers refl refl refl
+    (c.spell_into.ensures.wrote right.0 (right_found c.args.app.now.store.buffers c.in-Ok.key c.in-Some.buffer.now right.0 there right.1)) c.spell_into.ensures.buffers refl refl refl refl

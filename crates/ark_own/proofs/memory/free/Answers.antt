@@ -13,4 +13,4 @@ pub returns-then-is_none-clause-acts : goal.returns-then-is_none-clause-acts
 returns-then-is_none-clause-acts c = λ t. is_away t c.args.app.now c.args.label.now 0 _ (freed c.args.label.now) (free_row c.args.label.now) c.in-Ok.key c.in-Ok.ensures.key c.in-Some.freed.now (search rules) (omega arith) (search rules)
 
 pub returns-clause-acts : goal.returns-clause-acts
-returns-clause-acts c = λ t. free_done t c.args.app.now _ c.args.label.now c.in-Ok.key c.in-Ok.ensures.key c.give.ensures.gave c.remove.ensures.rest refl refl
+returns-clause-acts c = λ t. free_done t c.args.app.now _ c.args.label.now c.in-Ok.key c.in-Ok.ensures.key c.give.ensures.gave c.remove.ensures.rest refl refl refl

@@ -1,0 +1,42 @@
+-- A capability tells what its object is.
+use Rattle.std.proofs.Common.{◌≡◌, ℕ, List, refl}
+use Rattle.std.specs.Prelude.{None}
+use Rattle.ark_caps.specs.declared.capability.CapKind.TheVariants as cap_kind
+use Rattle.ark_caps.specs.declared.capability.Capability.{Capability}
+use Rattle.ark_vic.specs.declared.door.Counts.{Counts}
+use Rattle.ark_machine.specs.Objects
+use Rattle.ark_machine.specs.Objects.{Object, Vsic, as_door, as_vsic}
+use Rattle.ark_held.specs.Around.{Around}
+use Rattle.ark_held.specs.Cards.{IsDoor, IsCard}
+use Rattle.ark_held.specs.Held.{IsObjectOf}
+
+module _ (x : Around) (l : List ℕ) (c : Capability) where
+  pub door_of : (o : Object) → IsObjectOf x l c o → c.kind ≡ cap_kind.Door → (d : Counts) × (o ≡ Objects.door d) × IsDoor x c d
+  door_of (Objects.door d) f kind = (d, refl, f)
+  door_of (Objects.raw z) f kind = absurd (cc (kind, f.its_kind))
+  door_of (Objects.log z) f kind = absurd (cc (kind, f.its_kind))
+  door_of (Objects.vsic z) f kind = absurd (cc (kind, f.its_kind))
+  door_of (Objects.vnic z) f kind = absurd (cc (kind, f.its_kind))
+  door_of (Objects.filter z y) f kind = absurd (cc (kind, f.its_kind))
+  door_of (Objects.rate z y) f kind = absurd (cc (kind, f.its_kind))
+  door_of (Objects.buffer z) f kind = absurd (cc (kind, f.its_kind))
+  door_of (Objects.socket z) f kind = absurd (cc (kind, f.its_kind))
+
+  pub card_of : (o : Object) → IsObjectOf x l c o → c.kind ≡ cap_kind.Vsic → (v : Vsic) × (o ≡ Objects.vsic v) × IsCard x l c v
+  card_of (Objects.vsic v) f kind = (v, refl, f)
+  card_of (Objects.raw z) f kind = absurd (cc (kind, f.its_kind))
+  card_of (Objects.log z) f kind = absurd (cc (kind, f.its_kind))
+  card_of (Objects.door z) f kind = absurd (cc (kind, f.its_kind))
+  card_of (Objects.vnic z) f kind = absurd (cc (kind, f.its_kind))
+  card_of (Objects.filter z y) f kind = absurd (cc (kind, f.its_kind))
+  card_of (Objects.rate z y) f kind = absurd (cc (kind, f.its_kind))
+  card_of (Objects.buffer z) f kind = absurd (cc (kind, f.its_kind))
+  card_of (Objects.socket z) f kind = absurd (cc (kind, f.its_kind))
+
+  pub no_door : (o : Object) → IsObjectOf x l c o → (c.kind ≡ cap_kind.Door → ⊥) → as_door o ≡ None
+  no_door (Objects.door d) f other = absurd (other f.its_kind)
+  no_door _ f other = refl
+
+  pub no_card : (o : Object) → IsObjectOf x l c o → (c.kind ≡ cap_kind.Vsic → ⊥) → as_vsic o ≡ None
+  no_card (Objects.vsic v) f other = absurd (other f.its_kind)
+  no_card _ f other = refl

@@ -1,0 +1,81 @@
+ghost use Rattle.std.specs.Prelude.{◌≡◌, false, []};
+ghost use Rattle.ark_media.specs.Calls.{Told};
+ghost use Rattle.ark_script.specs.Text.{IsSaid, wants_memory};
+ghost use Rattle.ark_machine.specs.Rates as rates;
+ghost use Rattle.ark_held.specs.Does.{Acts, Grants};
+
+use crate::keys::{key_of_door, keys_to_watch};
+use ark_base::{Label, Refusal};
+use ark_caps::{CapKind, Capability, LABELS};
+use ark_held::App;
+use ark_script::{Said, Side};
+use ark_vic::Door;
+
+/// The word `door`.
+pub fn door(app: &mut App, label: &Label, grant: u64) -> Said
+    ensures acts { (t : Told) →
+        Grants t app.old app.new (λ m g. rates.door m label.now g) [] result [] grant }
+    ensures areas { app.new.areas ≡ app.old.areas }
+    ensures said { IsSaid result }
+    ensures enough { wants_memory result ≡ false }
+{
+    if app.labels.get(label).is_some() {
+        return Said::Refused(Refusal::NameTaken);
+    }
+    if app.labels.len() >= LABELS {
+        return Said::Refused(Refusal::Limit);
+    }
+    let key = app.devices.doors.put(Door::new());
+    let cap = Capability {
+        kind: CapKind::Door,
+        grant,
+        key,
+    };
+    match app.labels.add(*label, cap) {
+        Ok(()) => Said::Ok,
+        Err(_) => unreachable!(),
+    }
+}
+
+/// The word `look`.
+pub fn look(app: &mut App, label: &Label) -> Said
+    ensures acts { (t : Told) →
+        Acts t app.old app.new (λ m g. rates.look m label.now g) [] result [] }
+    ensures areas { app.new.areas ≡ app.old.areas }
+    ensures said { IsSaid result }
+    ensures enough { wants_memory result ≡ false }
+{
+    let key = match key_of_door(app, label) {
+        Err(refusal) => return Said::Refused(refusal),
+        Ok(key) => key,
+    };
+    // A door's label has its door.
+    let Some(counts) = app.devices.look(key) else {
+        return Said::Refused(Refusal::WrongKind);
+    };
+    Said::Rings(counts.rx, counts.tx, counts.io)
+}
+
+/// The word `watch`.
+pub fn watch(app: &mut App, label: &Label, door: &Option<Label>, side: Side) -> Said
+    ensures acts { (t : Told) →
+        Acts t app.old app.new (λ m g. rates.watch m label.now door.now side g) [] result [] }
+    ensures areas { app.new.areas ≡ app.old.areas }
+    ensures said { IsSaid result }
+    ensures enough { wants_memory result ≡ false }
+{
+    let (card, door) = match keys_to_watch(app, label, door) {
+        Err(refusal) => return Said::Refused(refusal),
+        Ok(keys) => keys,
+    };
+    // A storage card has no queue of frames.
+    let Side::Io = side else {
+        return Said::Refused(Refusal::WrongKind);
+    };
+    // A card's label has its card.
+    if app.devices.cards.at(card).is_none() {
+        return Said::Refused(Refusal::WrongKind);
+    }
+    app.devices.watch(card, door);
+    Said::Ok
+}
