@@ -60,7 +60,7 @@ use Rattle.ark_held.proofs.Doing.{same_tables}
 use Rattle.ark_held.specs.declared.app.App.{App}
 use Rattle.ark_held.specs.declared.areas.Area.{Area as Kept}
 use Rattle.ark_host.specs.declared.host.Host.{Host}
-use Rattle.ark_host.specs.Tabled.{table_of, TableStands, StandsBeside, AreRaw, slot_count}
+use Rattle.ark_host.specs.Tabled.{table_of, TableStands, StandsBeside, slot_count}
 use Rattle.ark_host.specs.Stands.{Stands, RowDone, IsHeld, IsAdmitted, AreNamed, around, app_of, area_count, vsa_row}
 use Rattle.ark_host.proofs.Machines.{bytes_eq-same, by_test}
 use Rattle.ark_held.proofs.Members.{in_contains}
@@ -130,6 +130,9 @@ module _ (host : Host) (size : ℕ) (past : History) (s : System) (a l : List �
   count : length slot.blocks ≡ n
   count = ap (λ (f : List ℕ). length (take n f)) (st.plane.free ok.settled) ∙ length-take n host.free ∙ (let space = ok.space in grind (arith, nat_tests))
 
+  pub has_some : 1 ≤ length slot.blocks
+  has_some = omega (arith, some, count)
+
   fits : SlotFits size slot
   fits = subst (λ (k : ℕ). SlotFits k slot) st.plane.size (new_fits s.plane a l kind.Raw n few)
 
@@ -161,7 +164,7 @@ module _ (host : Host) (size : ℕ) (past : History) (s : System) (a l : List �
   right = record {
     app = app_name;
     label = label_name;
-    some = omega (arith, some, count);
+    some = has_some;
     data_part = λ k new. let d = fits.data_part k new in (d.0, omega (arith, d.1, st.based));
     distinct = fits.distinct;
     few_runs = subst (λ (bs : List ℕ). length (runs_of bs) ≤ 16) (sym (slot_blocks ∙ taken)) compact;
@@ -219,7 +222,7 @@ module _ (host : Host) (size : ℕ) (past : History) (s : System) (a l : List �
         few_test lt = lt_true (length s.plane.slots) max_slots lt
 
     -- no block of a slot that is held was written
-    beside : (t : Slot) → Contains s.plane.slots t → AreBeside t.blocks es
+    pub beside : (t : Slot) → Contains s.plane.slots t → AreBeside t.blocks es
     beside t held = grant_beside t.blocks slot.index (area_of slot) slot.blocks well es
         (λ low. let d = (slot_data host size past s st t slot.index held low).0 in let high = fits.index_high in absurd (omega (arith, d, high)))
         (λ k new old. apart_held t held k new old) calls
@@ -289,11 +292,10 @@ module _ (host : Host) (size : ℕ) (past : History) (s : System) (a l : List �
             filters = st.plane.filters;
             apps = st.plane.apps ∙ ap (λ (xs : List App). map (λ x. x.name) xs) (sym items);
             table = kept ∙ st.plane.table;
-            raw = st.plane.raw;
             failed = sym failed;
             free = λ no. absurd (false≢true (sym no ∙ failed));
             settled = λ no. absurd (false≢true (sym no ∙ failed));
-            beside = (agree, refl);
+            beside = (agree, has_some);
             apart = st.plane.apart;
             named = st.plane.named;
             counted = λ b. subst (λ (o : Option App). slot_count b s.plane.slots ≤ area_count o) (sym (same_app b)) (st.plane.counted b);
@@ -406,9 +408,6 @@ module _ (host : Host) (size : ℕ) (past : History) (s : System) (a l : List �
             (λ new. subst (λ (v : Slot). slot_of plane v.app v.label ≡ Some v) new
             (find-append (λ u. is_slot_of a l u) s.plane.slots (slot ∷ []) ∙ ap (λ o. option_or o (find (λ u. is_slot_of a l u) (slot ∷ []))) no_slot ∙ ap (λ b. cond b (Some slot) None) (ap (λ b. b && bytes_eq l l) (bytes_eq-same a) ∙ bytes_eq-same l))) (Contains-push_cases s.plane.slots slot t among)
 
-        all_raw : AreRaw plane.slots
-        all_raw t among = ⊎_elim (λ old. st.plane.raw t old) (λ new. ap (λ (v : Slot). v.kind) (sym new)) (Contains-push_cases s.plane.slots slot t among)
-
         more_slots : table_of plane.slots ≡ with_slot (table_of s.plane.slots) slot.index (Some (area_of slot))
         more_slots = table_more size s.plane.slots slot (subst (λ (k : ℕ). SlotsFit k s.plane.slots) st.plane.size st.plane.apart.fit) fits (free_index s.plane max_slots refl few)
 
@@ -453,7 +452,6 @@ module _ (host : Host) (size : ℕ) (past : History) (s : System) (a l : List �
               filters = st.plane.filters;
               apps = st.plane.apps ∙ sym (ap (λ (xs : List App). map (λ x. x.name) xs) items ∙ names_set host.apps.items a place app app1 ok.place there name);
               table = its_table;
-              raw = all_raw;
               failed = st.plane.failed ∙ sym failed;
               free = λ no. free_after s.plane slot n refl ∙ ap (λ (f : List ℕ). drop n f) (st.plane.free ok.settled) ∙ sym free;
               settled = λ no. st.plane.settled (sym failed ∙ no);
