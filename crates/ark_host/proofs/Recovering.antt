@@ -14,7 +14,7 @@ use Rattle.ark_table.specs.Table.{HasTable, slots_in}
 use Rattle.ark_table.specs.Standing.{IsWritten, Spare, AreZero, creates, IsEither, IsUnderWay, GoesThrough}
 use Rattle.ark_table.proofs.Standing.{stands, either}
 use Rattle.ark_table.proofs.Tables.{table_is_read}
-use Rattle.ark_entry.specs.Found.{found, found_of}
+use Rattle.ark_entry.specs.Found.{found_of}
 use Rattle.ark_caladan.specs.Chain.{lists}
 use Rattle.ark_script.specs.Lines.{Meaning}
 use Rattle.ark_machine.specs.Objects
@@ -41,7 +41,7 @@ use Rattle.ark_host.proofs.Freeing.{eq_same}
 use Rattle.ark_host.proofs.Sharing.{has}
 use Rattle.ark_host.proofs.Standing.{slot_fits, slot_based}
 use Rattle.ark_host.proofs.Fronts.{IsStored, IsChained, StandsAs, its_own, not_new, by_app, place_of}
-use Rattle.ark_host.proofs.Contents.{LogsOpen, LogsOpenInside, none_made, logs_open, zeros_open}
+use Rattle.ark_host.proofs.Contents.{LogsOpen, LogsOpenInside, none_made, logs_open, no_entries, zeros_shown}
 
 -- no slot is held, and the table has none
 pub none_recovers : (s : System) (c : Option Change) (rest : List Event) (image : List (List ℕ)) → s.plane.slots ≡ [] → HasTable (table_of []) image → Recovers s c rest image
@@ -136,7 +136,7 @@ module _ (host : Host) (size : ℕ) (h : History) (s : System) (st : Stands host
       let shown : Contains (lists c.log) (found_of t.kind (contents_at image t.blocks)) =
       subst (λ (k : Kind). Contains (lists c.log) (found_of k (contents_at image t.blocks))) (sym c.same_kind)
       (logs t c.log slot c.there (contents_at image t.blocks) (shows (after h front) t.blocks image (λ n has. slot_based host size h s st t n slot has) left)) in
-      subst (λ (b : Bool). Contains (cond b (found (record { first = 1; payloads = [] }) ∷ []) (object_lists (object_of s t))) (found_of t.kind (contents_at image t.blocks))) (sym old)
+      subst (λ (b : Bool). Contains (cond b (no_entries ∷ []) (object_lists (object_of s t))) (found_of t.kind (contents_at image t.blocks))) (sym old)
       (subst (λ (o : Option Object). Contains (object_lists o) (found_of t.kind (contents_at image t.blocks))) (sym object) shown)
 
   content : (t : Slot) → Contains s.plane.slots t → ContentStands s change rest image t t.kind
@@ -181,8 +181,8 @@ module _ (host : Host) (size : ℕ) (h : History) (s : System) (st : Stands host
     its_new = ⊎_elim (λ c. or_left (is_new u change) (is_new u s.plane.unsettled) (made_new u change c)) (λ c. or_right (is_new u change) (is_new u s.plane.unsettled) (made_new u s.plane.unsettled c)) made
 
     zero_log : AreZero u.blocks image → LogStands s change image u
-    zero_log zero = subst (λ (b : Bool). Contains (cond b (found (record { first = 1; payloads = [] }) ∷ []) (object_lists (object_of s u))) (found_of u.kind (contents_at image u.blocks))) (sym its_new)
-        (0, omega arith, sym (zeros_open u.kind u.blocks image some zero))
+    zero_log zero = subst (λ (b : Bool). Contains (cond b (no_entries ∷ []) (object_lists (object_of s u))) (found_of u.kind (contents_at image u.blocks))) (sym its_new)
+        (0, omega arith, sym (zeros_shown u.kind u.blocks image some zero))
 
     zeros : AreZero u.blocks image → (k : Kind) → ContentStands s change rest image u k
     zeros zero kind.Raw = zero_blocks zero
