@@ -85,6 +85,34 @@ impl FreeMap {
         self.runs.as_slice().len() as u32
     }
 
+    /// The `n` lowest free blocks, `n` at least 1. `NoSpace` comes exactly where fewer are free, else `Scattered` exactly where
+    /// they form more than 16 runs.
+    pub fn lowest(&self, n: u32) -> Result<Spans, TakeFault>
+        requires some { 1 ≤ n }
+        ensures lowest { IfOk result (λ s. s ≡ take n self.now) }
+        ensures enough { IfOk result (λ s. n ≤ length self.now) }
+        ensures no_space { (result ≡ Err TakeFault.NoSpace) ↔ (length self.now < n) }
+        ensures scattered { (result ≡ Err TakeFault.Scattered)
+            ↔ ((n ≤ length self.now) × (16 < length (runs_of (take n self.now)))) }
+    {
+        if self.free() < n {
+            return Err(TakeFault::NoSpace);
+        }
+        match lowest(&self.runs, n) {
+            Some(spans) => Ok(spans),
+            None => Err(TakeFault::Scattered),
+        }
+    }
+
+    /// Takes the `n` lowest free blocks, at least 1 and no more than are free, whatever runs they form.
+    pub fn take_lowest(&mut self, n: u32)
+        requires some { 1 ≤ n }
+        requires enough { n ≤ length self.old }
+        ensures rest { self.new ≡ drop n self.old }
+    {
+        drop_lowest(&mut self.runs, n);
+    }
+
     /// Takes the `n` lowest free blocks, `n` at least 1. `NoSpace` comes exactly where fewer are free, else `Scattered`
     /// exactly where they form more than 16 runs; nothing is taken then.
     pub fn take(&mut self, n: u32) -> Result<Spans, TakeFault>
@@ -96,13 +124,8 @@ impl FreeMap {
         ensures scattered { (result ≡ Err TakeFault.Scattered)
             ↔ ((n ≤ length self.old) × (16 < length (runs_of (take n self.old)))) }
     {
-        if self.free() < n {
-            return Err(TakeFault::NoSpace);
-        }
-        let Some(spans) = lowest(&self.runs, n) else {
-            return Err(TakeFault::Scattered);
-        };
-        drop_lowest(&mut self.runs, n);
+        let spans = self.lowest(n)?;
+        self.take_lowest(n);
         Ok(spans)
     }
 

@@ -107,11 +107,11 @@ impl Spans {
         hold(&self.runs[..self.count], n)
     }
 
-    /// These blocks and then those of `more`; `None` where they form more than 16 runs.
+    /// These blocks and then those of `more`; `None` where they share one, or form more than 16 runs.
     pub fn join(&self, more: &Spans) -> Option<Spans>
-        requires apart { ShareNoBlock self.now more.now }
         ensures blocks { IfSome result (λ s. s ≡ self.now ++ more.now) }
-        ensures found { IsSome result ↔ (length (runs_of (self.now ++ more.now)) ≤ 16) }
+        ensures found { IsSome result
+            ↔ (ShareNoBlock self.now more.now × (length (runs_of (self.now ++ more.now)) ≤ 16)) }
     {
         let mut joined = RunBuilder::new();
         joined.add_all(&self.runs[..self.count]);

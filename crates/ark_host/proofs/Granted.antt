@@ -10,6 +10,7 @@ use Rattle.std.proofs.lemmas.List.Folds.{find-append}
 use Rattle.std.proofs.lemmas.List.Elements.{Contains-get_or, Contains-push_cases}
 use Rattle.std.proofs.lemmas.Slice.Eq.{bytes_eq-Decides}
 use Rattle.ark_base.specs.Name.{is_name}
+use Rattle.ark_base.specs.declared.kind.Kind.{Kind}
 use Rattle.ark_base.specs.declared.kind.Kind.TheVariants as kind
 use Rattle.ark_base.specs.declared.refusal.Refusal.TheVariants as r
 use Rattle.ark_media.specs.Journal.{Event, History, block, current, zero_block}
@@ -20,18 +21,18 @@ use Rattle.ark_extents.specs.Blocks.{runs_of}
 use Rattle.ark_extents.proofs.RunLemmas.{blocks_of-runs_of}
 use Rattle.ark_caps.specs.Labels.{value_at}
 use Rattle.ark_caps.specs.declared.capability.Capability.{Capability}
-use Rattle.ark_table.specs.Area.{Area, is_free}
+use Rattle.ark_table.specs.Area.{Area, is_free, least_blocks}
 use Rattle.ark_table.specs.Slots.{Slot, area_of, IsRight}
 use Rattle.ark_table.specs.Table.{Together, area_at, is_of, IsSlotBlock}
 use Rattle.ark_table.specs.Plans.{grant_calls}
 use Rattle.ark_table.specs.Standing.{Table, with_slot, IsTableOf, IsUnderWay, GoesThrough, CanCreate, creates}
 use Rattle.ark_table.proofs.Spelling.{keeps_rules, is_not_free}
 use Rattle.ark_table.proofs.Moments.{created}
+use Rattle.ark_script.specs.Arguments.{fewest_blocks}
 use Rattle.ark_script.specs.Line as w
 use Rattle.ark_script.specs.Line.{Line}
 use Rattle.ark_script.specs.declared.said.Said.TheVariants as said
-use Rattle.ark_machine.specs.Objects
-use Rattle.ark_machine.specs.Objects.{Raw}
+use Rattle.ark_machine.specs.Objects.{Object, Raw}
 use Rattle.ark_machine.specs.Machine.{Machine, at, with_new, each_object, holding}
 use Rattle.ark_machine.specs.Areas as areas
 use Rattle.ark_machine.specs.Row.{settled, synced, synced_by}
@@ -55,12 +56,11 @@ use Rattle.ark_held.proofs.Besides.{same_beside}
 use Rattle.ark_held.proofs.Passing as passing
 use Rattle.ark_held.proofs.Settling.{has_synced, synced_alone, settles}
 use Rattle.ark_held.proofs.Adding.{added_last}
-use Rattle.ark_held.proofs.Granted.{granted, slot_other}
+use Rattle.ark_held.proofs.Granted.{IsNewArea, granted, slot_other}
 use Rattle.ark_held.proofs.Doing.{same_tables}
 use Rattle.ark_held.specs.declared.app.App.{App}
-use Rattle.ark_held.specs.declared.areas.Area.{Area as Kept}
 use Rattle.ark_host.specs.declared.host.Host.{Host}
-use Rattle.ark_host.specs.Tabled.{table_of, TableStands, StandsBeside, AreRaw, slot_count}
+use Rattle.ark_host.specs.Tabled.{table_of, TableStands, StandsBeside, slot_count}
 use Rattle.ark_host.specs.Stands.{Stands, RowDone, IsHeld, IsAdmitted, AreNamed, around, app_of, area_count, vsa_row}
 use Rattle.ark_host.proofs.Machines.{bytes_eq-same, by_test}
 use Rattle.ark_held.proofs.Members.{in_contains}
@@ -73,12 +73,9 @@ use Rattle.ark_host.proofs.Setting.{with_set, set_apps, set_now, set_here}
 use Rattle.ark_host.proofs.Apps.{held_there}
 use Rattle.ark_host.proofs.Granting.{full, refuses, few_slots, its_slot, done_row, fault_row, vsa_begins}
 use Rattle.ark_host.proofs.Fronts.{its_own}
+use Rattle.ark_host.proofs.Contents.{zeros_listed}
 use Rattle.ark_host.proofs.Placing.{names_set, set_at}
 use Rattle.ark_host.proofs.Planned.{ended_sync, made_fault, made_sync, grant_beside, grant_syncs, grant_follows}
-
--- a raw area of these blocks, as an application keeps it
-abbrev pub raw_area : List ℕ → Kept
-raw_area blocks = record { kind = kind.Raw; spans = blocks }
 
 unlabelled_by : (labels : Labels) (areas : AreaList) (o : Option Capability) → room_under labels areas o ≡ None → o ≡ None
 unlabelled_by labels areas None h = refl
@@ -93,8 +90,19 @@ few_areas labels areas None h = by_test (nat_le 8 (length areas)) (λ b. nat_le 
     both true c is = refl
     both false c is = ap limit_if is
 
-settled_new : (m : Machine) (l : List ℕ) (x : Raw) → each_object settled (with_new m l (Objects.raw x)) ≡ with_new (each_object settled m) l (settled (Objects.raw x))
-settled_new m l x = λ i. record m { serial = m.serial + 1; held = map-append (λ g. holding (settled g.object) g) m.held ((record { label = l; serial = m.serial; object = Objects.raw x }) ∷ []) i }
+settled_new : (m : Machine) (l : List ℕ) (x : Object) → each_object settled (with_new m l x) ≡ with_new (each_object settled m) l (settled x)
+settled_new m l x = λ i. record m { serial = m.serial + 1; held = map-append (λ g. holding (settled g.object) g) m.held ((record { label = l; serial = m.serial; object = x }) ∷ []) i }
+
+-- a kind's fewest blocks are those that a slot of it asks for
+fewest_is : (k : Kind) → least_blocks k ≡ fewest_blocks k
+fewest_is kind.Raw = refl
+fewest_is kind.Log = refl
+fewest_is kind.Queue = refl
+
+some_fewest : (k : Kind) → 1 ≤ fewest_blocks k
+some_fewest kind.Raw = omega arith
+some_fewest kind.Log = omega arith
+some_fewest kind.Queue = omega arith
 
 synced_made : (b : Bool) (m : Machine) → (synced b m).made ≡ m.made
 synced_made true m = refl
@@ -104,10 +112,10 @@ synced_now : (b : Bool) (m : Machine) → (synced b m).now ≡ m.now
 synced_now true m = refl
 synced_now false m = refl
 
-module _ (host : Host) (size : ℕ) (past : History) (s : System) (a l : List ℕ) (n i place : ℕ) (app : App) (st : Stands host size past s) (small : size < 2 ^ 32) (some : 1 ≤ n) (app_name : is_name a ≡ true) (label_name : is_name l ≡ true)
+module _ (host : Host) (size : ℕ) (past : History) (s : System) (a l : List ℕ) (n : ℕ) (k : Kind) (i place : ℕ) (app : App) (st : Stands host size past s) (small : size < 2 ^ 32) (some : fewest_blocks k ≤ n) (app_name : is_name a ≡ true) (label_name : is_name l ≡ true)
     (ok : IsAdmitted host a l n place i) (there : get_or host.apps.items place app ≡ app) (compact : length (runs_of (take n host.free)) ≤ max_runs) (spans : List ℕ) (taken : spans ≡ take n host.free) where
   abbrev line : Line
-  line = w.vsa a l n kind.Raw
+  line = w.vsa a l n k
 
   h : IsHeld host.grants past s a app
   h = held_there s host size past a st place app ok.place there
@@ -116,13 +124,13 @@ module _ (host : Host) (size : ℕ) (past : History) (s : System) (a l : List �
   open_one = refuses host.grants past s a l app h None (sym (ok.room app there))
 
   few : length s.plane.slots < max_slots
-  few = few_slots host size past s a l n st h.holds.made open_one.0 open_one.1 i ok.slot
+  few = few_slots host size past s a l n k st h.holds.made open_one.0 open_one.1 i ok.slot
 
   abbrev pub slot : Slot
-  slot = new_slot s.plane a l kind.Raw n
+  slot = new_slot s.plane a l k n
 
   slot_index : slot.index ≡ i
-  slot_index = its_slot host size past s a l n st h.holds.made open_one.0 open_one.1 i ok.slot
+  slot_index = its_slot host size past s a l n k st h.holds.made open_one.0 open_one.1 i ok.slot
 
   slot_blocks : slot.blocks ≡ spans
   slot_blocks = ap (λ (f : List ℕ). take n f) (st.plane.free ok.settled) ∙ sym taken
@@ -130,21 +138,24 @@ module _ (host : Host) (size : ℕ) (past : History) (s : System) (a l : List �
   count : length slot.blocks ≡ n
   count = ap (λ (f : List ℕ). length (take n f)) (st.plane.free ok.settled) ∙ length-take n host.free ∙ (let space = ok.space in grind (arith, nat_tests))
 
-  fits : SlotFits size slot
-  fits = subst (λ (k : ℕ). SlotFits k slot) st.plane.size (new_fits s.plane a l kind.Raw n few)
+  pub has_some : 1 ≤ length slot.blocks
+  has_some = omega (arith, some, count, some_fewest k)
 
-  not_granted : (k : ℕ) → Contains slot.blocks k → is_granted s.plane.slots k ≡ false
-  not_granted k new = lowest_free s.plane n k (has slot.blocks k new)
+  fits : SlotFits size slot
+  fits = subst (λ (m : ℕ). SlotFits m slot) st.plane.size (new_fits s.plane a l k n few)
+
+  not_granted : (m : ℕ) → Contains slot.blocks m → is_granted s.plane.slots m ≡ false
+  not_granted m new = lowest_free s.plane n m (has slot.blocks m new)
 
   pub agree : SlotsAgree size (slot ∷ s.plane.slots)
   agree = record {
-    fit = (fits, subst (λ (k : ℕ). SlotsFit k s.plane.slots) st.plane.size st.plane.apart.fit);
-    apart = ((free_index s.plane max_slots refl few, λ k e. lowest_free s.plane n k e), st.plane.apart.apart);
+    fit = (fits, subst (λ (m : ℕ). SlotsFit m s.plane.slots) st.plane.size st.plane.apart.fit);
+    apart = ((free_index s.plane max_slots refl few, λ m e. lowest_free s.plane n m e), st.plane.apart.apart);
   }
 
   -- the change that the line begins
   pub begins : begun s (Some (Ok line)) ≡ Some (makes slot)
-  begins = vsa_begins host size past s a l n st h.holds.made open_one.0 open_one.1 i ok.slot ok.settled ok.space compact
+  begins = vsa_begins host size past s a l n k st h.holds.made open_one.0 open_one.1 i ok.slot ok.settled ok.space compact
 
   unlabelled : value_at app.labels l ≡ None
   unlabelled = unlabelled_by app.labels app.areas (value_at app.labels l) (ok.room app there)
@@ -152,8 +163,8 @@ module _ (host : Host) (size : ℕ) (past : History) (s : System) (a l : List �
   no_slot : slot_of s.plane a l ≡ None
   no_slot = h.holds.unlisted l (ap is_area_cap unlabelled)
 
-  apart_held : (u : Slot) → Contains s.plane.slots u → (k : ℕ) → Contains slot.blocks k → Contains u.blocks k → ⊥
-  apart_held u held k new old = false≢true (sym (not_granted k new) ∙ its_own s u k held old)
+  apart_held : (u : Slot) → Contains s.plane.slots u → (m : ℕ) → Contains slot.blocks m → Contains u.blocks m → ⊥
+  apart_held u held m new old = false≢true (sym (not_granted m new) ∙ its_own s u m held old)
 
   -- The slot may be made.
 
@@ -161,15 +172,15 @@ module _ (host : Host) (size : ℕ) (past : History) (s : System) (a l : List �
   right = record {
     app = app_name;
     label = label_name;
-    some = omega (arith, some, count);
-    data_part = λ k new. let d = fits.data_part k new in (d.0, omega (arith, d.1, st.based));
+    some = omega (arith, fewest_is k, some, count);
+    data_part = λ m new. let d = fits.data_part m new in (d.0, omega (arith, d.1, st.based));
     distinct = fits.distinct;
     few_runs = subst (λ (bs : List ℕ). length (runs_of bs) ≤ 16) (sym (slot_blocks ∙ taken)) compact;
   }
 
-  together : (k : ℕ) (b : Area) → area_at (table_of s.plane.slots) k ≡ Some b → Together (area_of slot) b
-  together k b is =
-      let found = slot_there s.plane.size s.plane.slots k b st.plane.apart.fit is in
+  together : (j : ℕ) (b : Area) → area_at (table_of s.plane.slots) j ≡ Some b → Together (area_of slot) b
+  together j b is =
+      let found = slot_there s.plane.size s.plane.slots j b st.plane.apart.fit is in
       let held = in_contains s.plane.slots found.0 found.1 in
       subst (λ (x : Area). Together (area_of slot) x) found.3 (record {
         apart = λ m new old. apart_held found.0 held m (subst (λ (bs : List ℕ). Contains bs m) (blocks_of-runs_of slot.blocks) new) (subst (λ (bs : List ℕ). Contains bs m) (blocks_of-runs_of found.0.blocks) old);
@@ -202,30 +213,30 @@ module _ (host : Host) (size : ℕ) (past : History) (s : System) (a l : List �
 
   -- What came of the calls.
 
-  module _ (well : Bool) (es : List Event) (made : Made (grant_calls i (record { app = a; label = l; kind = kind.Raw; runs = runs_of spans }) spans) well es) where
+  module _ (well : Bool) (es : List Event) (made : Made (grant_calls i (record { app = a; label = l; kind = k; runs = runs_of spans }) spans) well es) where
     calls : Made (grant_calls slot.index (area_of slot) slot.blocks) well es
-    calls = subst (λ (bs : List ℕ). Made (grant_calls slot.index (record { app = a; label = l; kind = kind.Raw; runs = runs_of bs }) bs) well es) (sym slot_blocks)
-        (subst (λ (k : ℕ). Made (grant_calls k (record { app = a; label = l; kind = kind.Raw; runs = runs_of spans }) spans) well es) (sym slot_index) made)
+    calls = subst (λ (bs : List ℕ). Made (grant_calls slot.index (record { app = a; label = l; kind = k; runs = runs_of bs }) bs) well es) (sym slot_blocks)
+        (subst (λ (j : ℕ). Made (grant_calls j (record { app = a; label = l; kind = k; runs = runs_of spans }) spans) well es) (sym slot_index) made)
 
     pub goes : GoesThrough past (table_of s.plane.slots) (creates slot.index (area_of slot)) well es
     goes = created past (table_of s.plane.slots) slot.index (area_of slot) well es table can (subst (λ (bs : List ℕ). Made (grant_calls slot.index (area_of slot) bs) well es) (sym (blocks_of-runs_of slot.blocks)) calls)
 
     follows : Follow s a line (areas.grant_calls n) es
-    follows = subst (λ (k : ℕ). Follow s a line (areas.grant_calls k) es) count
+    follows = subst (λ (j : ℕ). Follow s a line (areas.grant_calls j) es) count
         (grant_follows s a line slot.index (area_of slot) (ap (λ b. slice_get (cond b (free_slot s.plane ∷ []) []) 0) (few_test few)) refl 0 slot.blocks well es
-        (λ j m is. ap (λ k. slice_get slot.blocks k) (let same : 0 + j ≡ j = omega arith in same) ∙ is) calls)
+        (λ j m is. ap (λ z. slice_get slot.blocks z) (let same : 0 + j ≡ j = omega arith in same) ∙ is) calls)
       where
         few_test : length s.plane.slots < max_slots → nat_lt (length s.plane.slots) max_slots ≡ true
         few_test lt = lt_true (length s.plane.slots) max_slots lt
 
     -- no block of a slot that is held was written
-    beside : (t : Slot) → Contains s.plane.slots t → AreBeside t.blocks es
+    pub beside : (t : Slot) → Contains s.plane.slots t → AreBeside t.blocks es
     beside t held = grant_beside t.blocks slot.index (area_of slot) slot.blocks well es
         (λ low. let d = (slot_data host size past s st t slot.index held low).0 in let high = fits.index_high in absurd (omega (arith, d, high)))
-        (λ k new old. apart_held t held k new old) calls
+        (λ m new old. apart_held t held m new old) calls
 
     sync : ended_sync (ends_of es) ≡ has_synced es
-    sync = made_sync (grant_calls i (record { app = a; label = l; kind = kind.Raw; runs = runs_of spans }) spans) well es made
+    sync = made_sync (grant_calls i (record { app = a; label = l; kind = k; runs = runs_of spans }) spans) well es made
 
     -- what the application holds, with its machine after these calls
     abbrev then : Around
@@ -276,8 +287,8 @@ module _ (host : Host) (size : ℕ) (past : History) (s : System) (a l : List �
       same_app : (b : List ℕ) → app_of now.apps.items b ≡ app_of host.apps.items b
       same_app b = ap (λ (xs : List App). app_of xs b) items
 
-      pub vsa_lost : RowDone now size (after past es) s a line (vsa_row s a l n es (said.Refused r.DeviceFault)) es (said.Refused r.DeviceFault) []
-      vsa_lost = rw (fault_row host size past s a l n st h.holds.made open_one.0 open_one.1 i ok.slot ok.settled ok.space compact es (said.Refused r.DeviceFault) (made_fault _ well es made ∙ ap not bad)) (record {
+      pub vsa_lost : RowDone now size (after past es) s a line (vsa_row s a l n k es (said.Refused r.DeviceFault)) es (said.Refused r.DeviceFault) []
+      vsa_lost = rw (fault_row host size past s a l n k st h.holds.made open_one.0 open_one.1 i ok.slot ok.settled ok.space compact es (said.Refused r.DeviceFault) (made_fault _ well es made ∙ ap not bad)) (record {
         said = refl;
         bytes = refl;
         calls = follows;
@@ -289,11 +300,10 @@ module _ (host : Host) (size : ℕ) (past : History) (s : System) (a l : List �
             filters = st.plane.filters;
             apps = st.plane.apps ∙ ap (λ (xs : List App). map (λ x. x.name) xs) (sym items);
             table = kept ∙ st.plane.table;
-            raw = st.plane.raw;
             failed = sym failed;
             free = λ no. absurd (false≢true (sym no ∙ failed));
             settled = λ no. absurd (false≢true (sym no ∙ failed));
-            beside = (agree, refl);
+            beside = (agree, has_some);
             apart = st.plane.apart;
             named = st.plane.named;
             counted = λ b. subst (λ (o : Option App). slot_count b s.plane.slots ≤ area_count o) (sym (same_app b)) (st.plane.counted b);
@@ -350,22 +360,27 @@ module _ (host : Host) (size : ℕ) (past : History) (s : System) (a l : List �
             (0, omega arith, get_or-replicate n k zero_block [] (omega (arith, lt, count)) ∙ sym is);
       }
 
-      module _ (now : Host) (app1 : App) (labels : app1.labels ≡ app.labels ++ (l, new_area_cap host.grants) ∷ []) (held : app1.areas ≡ with_area app.areas host.grants (raw_area spans)) (region : app1.store.region ≡ app.store.region) (buffers : app1.store.buffers ≡ app.store.buffers) (devices : app1.devices ≡ app.devices) (name : app1.name ≡ app.name)
-          (items : now.apps.items ≡ set host.apps.items place app1) (free : now.free ≡ drop n host.free) (tables : now.table ≡ with_slot host.table i (Some (record { app = a; label = l; kind = kind.Raw; runs = runs_of spans }))) (failed : now.failed ≡ host.failed)
+      -- the object under the new label
+      new_one : (z : Kind) → slot.kind ≡ z → IsNewArea (after past es) slot (settled (areas.new_area z n))
+      new_one kind.Raw its = (its, zero_content)
+      new_one kind.Log its = (its, (λ e. cc (e)), sym count, refl, zeros_listed (after past es) slot.blocks kind.Log n has_some zero_now zero_left)
+      new_one kind.Queue its = (its, (λ e. cc (e)), sym count, refl, zeros_listed (after past es) slot.blocks kind.Queue n has_some zero_now zero_left)
+
+      module _ (now : Host) (app1 : App) (labels : app1.labels ≡ app.labels ++ (l, new_area_cap host.grants) ∷ []) (held : app1.areas ≡ with_area app.areas host.grants (record { kind = k; spans = spans })) (region : app1.store.region ≡ app.store.region) (buffers : app1.store.buffers ≡ app.store.buffers) (devices : app1.devices ≡ app.devices) (name : app1.name ≡ app.name)
+          (items : now.apps.items ≡ set host.apps.items place app1) (free : now.free ≡ drop n host.free) (tables : now.table ≡ with_slot host.table i (Some (record { app = a; label = l; kind = k; runs = runs_of spans }))) (failed : now.failed ≡ host.failed)
           (grants : now.grants ≡ host.grants + 1) (clock : now.clock ≡ host.clock) where
         abbrev plane : Plane
         plane = record s.plane { slots = s.plane.slots ++ slot ∷ [] }
 
         abbrev one : Machine
-        one = synced_by (ends_of es) (with_new (machine_of s a) l (Objects.raw (record { content = replicate n zero_block; maybe = replicate n (zero_block ∷ []) })))
+        one = synced_by (ends_of es) (with_new (machine_of s a) l (areas.new_area k n))
 
         synced_yes : has_synced es ≡ true
         synced_yes = grant_syncs slot.index (area_of slot) slot.blocks es (subst (λ (b : Bool). Made (grant_calls slot.index (area_of slot) slot.blocks) b es) good calls)
 
-        one_is : one ≡ with_new (each_object settled (machine_of s a)) l (Objects.raw zeros)
+        one_is : one ≡ with_new (each_object settled (machine_of s a)) l (settled (areas.new_area k n))
         one_is =
-            ap (λ b. synced b (with_new (machine_of s a) l (Objects.raw (record { content = replicate n zero_block; maybe = replicate n (zero_block ∷ []) })))) (sync ∙ synced_yes)
-            ∙ settled_new (machine_of s a) l (record { content = replicate n zero_block; maybe = replicate n (zero_block ∷ []) })
+            ap (λ b. synced b (with_new (machine_of s a) l (areas.new_area k n))) (sync ∙ synced_yes) ∙ settled_new (machine_of s a) l (areas.new_area k n)
 
         one_made : one.made ≡ true
         one_made = ap (λ (m : Machine). m.made) one_is ∙ h.holds.made
@@ -377,7 +392,7 @@ module _ (host : Host) (size : ℕ) (past : History) (s : System) (a l : List �
         later = with_set s plane a one
 
         more_areas : app1.areas ≡ app.areas ++ (host.grants, area_in slot) ∷ []
-        more_areas = held ∙ ap (λ (bs : List ℕ). with_area app.areas host.grants (raw_area bs)) (sym slot_blocks) ∙ added_last host.grants (area_in slot) app.areas (h.unused host.grants (omega arith))
+        more_areas = held ∙ ap (λ (bs : List ℕ). with_area app.areas host.grants (record { kind = k; spans = bs })) (sym slot_blocks) ∙ added_last host.grants (area_in slot) app.areas (h.unused host.grants (omega arith))
 
         new_number : (k : ℕ) → slice_get h.numbers k ≡ Some host.grants → ⊥
         new_number k is = let lt = h.below k host.grants is in absurd (omega (arith, lt))
@@ -385,8 +400,8 @@ module _ (host : Host) (size : ℕ) (past : History) (s : System) (a l : List �
         own : IsHeld now.grants (after past es) later a app1
         own = record {
           numbers = h.numbers ++ host.grants ∷ [];
-          holds = granted (record then { machine = each_object settled (machine_of s a) }) (around later (after past es) a (h.numbers ++ host.grants ∷ []) app1 (machine_of later a)) (heeded true synced_yes) l host.grants slot zeros
-              unlabelled (h.unused host.grants (omega arith)) new_number refl refl refl zero_content
+          holds = granted (record then { machine = each_object settled (machine_of s a) }) (around later (after past es) a (h.numbers ++ host.grants ∷ []) app1 (machine_of later a)) (heeded true synced_yes) l host.grants slot (settled (areas.new_area k n))
+              unlabelled (h.unused host.grants (omega arith)) new_number refl refl refl (new_one k refl)
               refl refl refl labels more_areas (same_tables app1.store app.store app1.devices app.devices region buffers devices) refl refl refl (set_here s plane a one one_made ∙ one_is);
           below = λ k g is. elim (number_cases h.numbers host.grants k g is) [
             | inl old ↦ let lt = h.below k g old in omega (arith, lt, grants)
@@ -406,18 +421,15 @@ module _ (host : Host) (size : ℕ) (past : History) (s : System) (a l : List �
             (λ new. subst (λ (v : Slot). slot_of plane v.app v.label ≡ Some v) new
             (find-append (λ u. is_slot_of a l u) s.plane.slots (slot ∷ []) ∙ ap (λ o. option_or o (find (λ u. is_slot_of a l u) (slot ∷ []))) no_slot ∙ ap (λ b. cond b (Some slot) None) (ap (λ b. b && bytes_eq l l) (bytes_eq-same a) ∙ bytes_eq-same l))) (Contains-push_cases s.plane.slots slot t among)
 
-        all_raw : AreRaw plane.slots
-        all_raw t among = ⊎_elim (λ old. st.plane.raw t old) (λ new. ap (λ (v : Slot). v.kind) (sym new)) (Contains-push_cases s.plane.slots slot t among)
-
         more_slots : table_of plane.slots ≡ with_slot (table_of s.plane.slots) slot.index (Some (area_of slot))
-        more_slots = table_more size s.plane.slots slot (subst (λ (k : ℕ). SlotsFit k s.plane.slots) st.plane.size st.plane.apart.fit) fits (free_index s.plane max_slots refl few)
+        more_slots = table_more size s.plane.slots slot (subst (λ (m : ℕ). SlotsFit m s.plane.slots) st.plane.size st.plane.apart.fit) fits (free_index s.plane max_slots refl few)
 
         its_table : now.table ≡ table_of plane.slots
         its_table =
             tables
-            ∙ ap (λ (t : Table). with_slot t i (Some (record { app = a; label = l; kind = kind.Raw; runs = runs_of spans }))) st.plane.table
-            ∙ ap (λ k. with_slot (table_of s.plane.slots) k (Some (record { app = a; label = l; kind = kind.Raw; runs = runs_of spans }))) (sym slot_index)
-            ∙ ap (λ (bs : List ℕ). with_slot (table_of s.plane.slots) slot.index (Some (record { app = a; label = l; kind = kind.Raw; runs = runs_of bs }))) (sym slot_blocks)
+            ∙ ap (λ (t : Table). with_slot t i (Some (record { app = a; label = l; kind = k; runs = runs_of spans }))) st.plane.table
+            ∙ ap (λ j. with_slot (table_of s.plane.slots) j (Some (record { app = a; label = l; kind = k; runs = runs_of spans }))) (sym slot_index)
+            ∙ ap (λ (bs : List ℕ). with_slot (table_of s.plane.slots) slot.index (Some (record { app = a; label = l; kind = k; runs = runs_of bs }))) (sym slot_blocks)
             ∙ sym more_slots
 
         now_app : (b : List ℕ) → app_of now.apps.items b ≡ cond (bytes_eq b a) (Some app1) (app_of host.apps.items b)
@@ -440,8 +452,8 @@ module _ (host : Host) (size : ℕ) (past : History) (s : System) (a l : List �
             let most = st.plane.counted b in
             omega (arith, more, none, most)) refl)
 
-        pub vsa_granted : RowDone now size (after past es) s a line (vsa_row s a l n es said.Ok) es said.Ok []
-        vsa_granted = rw (done_row host size past s a l n st h.holds.made open_one.0 open_one.1 i ok.slot ok.settled ok.space compact es said.Ok (made_fault _ well es made ∙ ap not good)) (record {
+        pub vsa_granted : RowDone now size (after past es) s a line (vsa_row s a l n k es said.Ok) es said.Ok []
+        vsa_granted = rw (done_row host size past s a l n k st h.holds.made open_one.0 open_one.1 i ok.slot ok.settled ok.space compact es said.Ok (made_fault _ well es made ∙ ap not good)) (record {
           said = refl;
           bytes = refl;
           calls = follows;
@@ -453,12 +465,11 @@ module _ (host : Host) (size : ℕ) (past : History) (s : System) (a l : List �
               filters = st.plane.filters;
               apps = st.plane.apps ∙ sym (ap (λ (xs : List App). map (λ x. x.name) xs) items ∙ names_set host.apps.items a place app app1 ok.place there name);
               table = its_table;
-              raw = all_raw;
               failed = st.plane.failed ∙ sym failed;
               free = λ no. free_after s.plane slot n refl ∙ ap (λ (f : List ℕ). drop n f) (st.plane.free ok.settled) ∙ sym free;
               settled = λ no. st.plane.settled (sym failed ∙ no);
               beside = subst (λ (u : Option Change). StandsBeside size plane.slots u) (sym (st.plane.settled ok.settled)) tt;
-              apart = makes_apart s.plane a l kind.Raw n st.plane.apart few;
+              apart = makes_apart s.plane a l k n st.plane.apart few;
               named = all_named;
               counted = all_counted;
             };

@@ -3,7 +3,7 @@ use Rattle.std.proofs.Common.{◌≡◌, ℕ, ◌+◌, ◌^◌, ◌<◌, ◌≤�
 use Rattle.std.specs.Prelude.{Option, Some, None, Ok, position, is_some, unwrap_or}
 use Rattle.std.proofs.lemmas.Bool.{false≢true}
 use Rattle.ark_base.specs.Name.{is_name}
-use Rattle.ark_base.specs.declared.kind.Kind.TheVariants as kind
+use Rattle.ark_base.specs.declared.kind.Kind.{Kind}
 use Rattle.ark_base.specs.declared.refusal.Refusal.{Refusal}
 use Rattle.ark_base.specs.declared.refusal.Refusal.TheVariants as r
 use Rattle.ark_media.specs.Journal.{Event, History}
@@ -16,6 +16,7 @@ use Rattle.ark_table.specs.Area.{Area}
 use Rattle.ark_table.specs.Plans.{create_calls, grant_calls}
 use Rattle.ark_table.specs.Standing.{with_slot}
 use Rattle.ark_table.specs.Using.{IsLeastFree, IsFull}
+use Rattle.ark_script.specs.Arguments.{fewest_blocks}
 use Rattle.ark_script.specs.Line as w
 use Rattle.ark_script.specs.Text.{wants_memory}
 use Rattle.ark_script.specs.declared.said.Said.TheVariants as said
@@ -34,15 +35,16 @@ use Rattle.ark_host.proofs.Apps.{not_made}
 use Rattle.ark_host.proofs.Lifting.{quiet_steps}
 use Rattle.ark_host.proofs.Words.{vsa_answered}
 use Rattle.ark_host.proofs.Placing.{app_there}
+use Rattle.ark_host.proofs.Contents.{logs_open}
 use Rattle.ark_host.proofs.Recovering.{made_fronts}
 use Rattle.ark_host.proofs.Granting.{Refuses, Says, refused_by, vsa_unmade, vsa_taken, vsa_full, vsa_slots, vsa_failed, vsa_no_space, vsa_scattered}
-use Rattle.ark_host.proofs.Granted.{raw_area, slot, agree, begins, goes, vsa_lost, vsa_granted}
+use Rattle.ark_host.proofs.Granted.{slot, has_some, agree, begins, goes, beside, vsa_lost, vsa_granted}
 
 -- Refusals.
 
-early_plane : (e : Refusal) (p : Plane) (m : Machine) (a l : List ℕ) (n : ℕ) → IsEarly e → plane_after p m (w.vsa a l n kind.Raw) (said.Refused e) ≡ p
-early_plane r.DeviceFault p m a l n early = absurd early
-early_plane _ p m a l n early = refl
+early_plane : (e : Refusal) (p : Plane) (m : Machine) (a l : List ℕ) (n : ℕ) (k : Kind) → IsEarly e → plane_after p m (w.vsa a l n k) (said.Refused e) ≡ p
+early_plane r.DeviceFault p m a l n k early = absurd early
+early_plane _ p m a l n k early = refl
 
 early_enough : (e : Refusal) → IsEarly e → wants_memory (said.Refused e) ≡ false
 early_enough r.NoMemory early = absurd early
@@ -64,71 +66,73 @@ early_room labels areas l e is = by (value_at labels l) is
     by None h = limited (nat_le 64 (length labels) || nat_le 8 (length areas)) h
 
 module _ (host : Host) (a l : List ℕ) (n : ℕ) where
-  pub steps_refused : (now : Host) (told : Told) (e : Refusal) → IsRefused host a l n e → IsEarly e → now.apps.items ≡ host.apps.items → now.free ≡ host.free → now.table ≡ host.table → now.failed ≡ host.failed → now.grants ≡ host.grants → now.clock ≡ host.clock
-      → Steps host now told (Ok (w.vsa a l n kind.Raw)) [] (said.Refused e) []
-  steps_refused now told e is early apps free table failed grants clock =
-      quiet_steps host now told (Ok (w.vsa a l n kind.Raw)) (said.Refused e) (said.Refused e) [] refl refl
-      (λ s h st. vsa_answered now told.blocks h s a l n [] (said.Refused e) [] (early_enough e early)
-      (refused now told.blocks h s a (w.vsa a l n kind.Raw) _ e (early_plane e s.plane (machine_of s a) a l n early) (is told.blocks h s st) (same_apps host now told.blocks h s apps free table failed grants clock st)))
+  pub steps_refused : (k : Kind) (now : Host) (told : Told) (e : Refusal) → IsRefused host a l n e → IsEarly e → now.apps.items ≡ host.apps.items → now.free ≡ host.free → now.table ≡ host.table → now.failed ≡ host.failed → now.grants ≡ host.grants → now.clock ≡ host.clock
+      → Steps host now told (Ok (w.vsa a l n k)) [] (said.Refused e) []
+  steps_refused k now told e is early apps free table failed grants clock =
+      quiet_steps host now told (Ok (w.vsa a l n k)) (said.Refused e) (said.Refused e) [] refl refl
+      (λ s h st. vsa_answered now told.blocks h s a l n k [] (said.Refused e) [] (early_enough e early)
+      (refused now told.blocks h s a (w.vsa a l n k) _ e (early_plane e s.plane (machine_of s a) a l n k early) (is k told.blocks h s st) (same_apps host now told.blocks h s apps free table failed grants clock st)))
 
   pub refused_unmade : position (λ app. bytes_eq a app.name) host.apps.items ≡ None → IsRefused host a l n r.NoApplication
-  refused_unmade none size h s st = vsa_unmade host size h s a l n st (not_made s host size h a st none)
+  refused_unmade none k size h s st = vsa_unmade host size h s a l n k st (not_made s host size h a st none)
 
   module _ (place : ℕ) (app : App) (at : position (λ x. bytes_eq a x.name) host.apps.items ≡ Some place) (there : get_or host.apps.items place app ≡ app) where
     pub refused_app : (e : Refusal) → Some e ≡ no_room app.labels app.areas l → IsRefused host a l n e
-    refused_app e is size h s st = let m = refused_by host size h s a l place app st at there (Some e) is in by e m.0 m.1
+    refused_app e is k size h s st = let m = refused_by host size h s a l place app st at there (Some e) is in by e m.0 m.1
       where
-        by : (x : Refusal) → (machine_of s a).made ≡ true → Refuses s a l (Some x) → Says host size h s a l n st x
-        by r.NameTaken made m = vsa_taken host size h s a l n st made m.0 m.1
-        by r.Limit made m = vsa_full host size h s a l n st made m.0 m.1
+        by : (x : Refusal) → (machine_of s a).made ≡ true → Refuses s a l (Some x) → Says host size h s a l n k st x
+        by r.NameTaken made m = vsa_taken host size h s a l n k st made m.0 m.1
+        by r.Limit made m = vsa_full host size h s a l n k st made m.0 m.1
         by _ made m = absurd m
 
     module _ (none : None ≡ no_room app.labels app.areas l) where
       pub refused_full : IsFull host.table → IsRefused host a l n r.Limit
-      refused_full all size h s st = let m = refused_by host size h s a l place app st at there None none in vsa_slots host size h s a l n st m.0 m.1.0 all
+      refused_full all k size h s st = let m = refused_by host size h s a l place app st at there None none in vsa_slots host size h s a l n k st m.0 m.1.0 all
 
       module _ (i : ℕ) (least : IsLeastFree host.table i) where
         pub refused_failed : host.failed ≡ true → IsRefused host a l n r.TableFailed
-        refused_failed bad size h s st = let m = refused_by host size h s a l place app st at there None none in vsa_failed host size h s a l n st m.0 m.1.0 m.1.1 i least bad
+        refused_failed bad k size h s st = let m = refused_by host size h s a l place app st at there None none in vsa_failed host size h s a l n k st m.0 m.1.0 m.1.1 i least bad
 
         pub refused_space : host.failed ≡ false → length host.free < n → IsRefused host a l n r.NoSpace
-        refused_space fine less size h s st = let m = refused_by host size h s a l place app st at there None none in vsa_no_space host size h s a l n st m.0 m.1.0 m.1.1 i least fine less
+        refused_space fine less k size h s st = let m = refused_by host size h s a l place app st at there None none in vsa_no_space host size h s a l n k st m.0 m.1.0 m.1.1 i least fine less
 
 -- the free blocks stand in too many runs
 pub refused_scattered : (host : Host) (a l : List ℕ) (n place i : ℕ) → IsAdmitted host a l n place i → max_runs < length (runs_of (take n host.free)) → IsRefused host a l n r.Scattered
-refused_scattered host a l n place i ok many size h s st =
+refused_scattered host a l n place i ok many k size h s st =
     let its = app_there host.apps.items a place ok.place in
     let m = refused_by host size h s a l place its.0 st ok.place its.1 None (sym (ok.room its.0 its.1)) in
-    vsa_scattered host size h s a l n st m.0 m.1.0 m.1.1 i ok.slot ok.settled ok.space many
+    vsa_scattered host size h s a l n k st m.0 m.1.0 m.1.1 i ok.slot ok.settled ok.space many
 
 -- The device was called.
 
-module _ (host now : Host) (told : Told) (a l : List ℕ) (n i place : ℕ) (app : App) (small : told.blocks < 2 ^ 32) (some : 1 ≤ n) (app_name : is_name a ≡ true) (label_name : is_name l ≡ true)
+module _ (host now : Host) (told : Told) (a l : List ℕ) (n : ℕ) (k : Kind) (i place : ℕ) (app : App) (small : told.blocks < 2 ^ 32) (some : fewest_blocks k ≤ n) (app_name : is_name a ≡ true) (label_name : is_name l ≡ true)
     (ok : IsAdmitted host a l n place i) (there : get_or host.apps.items place app ≡ app) (compact : length (runs_of (take n host.free)) ≤ max_runs) (spans : List ℕ) (taken : spans ≡ take n host.free) (es : List Event) where
   abbrev plan : Bool → Type 0
-  plan well = Made (grant_calls i (record { app = a; label = l; kind = kind.Raw; runs = runs_of spans }) spans) well es
+  plan well = Made (grant_calls i (record { app = a; label = l; kind = k; runs = runs_of spans }) spans) well es
 
-  fronts : (well : Bool) → plan well → (s : System) (h : History) → Stood host told h es s → AtEachFront h.base h.journal s (Some (Ok (w.vsa a l n kind.Raw))) es
-  fronts well made s h stood = made_fronts host told.blocks h s stood.stands (Some (Ok (w.vsa a l n kind.Raw))) (slot host told.blocks h s a l n i place app stood.stands small some app_name label_name ok there compact spans taken) well es
-      (agree host told.blocks h s a l n i place app stood.stands small some app_name label_name ok there compact spans taken) refl
-      (begins host told.blocks h s a l n i place app stood.stands small some app_name label_name ok there compact spans taken)
-      (goes host told.blocks h s a l n i place app stood.stands small some app_name label_name ok there compact spans taken well es made)
+  fronts : (well : Bool) → plan well → (s : System) (h : History) → Stood host told h es s → AtEachFront h.base h.journal s (Some (Ok (w.vsa a l n k))) es
+  fronts well made s h stood = made_fronts host told.blocks h s stood.stands (Some (Ok (w.vsa a l n k))) (slot host told.blocks h s a l n k i place app stood.stands small some app_name label_name ok there compact spans taken) well es
+      (agree host told.blocks h s a l n k i place app stood.stands small some app_name label_name ok there compact spans taken)
+      (has_some host told.blocks h s a l n k i place app stood.stands small some app_name label_name ok there compact spans taken)
+      (begins host told.blocks h s a l n k i place app stood.stands small some app_name label_name ok there compact spans taken)
+      (goes host told.blocks h s a l n k i place app stood.stands small some app_name label_name ok there compact spans taken well es made)
+      (logs_open host told.blocks h s stood.stands es (beside host told.blocks h s a l n k i place app stood.stands small some app_name label_name ok there compact spans taken well es made))
 
-  pub steps_lost : plan false → now.apps.items ≡ host.apps.items → now.table ≡ host.table → now.failed ≡ true → now.grants ≡ host.grants → now.clock ≡ host.clock → Steps host now told (Ok (w.vsa a l n kind.Raw)) es (said.Refused r.DeviceFault) []
+  pub steps_lost : plan false → now.apps.items ≡ host.apps.items → now.table ≡ host.table → now.failed ≡ true → now.grants ≡ host.grants → now.clock ≡ host.clock → Steps host now told (Ok (w.vsa a l n k)) es (said.Refused r.DeviceFault) []
   steps_lost made items kept failed grants clock = record {
     devices = makes_devices _ false es made;
-    answered = λ s h stood. vsa_answered now told.blocks (after h es) s a l n es (said.Refused r.DeviceFault) [] refl
-        (vsa_lost host told.blocks h s a l n i place app stood.stands small some app_name label_name ok there compact spans taken false es made now items kept failed grants clock refl);
+    answered = λ s h stood. vsa_answered now told.blocks (after h es) s a l n k es (said.Refused r.DeviceFault) [] refl
+        (vsa_lost host told.blocks h s a l n k i place app stood.stands small some app_name label_name ok there compact spans taken false es made now items kept failed grants clock refl);
     fronts = fronts false made;
   }
 
-  pub steps_granted : plan true → (app1 : App) → app1.labels ≡ app.labels ++ (l, new_area_cap host.grants) ∷ [] → app1.areas ≡ with_area app.areas host.grants (raw_area spans) → app1.store.region ≡ app.store.region → app1.store.buffers ≡ app.store.buffers → app1.devices ≡ app.devices → app1.name ≡ app.name
-      → now.apps.items ≡ set host.apps.items place app1 → now.free ≡ drop n host.free → now.table ≡ with_slot host.table i (Some (record { app = a; label = l; kind = kind.Raw; runs = runs_of spans })) → now.failed ≡ host.failed → now.grants ≡ host.grants + 1 → now.clock ≡ host.clock
-      → Steps host now told (Ok (w.vsa a l n kind.Raw)) es said.Ok []
+  pub steps_granted : plan true → (app1 : App) → app1.labels ≡ app.labels ++ (l, new_area_cap host.grants) ∷ [] → app1.areas ≡ with_area app.areas host.grants (record { kind = k; spans = spans }) → app1.store.region ≡ app.store.region → app1.store.buffers ≡ app.store.buffers → app1.devices ≡ app.devices → app1.name ≡ app.name
+      → now.apps.items ≡ set host.apps.items place app1 → now.free ≡ drop n host.free → now.table ≡ with_slot host.table i (Some (record { app = a; label = l; kind = k; runs = runs_of spans })) → now.failed ≡ host.failed → now.grants ≡ host.grants + 1 → now.clock ≡ host.clock
+      → Steps host now told (Ok (w.vsa a l n k)) es said.Ok []
   steps_granted made app1 labels held region buffers devices name items free tables failed grants clock = record {
     devices = makes_devices _ true es made;
-    answered = λ s h stood. vsa_answered now told.blocks (after h es) s a l n es said.Ok [] refl
-        (vsa_granted host told.blocks h s a l n i place app stood.stands small some app_name label_name ok there compact spans taken true es made refl now app1 labels held region buffers devices name items free tables failed grants clock);
+    answered = λ s h stood. vsa_answered now told.blocks (after h es) s a l n k es said.Ok [] refl
+        (vsa_granted host told.blocks h s a l n k i place app stood.stands small some app_name label_name ok there compact spans taken true es made refl now app1 labels held region buffers devices name items free tables failed grants clock);
     fronts = fronts true made;
   }
 

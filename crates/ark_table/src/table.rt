@@ -5,9 +5,9 @@ ghost use Rattle.ark_table.specs.Area.{Area};
 ghost use Rattle.ark_table.specs.Table.{HasTable, slots_in};
 ghost use Rattle.ark_table.specs.Loading.{HasRead, OnTold, IsFirstDamaged};
 ghost use Rattle.ark_table.specs.Plans.{create_calls, remove_calls};
-ghost use Rattle.ark_table.specs.Standing.{slot_in, with_slot, grown_area, grow_calls, CanGrow};
+ghost use Rattle.ark_table.specs.Standing.{slot_in, with_slot, grown_area, grow_calls};
 ghost use Rattle.ark_table.specs.Stated.{stated};
-ghost use Rattle.ark_table.specs.Using.{IsLeastFree, IsFull};
+ghost use Rattle.ark_table.specs.Using.{IsLeastFree, IsFull, MayJoin};
 
 use crate::fault::LoadFault;
 use crate::granting::grant;
@@ -124,7 +124,9 @@ impl GrantTable {
     /// Gives slot `i`, which is in use, more blocks behind its own: writes zeros to these, syncs, writes the slot, and syncs. It fails
     /// only where one of these calls fails, and makes none after it.
     pub fn grow<D: Disk>(&mut self, disk: &mut D, i: u16, more: &Spans) -> Result<(), DiskFailed>
-        requires can { (a : Area) × CanGrow (D.told disk.old).blocks self.old i a more.now }
+        requires joins { MayJoin self.old i more.now }
+        requires inside { All (λ n. n < (D.told disk.old).blocks) more.now }
+        requires table { 129 ≤ (D.told disk.old).blocks }
         ensures went { (a : Area) → slot_in self.old i ≡ Some a →
             Went D.goes (grow_calls i a more.now) (is_ok result) disk.old disk.new }
         ensures granted { OnOk result ((a : Area) → slot_in self.old i ≡ Some a →

@@ -20,9 +20,20 @@ vsa b s 1 raw => refused 3 no application
 
 run,--new,200,d => ready 200 0
 app a => ok
-vsa a s 2 log => refused 2 unknown word
-vsa a s 2 queue => refused 2 unknown word
 vsa a s 0 raw => refused 1 syntax
+vsa a l 1 log => refused 1 syntax
+vsa a l 2 log => ok
+vsa a q 2 queue => ok
+vsa a q 2 log => refused 4 name taken
+vsa a s 1 raw => ok
+peek a l 0 => refused 6 wrong kind
+poke a l 1 01 => refused 6 wrong kind
+peek a q 2 => refused 6 wrong kind
+poke a s 0 01 => ok
+peek a s 0 => ok 01
+vsa a m 67 log => refused 10 no space
+vsa a m 66 log => ok
+vsa b l 2 log => refused 3 no application
 
 run,--new,200,d => ready 200 0
 app a => ok

@@ -64,9 +64,6 @@ app a  64 => refused 1 syntax";
 /// A word that is not built is read, and then refused as unknown.
 pub(crate) const WORDS_TO_COME: &str = "\
 run,--new,200,d => ready 200 0
-vsa a s 8 log => refused 2 unknown word
-
-run,--new,200,d => ready 200 0
 recv a k => refused 2 unknown word
 
 run,--new,200,d => ready 200 0

@@ -14,7 +14,7 @@ use Rattle.ark_machine.specs.Built.{turn}
 use Rattle.ark_machine.specs.Follow.{ends_of}
 use Rattle.ark_worked.proofs.Playing.{Played, words_said, performs_for}
 use Rattle.ark_worked.proofs.Scripts.{quiet, app, area, granting}
-use Rattle.ark_worked.proofs.Labels.{a, b, s}
+use Rattle.ark_worked.proofs.Labels.{a, b, s, t}
 
 abbrev turned : System → Played → Turn
 turned s p = turn s (Ok p.0) (ends_of p.1) false
@@ -47,3 +47,23 @@ own_blocks-replies = refl
 pub own_blocks-performed : performed (fresh_system 200) own_blocks ≡ true
 unfolding step answer
 own_blocks-performed = refl
+
+-- the blocks of a log are not looked at one by one, those of a raw area are
+abbrev log_blocks : List Played
+log_blocks =
+    app a
+    ∷ (w.vsa a s 2 kind.Log, granting (area 1 a s kind.Log 129 2))
+    ∷ quiet (w.peek a s 0)
+    ∷ quiet (w.poke a s 1 (1 ∷ []))
+    ∷ (w.vsa a t 1 kind.Raw, granting (area 2 a t kind.Raw 131 1))
+    ∷ (w.peek a t 0, Read 131 true ∷ [])
+    ∷ []
+
+pub log_blocks-replies : replies (fresh_system 200) log_blocks
+    ≡ codes "ok" ∷ codes "ok" ∷ codes "refused 6 wrong kind" ∷ codes "refused 6 wrong kind" ∷ codes "ok" ∷ codes "ok -" ∷ []
+unfolding step answer encode_with digits
+log_blocks-replies = refl
+
+pub log_blocks-performed : performed (fresh_system 200) log_blocks ≡ true
+unfolding step answer
+log_blocks-performed = refl
