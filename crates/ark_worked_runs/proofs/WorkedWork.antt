@@ -1,5 +1,6 @@
 -- The script of `work`, worked out.
 use Rattle.std.specs.Fmt.{digits}
+use Rattle.hex.specs.Hex.{encode_with}
 use Rattle.std.proofs.Common.{◌≡◌, ℕ, true, List, [], ◌∷◌, length, drop, map, codes, refl, lit≤, Ok}
 use Rattle.std.specs.Prelude.{None}
 use Rattle.ark_base.specs.declared.kind.Kind.TheVariants as kind
@@ -46,7 +47,7 @@ first_lines : drop 16 (generated 1 24) ≡
     ∷ codes "put b v r 21 2 m"
     ∷ codes "flush b v"
     ∷ []
-unfolding digits
+unfolding digits encode_with
 first_lines = refl
 
 summed : summary 3 (codes "ok" ∷ codes "ok 1 0" ∷ codes "refused 13 ring full" ∷ codes "acked append 1" ∷ codes "okay" ∷ []) ≡ codes "work 3 ok 2 refused 1 other 2"
