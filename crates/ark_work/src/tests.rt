@@ -51,17 +51,13 @@ fn gives_the_script_of_a_seed(rt: HostRuntime) -> Result<(), Fail> {
 #[test]
 fn tells_how_replies_began(rt: HostRuntime) -> Result<(), Fail> {
     let mut tally = Tally::new();
-    for reply in [
-        "ok\n",
-        "ok 12\n",
-        "okay\n",
-        "refused 2 unknown word\n",
-        "idle\n",
-        "done ok\n",
-        "\n",
-    ] {
-        tally.count(reply.as_bytes());
-    }
+    tally.count(b"ok\n");
+    tally.count(b"ok 12\n");
+    tally.count(b"okay\n");
+    tally.count(b"refused 2 unknown word\n");
+    tally.count(b"idle\n");
+    tally.count(b"done ok\n");
+    tally.count(b"\n");
     let mut out = [0; SUMMARY_ROOM];
     let len = tally.print(9, &mut out);
     assert_eq!(rt; &out[..len], b"work 9 ok 2 refused 1 other 4".as_slice());
