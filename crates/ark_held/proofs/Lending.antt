@@ -1,5 +1,5 @@
 -- The descriptors that have a buffer.
-use Rattle.std.proofs.Common.{◌≡◌, ℕ, ◌+◌, ◌<◌, Bool, true, false, not, nat_lt, List, [], ◌∷◌, refl, sym, ◌∙◌, ap, arith, bytes_eq}
+use Rattle.std.proofs.Common.{◌≡◌, ℕ, ◌+◌, ◌<◌, Bool, true, false, not, nat_lt, List, [], ◌∷◌, refl, sym, ◌∙◌, ap, subst, arith, bytes_eq}
 use Rattle.std.specs.Prelude.{Option, Some, None, ◌||◌}
 use Rattle.std.specs.List.{list_any, AllByRecursion}
 use Rattle.std.proofs.lemmas.Bool.Decides.{nat_tests}
@@ -67,7 +67,7 @@ uses_is l (Objects.socket z) = refl
 pub lent_is : (m : Machine) (l : List ℕ) (b : Bool) → bit b ≡ lent_count m l → is_lent m l ≡ b
 lent_is m l b is = any_is (λ h. has_buffer l h.object) (λ h. uses l h.object) (λ h. uses_is l h.object) m.held ∙ ap (λ n. nat_lt 0 n) (sym is) ∙ bit_some b
 
--- Nothing has a buffer under a label that is not there.
+-- Nothing has a buffer under a label that is no buffer's.
 
 each_zero : {X Y : Type 0} (P : X → Y → Type 0) (f : Y → ℕ) → ((x : X) (y : Y) → P x y → f y ≡ 0) → (xs : List X) (ys : List Y) → Each P xs ys → total f ys ≡ 0
 each_zero P f none [] [] e = refl
@@ -75,22 +75,22 @@ each_zero P f none (x ∷ xs) (y ∷ ys) e = let one = none x y e.0 in let rest 
 each_zero P f none [] (y ∷ ys) e = absurd e
 each_zero P f none (x ∷ xs) [] e = absurd e
 
-module _ (x : Around) (l : List ℕ) (absent : value_at x.labels l ≡ None) where
-  name_none : (b : List ℕ) (kind : CapKind) (key : ℕ) → Names x b kind key → bit (bytes_eq l b) ≡ 0
-  name_none b kind key n = ap bit (name_other l b (λ e. not_some (value_at x.labels b) n.cap (ap (λ k. value_at x.labels k) (sym e) ∙ absent) n.there))
+module _ (x : Around) (l : List ℕ) (other : (c : Capability) → value_at x.labels l ≡ Some c → c.kind ≡ cap_kind.Buf → ⊥) where
+  name_none : (b : List ℕ) (key : ℕ) → Names x b cap_kind.Buf key → bit (bytes_eq l b) ≡ 0
+  name_none b key n = ap bit (name_other l b (λ e. other n.cap (ap (λ k. value_at x.labels k) e ∙ n.there) n.its_kind))
 
   job_none : (log : Option ℕ) (d : Descriptor) (j : Job) → IsJob x log d j → bit (job_has l j) ≡ 0
-  job_none log d (transfer t) is = name_none t.buffer cap_kind.Buf d.tag is.buffer.named
+  job_none log d (transfer t) is = name_none t.buffer d.tag is.buffer.named
   job_none log d flush is = refl
   job_none log d (phase p) is = refl
 
   ended_none : (c : Completion) (u : Job × Outcome) → IsEnded x c u → bit (job_has l u.0) ≡ 0
-  ended_none c (transfer t, o) is = name_none t.buffer cap_kind.Buf c.tag is.2.named
+  ended_none c (transfer t, o) is = name_none t.buffer c.tag is.2.named
   ended_none c (flush, o) is = refl
   ended_none c (phase p, o) is = refl
 
   place_none : (tag : ℕ) (given : Option Piece) (p : Place) → IsFramePlace x tag given p → bit (place_has l p) ≡ 0
-  place_none tag given (in_buffer b) is = name_none b cap_kind.Buf tag is.named
+  place_none tag given (in_buffer b) is = name_none b tag is.named
   place_none tag given (taken b) is = refl
 
   received_none : (c : Completion) (u : Place × ℕ) → IsReceived x c u → bit (place_has l u.0) ≡ 0
@@ -102,7 +102,7 @@ module _ (x : Around) (l : List ℕ) (absent : value_at x.labels l ≡ None) whe
   sent_none : (c : Completion) (u : Place × Outcome) → IsSent x c u → bit (place_has l u.0) ≡ 0
   sent_none c (p, o) is = place_none c.tag c.buf p is.1
 
-  none_uses : (k : List ℕ) (c : Capability) (o : Object) → IsObjectOf x k c o → uses l o ≡ 0
+  pub none_uses : (k : List ℕ) (c : Capability) (o : Object) → IsObjectOf x k c o → uses l o ≡ 0
   none_uses k c (Objects.vsic v) f =
       let a = each_zero (IsJob x f.card.log) (λ j. bit (job_has l j)) (job_none f.card.log) f.card.ring.posted v.queue.posted f.posted in
       let b = each_zero (IsEnded x) (λ u. bit (job_has l u.0)) ended_none f.card.ring.unreaped v.queue.unreaped f.unreaped in
@@ -121,11 +121,15 @@ module _ (x : Around) (l : List ℕ) (absent : value_at x.labels l ≡ None) whe
   none_uses k c (Objects.buffer z) f = refl
   none_uses k c (Objects.socket z) f = refl
 
-  pub none_lent : (ps : Labels) (hs : List Held) → AllMatch x ps hs → total (λ h. uses l h.object) hs ≡ 0
-  none_lent [] [] all = refl
-  none_lent (p ∷ ps) (h ∷ hs) all = let a = none_uses p.0 p.1 h.object all.0.object in let b = none_lent ps hs all.1 in omega (arith, a, b)
-  none_lent [] (h ∷ hs) all = absurd all
-  none_lent (p ∷ ps) [] all = absurd all
+  none_used : (ps : Labels) (hs : List Held) → AllMatch x ps hs → total (λ h. uses l h.object) hs ≡ 0
+  none_used [] [] all = refl
+  none_used (p ∷ ps) (h ∷ hs) all = let a = none_uses p.0 p.1 h.object all.0.object in let b = none_used ps hs all.1 in omega (arith, a, b)
+  none_used [] (h ∷ hs) all = absurd all
+  none_used (p ∷ ps) [] all = absurd all
+
+-- and none under one that is not there
+pub none_lent : (x : Around) (l : List ℕ) → value_at x.labels l ≡ None → (ps : Labels) (hs : List Held) → AllMatch x ps hs → total (λ h. uses l h.object) hs ≡ 0
+none_lent x l absent ps hs all = none_used x l (λ c is kind. not_some (value_at x.labels l) c absent is) ps hs all
 
 -- An object that does not have the buffer under a label names other labels alone.
 
@@ -137,9 +141,19 @@ narrow : {X : Type 0} (P Q : X → Type 0) (f : X → ℕ) → ((x : X) → f x 
 narrow P Q f step [] none all = tt
 narrow P Q f step (x ∷ xs) none all = (step x (omega (arith, none)) all.0, narrow P Q f step xs (omega (arith, none)) all.1)
 
-module _ (x : Around) (l : List ℕ) (cap : Capability) (there : value_at x.labels l ≡ Some cap) (its_kind : cap.kind ≡ cap_kind.Buf) (rests : Piece → Type 0) where
-  name_apart : (b : List ℕ) (c : Capability) (kind : CapKind) → value_at x.labels b ≡ Some c → c.kind ≡ kind → (kind ≡ cap_kind.Buf → ⊥) → but l b ≡ true
-  name_apart b c kind at is other = ap not (name_other l b (λ e. other (sym is ∙ ap (λ (z : Capability). z.kind) (some_same (value_at x.labels b) c cap at (ap (λ k. value_at x.labels k) (sym e) ∙ there)) ∙ its_kind)))
+-- a card, a doorbell or a rate: what objects name beside buffers
+abbrev IsNamed : CapKind → Type 0
+IsNamed cap_kind.Vsic = Unit {0}
+IsNamed cap_kind.Vnic = Unit {0}
+IsNamed cap_kind.Door = Unit {0}
+IsNamed cap_kind.Rate = Unit {0}
+IsNamed _ = ⊥
+
+module _ (x : Around) (l : List ℕ) (cap : Capability) (there : value_at x.labels l ≡ Some cap) (unnamed : IsNamed cap.kind → ⊥) (rests : Piece → Type 0) where
+  name_apart : (b : List ℕ) (c : Capability) (kind : CapKind) → value_at x.labels b ≡ Some c → c.kind ≡ kind → IsNamed kind → but l b ≡ true
+  name_apart b c kind at is named =
+      ap not (name_other l b (λ e. unnamed (subst (λ (z : CapKind). IsNamed z)
+      (sym is ∙ ap (λ (z : Capability). z.kind) (some_same (value_at x.labels b) c cap at (ap (λ k. value_at x.labels k) (sym e) ∙ there))) named)))
 
   job_narrow : (j : Job) → bit (job_has l j) ≡ 0 → JobWithin any_label rests j → JobWithin (but l) rests j
   job_narrow (transfer t) none w = bit_zero (bytes_eq l t.buffer) none
@@ -152,38 +166,38 @@ module _ (x : Around) (l : List ℕ) (cap : Capability) (there : value_at x.labe
 
   paced_narrow : (k : Option PaceKept) (p : Option Paced) → Both (IsPaced x) k p → PacedWithin (but l) rests p
   paced_narrow None None is = tt
-  paced_narrow (Some k) (Some p) is = name_apart p.rate is.rate.cap cap_kind.Rate is.rate.there is.rate.its_kind (λ e. cc (e))
+  paced_narrow (Some k) (Some p) is = name_apart p.rate is.rate.cap cap_kind.Rate is.rate.there is.rate.its_kind tt
   paced_narrow None (Some p) is = absurd is
   paced_narrow (Some k) None is = absurd is
 
   door_narrow : (k : Option ℕ) (d : Option (List ℕ)) → Both (IsWatched x) k d → LabelWithin (but l) rests d
   door_narrow None None is = tt
-  door_narrow (Some k) (Some d) is = name_apart d is.cap cap_kind.Door is.there is.its_kind (λ e. cc (e))
+  door_narrow (Some k) (Some d) is = name_apart d is.cap cap_kind.Door is.there is.its_kind tt
   door_narrow None (Some d) is = absurd is
   door_narrow (Some k) None is = absurd is
 
   card_narrow : (k : Option ℕ) (v : Option (List ℕ)) → Both (λ g v. IsGranted x v cap_kind.Vnic g) k v → LabelWithin (but l) rests v
   card_narrow None None is = tt
-  card_narrow (Some k) (Some v) is = name_apart v is.cap cap_kind.Vnic is.there is.its_kind (λ e. cc (e))
+  card_narrow (Some k) (Some v) is = name_apart v is.cap cap_kind.Vnic is.there is.its_kind tt
   card_narrow None (Some v) is = absurd is
   card_narrow (Some k) None is = absurd is
 
   opened_narrow : (grant : ℕ) (k : Option ChainKept) (o : Option Opened) → Both (IsOpened x grant) k o → OpenedWithin any_label rests o → OpenedWithin (but l) rests o
   opened_narrow grant None None is w = tt
-  opened_narrow grant (Some k) (Some o) is w = (name_apart o.card is.card.cap cap_kind.Vsic is.card.there is.card.its_kind (λ e. cc (e)), w.1)
+  opened_narrow grant (Some k) (Some o) is w = (name_apart o.card is.card.cap cap_kind.Vsic is.card.there is.card.its_kind tt, w.1)
   opened_narrow grant None (Some o) is w = absurd is
   opened_narrow grant (Some k) None is w = absurd is
 
-  pub narrowed : (k : List ℕ) (c : Capability) (o : Object) → IsObjectOf x k c o → uses l o ≡ 0 → Within any_label rests o → Within (but l) rests o
-  narrowed k c (Objects.raw z) f none w = tt
-  narrowed k c (Objects.log g) f none w = opened_narrow c.grant (x.tables.chains c.grant) g.opened f.opened w
-  narrowed k c (Objects.vsic v) f none w = (
+  narrowed_from : (k : List ℕ) (c : Capability) (o : Object) → IsObjectOf x k c o → uses l o ≡ 0 → Within any_label rests o → Within (but l) rests o
+  narrowed_from k c (Objects.raw z) f none w = tt
+  narrowed_from k c (Objects.log g) f none w = opened_narrow c.grant (x.tables.chains c.grant) g.opened f.opened w
+  narrowed_from k c (Objects.vsic v) f none w = (
     narrow (JobWithin any_label rests) (JobWithin (but l) rests) (λ j. bit (job_has l j)) job_narrow v.queue.posted (omega (arith, none)) w.0,
     narrow (λ u. JobWithin any_label rests u.0) (λ u. JobWithin (but l) rests u.0) (λ u. bit (job_has l u.0)) (λ u. job_narrow u.0) v.queue.unreaped (omega (arith, none)) w.1,
     paced_narrow f.card.pace v.pace f.pace,
     door_narrow f.card.door v.door f.door,
   )
-  narrowed k c (Objects.vnic v) f none w = (
+  narrowed_from k c (Objects.vnic v) f none w = (
     narrow (PlaceWithin any_label rests) (PlaceWithin (but l) rests) (λ p. bit (place_has l p)) place_narrow v.rx.posted (omega (arith, none)) w.0,
     narrow (λ u. PlaceWithin any_label rests u.0) (λ u. PlaceWithin (but l) rests u.0) (λ u. bit (place_has l u.0)) (λ u. place_narrow u.0) v.rx.unreaped (omega (arith, none)) w.1,
     narrow (λ p. PlaceWithin any_label rests p.0) (λ p. PlaceWithin (but l) rests p.0) (λ p. bit (place_has l p.0)) (λ p. place_narrow p.0) v.tx.posted (omega (arith, none)) w.2,
@@ -193,8 +207,23 @@ module _ (x : Around) (l : List ℕ) (cap : Capability) (there : value_at x.labe
     door_narrow f.net.rx_door v.rx_door f.rx_door,
     door_narrow f.net.tx_door v.tx_door f.tx_door,
   )
-  narrowed k c (Objects.filter z card) f none w = card_narrow f.live.vnic card f.card
-  narrowed k c (Objects.door z) f none w = tt
-  narrowed k c (Objects.rate z y) f none w = tt
-  narrowed k c (Objects.buffer z) f none w = w
-  narrowed k c (Objects.socket z) f none w = name_apart z.card f.card.cap cap_kind.Vnic f.card.there f.card.its_kind (λ e. cc (e))
+  narrowed_from k c (Objects.filter z card) f none w = card_narrow f.live.vnic card f.card
+  narrowed_from k c (Objects.door z) f none w = tt
+  narrowed_from k c (Objects.rate z y) f none w = tt
+  narrowed_from k c (Objects.buffer z) f none w = w
+  narrowed_from k c (Objects.socket z) f none w = name_apart z.card f.card.cap cap_kind.Vnic f.card.there f.card.its_kind tt
+
+-- of a buffer's label
+pub narrowed : (x : Around) (l : List ℕ) (cap : Capability) → value_at x.labels l ≡ Some cap → cap.kind ≡ cap_kind.Buf → (rests : Piece → Type 0) (k : List ℕ) (c : Capability) (o : Object) → IsObjectOf x k c o → uses l o ≡ 0
+    → Within any_label rests o → Within (but l) rests o
+narrowed x l cap there is rests k c o f none w = narrowed_from x l cap there (λ named. subst (λ (z : CapKind). IsNamed z) is named) rests k c o f none w
+
+-- An object names no area by its label.
+pub narrowed_area : (x : Around) (l : List ℕ) (cap : Capability) → value_at x.labels l ≡ Some cap → cap.kind ≡ cap_kind.Vsa → (rests : Piece → Type 0) (k : List ℕ) (c : Capability) (o : Object) → IsObjectOf x k c o
+    → Within any_label rests o → Within (but l) rests o
+narrowed_area x l cap there is rests k c o f w =
+    narrowed_from x l cap there (λ named. subst (λ (z : CapKind). IsNamed z) is named) rests k c o f
+    (none_uses x l (λ d at kind. area_no_buffer (sym is ∙ ap (λ (z : Capability). z.kind) (some_same (value_at x.labels l) cap d there at) ∙ kind)) k c o f) w
+  where
+    area_no_buffer : cap_kind.Vsa ≡ cap_kind.Buf → ⊥
+    area_no_buffer e = cc

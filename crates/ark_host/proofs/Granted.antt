@@ -77,8 +77,8 @@ use Rattle.ark_host.proofs.Placing.{names_set, set_at}
 use Rattle.ark_host.proofs.Planned.{ended_sync, made_fault, made_sync, grant_beside, grant_syncs, grant_follows}
 
 -- a raw area of these blocks, as an application keeps it
-abbrev pub raw_area : List ℕ → Kept
-raw_area blocks = record { kind = kind.Raw; spans = blocks }
+abbrev pub raw_area : ℕ → List ℕ → Kept
+raw_area index blocks = record { kind = kind.Raw; slot = index; spans = blocks }
 
 unlabelled_by : (labels : Labels) (areas : AreaList) (o : Option Capability) → room_under labels areas o ≡ None → o ≡ None
 unlabelled_by labels areas None h = refl
@@ -96,11 +96,11 @@ few_areas labels areas None h = by_test (nat_le 8 (length areas)) (λ b. nat_le 
 settled_new : (m : Machine) (l : List ℕ) (x : Raw) → each_object settled (with_new m l (Objects.raw x)) ≡ with_new (each_object settled m) l (settled (Objects.raw x))
 settled_new m l x = λ i. record m { serial = m.serial + 1; held = map-append (λ g. holding (settled g.object) g) m.held ((record { label = l; serial = m.serial; object = Objects.raw x }) ∷ []) i }
 
-synced_made : (b : Bool) (m : Machine) → (synced b m).made ≡ m.made
+pub synced_made : (b : Bool) (m : Machine) → (synced b m).made ≡ m.made
 synced_made true m = refl
 synced_made false m = refl
 
-synced_now : (b : Bool) (m : Machine) → (synced b m).now ≡ m.now
+pub synced_now : (b : Bool) (m : Machine) → (synced b m).now ≡ m.now
 synced_now true m = refl
 synced_now false m = refl
 
@@ -350,7 +350,7 @@ module _ (host : Host) (size : ℕ) (past : History) (s : System) (a l : List �
             (0, omega arith, get_or-replicate n k zero_block [] (omega (arith, lt, count)) ∙ sym is);
       }
 
-      module _ (now : Host) (app1 : App) (labels : app1.labels ≡ app.labels ++ (l, new_area_cap host.grants) ∷ []) (held : app1.areas ≡ with_area app.areas host.grants (raw_area spans)) (region : app1.store.region ≡ app.store.region) (buffers : app1.store.buffers ≡ app.store.buffers) (name : app1.name ≡ app.name)
+      module _ (now : Host) (app1 : App) (labels : app1.labels ≡ app.labels ++ (l, new_area_cap host.grants) ∷ []) (held : app1.areas ≡ with_area app.areas host.grants (raw_area i spans)) (region : app1.store.region ≡ app.store.region) (buffers : app1.store.buffers ≡ app.store.buffers) (name : app1.name ≡ app.name)
           (items : now.apps.items ≡ set host.apps.items place app1) (free : now.free ≡ drop n host.free) (tables : now.table ≡ with_slot host.table i (Some (record { app = a; label = l; kind = kind.Raw; runs = runs_of spans }))) (failed : now.failed ≡ host.failed)
           (grants : now.grants ≡ host.grants + 1) (clock : now.clock ≡ host.clock) where
         abbrev plane : Plane
@@ -377,7 +377,11 @@ module _ (host : Host) (size : ℕ) (past : History) (s : System) (a l : List �
         later = with_set s plane a one
 
         more_areas : app1.areas ≡ app.areas ++ (host.grants, area_in slot) ∷ []
-        more_areas = held ∙ ap (λ (bs : List ℕ). with_area app.areas host.grants (raw_area bs)) (sym slot_blocks) ∙ added_last host.grants (area_in slot) app.areas (h.unused host.grants (omega arith))
+        more_areas =
+            held
+            ∙ ap (λ k. with_area app.areas host.grants (raw_area k spans)) (sym slot_index)
+            ∙ ap (λ (bs : List ℕ). with_area app.areas host.grants (raw_area slot.index bs)) (sym slot_blocks)
+            ∙ added_last host.grants (area_in slot) app.areas (h.unused host.grants (omega arith))
 
         new_number : (k : ℕ) → slice_get h.numbers k ≡ Some host.grants → ⊥
         new_number k is = let lt = h.below k host.grants is in absurd (omega (arith, lt))

@@ -33,6 +33,7 @@ unbuilt_group (w.show a b off len) none = absurd (false≢true (sym none))
 unbuilt_group (w.fill a b off bytes) none = absurd (false≢true (sym none))
 unbuilt_group (w.copy a b c len) none = absurd (false≢true (sym none))
 unbuilt_group (w.free a b) none = absurd (false≢true (sym none))
+unbuilt_group (w.drop a x) none = absurd (false≢true (sym none))
 unbuilt_group (w.tick n) none = absurd (false≢true (sym none))
 unbuilt_group _ none = refl
 
@@ -46,19 +47,21 @@ two_groups h = cc
 
 -- the words about applications, areas and time that are not built
 pub unbuilt_control : (x : Step) → (attributes (line_of x)).group ≡ group.Control
-    → ((a : List ℕ) (frames : Option ℕ) → x ≡ step.App a frames → ⊥) → ((a l : List ℕ) (n : ℕ) (k : Kind) → x ≡ step.Vsa a l n k → ⊥) → ((n : ℕ) → x ≡ step.Tick n → ⊥)
+    → ((a : List ℕ) (frames : Option ℕ) → x ≡ step.App a frames → ⊥) → ((a l : List ℕ) (n : ℕ) (k : Kind) → x ≡ step.Vsa a l n k → ⊥)
+    → ((a l : List ℕ) → x ≡ step.Drop a l → ⊥) → ((n : ℕ) → x ≡ step.Tick n → ⊥)
     → is_built (line_of x) ≡ false
-unbuilt_control (step.App a frames) about no_app no_vsa no_tick = absurd (no_app a frames refl)
-unbuilt_control (step.Vsa a l n k) about no_app no_vsa no_tick = absurd (no_vsa a l n k refl)
-unbuilt_control (step.Tick n) about no_app no_vsa no_tick = absurd (no_tick n refl)
-unbuilt_control (step.Peek a l off) about no_app no_vsa no_tick = absurd (two_groups (sym about))
-unbuilt_control (step.Poke a l off hex) about no_app no_vsa no_tick = absurd (two_groups (sym about))
-unbuilt_control (step.Buf a l n) about no_app no_vsa no_tick = absurd (two_groups (sym about))
-unbuilt_control (step.Show a l off n) about no_app no_vsa no_tick = absurd (two_groups (sym about))
-unbuilt_control (step.Fill a l off hex) about no_app no_vsa no_tick = absurd (two_groups (sym about))
-unbuilt_control (step.Copy a l m n) about no_app no_vsa no_tick = absurd (two_groups (sym about))
-unbuilt_control (step.Free a l) about no_app no_vsa no_tick = absurd (two_groups (sym about))
-unbuilt_control _ about no_app no_vsa no_tick = refl
+unbuilt_control (step.App a frames) about no_app no_vsa no_drop no_tick = absurd (no_app a frames refl)
+unbuilt_control (step.Vsa a l n k) about no_app no_vsa no_drop no_tick = absurd (no_vsa a l n k refl)
+unbuilt_control (step.Drop a l) about no_app no_vsa no_drop no_tick = absurd (no_drop a l refl)
+unbuilt_control (step.Tick n) about no_app no_vsa no_drop no_tick = absurd (no_tick n refl)
+unbuilt_control (step.Peek a l off) about no_app no_vsa no_drop no_tick = absurd (two_groups (sym about))
+unbuilt_control (step.Poke a l off hex) about no_app no_vsa no_drop no_tick = absurd (two_groups (sym about))
+unbuilt_control (step.Buf a l n) about no_app no_vsa no_drop no_tick = absurd (two_groups (sym about))
+unbuilt_control (step.Show a l off n) about no_app no_vsa no_drop no_tick = absurd (two_groups (sym about))
+unbuilt_control (step.Fill a l off hex) about no_app no_vsa no_drop no_tick = absurd (two_groups (sym about))
+unbuilt_control (step.Copy a l m n) about no_app no_vsa no_drop no_tick = absurd (two_groups (sym about))
+unbuilt_control (step.Free a l) about no_app no_vsa no_drop no_tick = absurd (two_groups (sym about))
+unbuilt_control _ about no_app no_vsa no_drop no_tick = refl
 
 -- each word about blocks and buffers is built
 pub all_memory : (x : Step) → (attributes (line_of x)).group ≡ group.Memory → ((a l : List ℕ) (off : ℕ) → x ≡ step.Peek a l off → ⊥)
@@ -75,6 +78,7 @@ all_memory (step.Free a l) about no_peek no_poke no_buf no_show no_fill no_copy 
 all_memory (step.App a frames) about no_peek no_poke no_buf no_show no_fill no_copy no_free = absurd (two_groups about)
 all_memory (step.Vsa a l n k) about no_peek no_poke no_buf no_show no_fill no_copy no_free = absurd (two_groups about)
 all_memory (step.Tick n) about no_peek no_poke no_buf no_show no_fill no_copy no_free = absurd (two_groups about)
+all_memory (step.Drop a l) about no_peek no_poke no_buf no_show no_fill no_copy no_free = absurd (two_groups about)
 all_memory _ about no_peek no_poke no_buf no_show no_fill no_copy no_free = refl
 
 -- a word's counts are those of a line

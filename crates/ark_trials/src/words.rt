@@ -70,9 +70,6 @@ run,--new,200,d => ready 200 0
 door a d => refused 2 unknown word
 
 run,--new,200,d => ready 200 0
-drop a s => refused 2 unknown word
-
-run,--new,200,d => ready 200 0
 grow a s 1 => refused 2 unknown word
 
 run,--new,200,d => ready 200 0
@@ -117,4 +114,8 @@ vsa b s 1 raw => ok
 poke b s 0 0b => ok
 peek a s 1 => ok 0aff
 peek b s 0 => ok 0b
-vsa b t 300 raw => refused 10 no space";
+vsa b t 300 raw => refused 10 no space
+drop a s => ok
+peek a s 1 => refused 5 no grant s
+vsa b t 2 raw => ok
+peek b t 1 => ok -";
