@@ -26,6 +26,7 @@ has_built _ = false
 pub unbuilt_group : (line : Line) → has_built (attributes line).group ≡ false → is_built line ≡ false
 unbuilt_group (w.app a frames) none = absurd (false≢true (sym none))
 unbuilt_group (w.vsa a s n k) none = absurd (false≢true (sym none))
+unbuilt_group (w.grow a s n) none = absurd (false≢true (sym none))
 unbuilt_group (w.peek a s off) none = absurd (false≢true (sym none))
 unbuilt_group (w.poke a s off bytes) none = absurd (false≢true (sym none))
 unbuilt_group (w.buf a b len) none = absurd (false≢true (sym none))
@@ -46,19 +47,20 @@ two_groups h = cc
 
 -- the words about applications, areas and time that are not built
 pub unbuilt_control : (x : Step) → (attributes (line_of x)).group ≡ group.Control
-    → ((a : List ℕ) (frames : Option ℕ) → x ≡ step.App a frames → ⊥) → ((a l : List ℕ) (n : ℕ) (k : Kind) → x ≡ step.Vsa a l n k → ⊥) → ((n : ℕ) → x ≡ step.Tick n → ⊥)
+    → ((a : List ℕ) (frames : Option ℕ) → x ≡ step.App a frames → ⊥) → ((a l : List ℕ) (n : ℕ) (k : Kind) → x ≡ step.Vsa a l n k → ⊥) → ((a l : List ℕ) (n : ℕ) → x ≡ step.Grow a l n → ⊥) → ((n : ℕ) → x ≡ step.Tick n → ⊥)
     → is_built (line_of x) ≡ false
-unbuilt_control (step.App a frames) about no_app no_vsa no_tick = absurd (no_app a frames refl)
-unbuilt_control (step.Vsa a l n k) about no_app no_vsa no_tick = absurd (no_vsa a l n k refl)
-unbuilt_control (step.Tick n) about no_app no_vsa no_tick = absurd (no_tick n refl)
-unbuilt_control (step.Peek a l off) about no_app no_vsa no_tick = absurd (two_groups (sym about))
-unbuilt_control (step.Poke a l off hex) about no_app no_vsa no_tick = absurd (two_groups (sym about))
-unbuilt_control (step.Buf a l n) about no_app no_vsa no_tick = absurd (two_groups (sym about))
-unbuilt_control (step.Show a l off n) about no_app no_vsa no_tick = absurd (two_groups (sym about))
-unbuilt_control (step.Fill a l off hex) about no_app no_vsa no_tick = absurd (two_groups (sym about))
-unbuilt_control (step.Copy a l m n) about no_app no_vsa no_tick = absurd (two_groups (sym about))
-unbuilt_control (step.Free a l) about no_app no_vsa no_tick = absurd (two_groups (sym about))
-unbuilt_control _ about no_app no_vsa no_tick = refl
+unbuilt_control (step.App a frames) about no_app no_vsa no_grow no_tick = absurd (no_app a frames refl)
+unbuilt_control (step.Vsa a l n k) about no_app no_vsa no_grow no_tick = absurd (no_vsa a l n k refl)
+unbuilt_control (step.Grow a l n) about no_app no_vsa no_grow no_tick = absurd (no_grow a l n refl)
+unbuilt_control (step.Tick n) about no_app no_vsa no_grow no_tick = absurd (no_tick n refl)
+unbuilt_control (step.Peek a l off) about no_app no_vsa no_grow no_tick = absurd (two_groups (sym about))
+unbuilt_control (step.Poke a l off hex) about no_app no_vsa no_grow no_tick = absurd (two_groups (sym about))
+unbuilt_control (step.Buf a l n) about no_app no_vsa no_grow no_tick = absurd (two_groups (sym about))
+unbuilt_control (step.Show a l off n) about no_app no_vsa no_grow no_tick = absurd (two_groups (sym about))
+unbuilt_control (step.Fill a l off hex) about no_app no_vsa no_grow no_tick = absurd (two_groups (sym about))
+unbuilt_control (step.Copy a l m n) about no_app no_vsa no_grow no_tick = absurd (two_groups (sym about))
+unbuilt_control (step.Free a l) about no_app no_vsa no_grow no_tick = absurd (two_groups (sym about))
+unbuilt_control _ about no_app no_vsa no_grow no_tick = refl
 
 -- each word about blocks and buffers is built
 pub all_memory : (x : Step) → (attributes (line_of x)).group ≡ group.Memory → ((a l : List ℕ) (off : ℕ) → x ≡ step.Peek a l off → ⊥)
@@ -74,6 +76,7 @@ all_memory (step.Copy a l m n) about no_peek no_poke no_buf no_show no_fill no_c
 all_memory (step.Free a l) about no_peek no_poke no_buf no_show no_fill no_copy no_free = absurd (no_free a l refl)
 all_memory (step.App a frames) about no_peek no_poke no_buf no_show no_fill no_copy no_free = absurd (two_groups about)
 all_memory (step.Vsa a l n k) about no_peek no_poke no_buf no_show no_fill no_copy no_free = absurd (two_groups about)
+all_memory (step.Grow a l n) about no_peek no_poke no_buf no_show no_fill no_copy no_free = absurd (two_groups about)
 all_memory (step.Tick n) about no_peek no_poke no_buf no_show no_fill no_copy no_free = absurd (two_groups about)
 all_memory _ about no_peek no_poke no_buf no_show no_fill no_copy no_free = refl
 
