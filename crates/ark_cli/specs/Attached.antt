@@ -104,3 +104,31 @@ RunsAttached device told0 told1 beside0 beside1 status =
     ((status ≡ Memory) × IsQuiet told0 told1 beside0 beside1 status)
     ⊎ ((status ≡ Device) × IsDeviceRefused (attaching device false) told0 told1 beside0 beside1 status)
     ⊎ ((base : List (List ℕ)) × IsClosedOn device base told0 told1 beside0 beside1 status)
+
+-- The opening, for a host that stands for the system of the device's slots.
+
+-- the device was attached, its table read, and its line put out
+pub record IsReadyOn (device : List ℕ) (told0 told1 : Told) (beside0 beside1 : Beside) (host : Host) : Type 0 where
+  pub base : List (List ℕ)
+  pub events : List Event
+  pub reads : BeginsReading events
+  pub succeeded : HasFailed events → ⊥
+  -- so many slots the line tells; where the image is told they are its own
+  pub slots : ℕ
+  pub since : SinceAttach device base (events ++ Out (text (Ready (length base) slots) []) ∷ []) [] told0 told1 beside0 beside1
+  pub stands : (h : History) → told1.history ≡ Some h → (found : List Slot) × (slots_of base ≡ Ok found) × (length found ≡ slots) × Stands host told1.blocks h (start_system base found)
+
+-- the device was attached, and a read of its table failed, it is damaged, or memory was wanting: nothing came out
+pub record IsUnread (device : List ℕ) (told0 told1 : Told) (beside0 beside1 : Beside) (status : Status) : Type 0 where
+  pub base : List (List ℕ)
+  pub events : List Event
+  pub reads : BeginsReading events
+  pub since : SinceAttach device base events [] told0 told1 beside0 beside1
+  pub ends : EndsOn base told1 status [] [] events
+
+-- how the opening of a device that was there fails
+abbrev pub OpensNotOn : List ℕ → Told → Told → Beside → Beside → Status → Type 0
+OpensNotOn device told0 told1 beside0 beside1 status =
+    ((status ≡ Device) × NoDeviceAttached device told0 told1 beside0 beside1)
+    ⊎ IsUnread device told0 told1 beside0 beside1 status
+    ⊎ ((status ≡ Sink) × IsUnshownOn device told0 told1 beside0 beside1)

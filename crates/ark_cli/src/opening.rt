@@ -38,3 +38,30 @@ pub fn open_new<W: Outside>(
         },
     }
 }
+
+/// Attaches a device that was there, loads its host, and puts the line that says that it is ready. The error is the status with
+/// which the program ends: `Device` where attaching or a read failed, `Damaged` with the first block that breaks a rule, `Memory`,
+/// or `Sink` where its line could not be put.
+pub fn open_attached<W: Outside>(
+    alloc: Global,
+    device: &str,
+    out: &mut ReplyBuffer,
+    world: &mut W,
+) -> Result<Host, Status> {
+    match world.attach(device) {
+        Err(_) => Err(Status::Device),
+        Ok(()) => match Host::load(alloc, world) {
+            Err(LoadFault::DeviceFault) => Err(Status::Device),
+            Err(LoadFault::Damaged(block)) => Err(Status::Damaged(block)),
+            Err(LoadFault::Memory) => Err(Status::Memory),
+            Ok(host) => {
+                out.reply.say(Said::Ready(world.blocks(), host.slots()), 0);
+                out.text.print(&out.reply);
+                match world.put(out.text.bytes()) {
+                    Err(_) => Err(Status::Sink),
+                    Ok(()) => Ok(host),
+                }
+            }
+        },
+    }
+}

@@ -22,7 +22,7 @@ use Rattle.ark_caps.specs.Labels.{value_at}
 use Rattle.ark_caps.specs.declared.capability.Capability.{Capability}
 use Rattle.ark_table.specs.Area.{Area, is_free}
 use Rattle.ark_table.specs.Slots.{Slot, area_of, IsRight}
-use Rattle.ark_table.specs.Table.{Together, area_at, is_of, IsSlotBlock}
+use Rattle.ark_table.specs.Table.{Together, area_at, is_of, slots_in, IsSlotBlock}
 use Rattle.ark_table.specs.Plans.{grant_calls}
 use Rattle.ark_table.specs.Standing.{Table, with_slot, IsTableOf, IsUnderWay, GoesThrough, CanCreate, creates}
 use Rattle.ark_table.proofs.Spelling.{keeps_rules, is_not_free}
@@ -34,6 +34,7 @@ use Rattle.ark_machine.specs.Objects
 use Rattle.ark_machine.specs.Objects.{Raw}
 use Rattle.ark_machine.specs.Machine.{Machine, at, with_new, each_object, holding}
 use Rattle.ark_machine.specs.Areas as areas
+use Rattle.ark_machine.specs.Told.{own_slots}
 use Rattle.ark_machine.specs.Row.{settled, synced, synced_by}
 use Rattle.ark_machine.specs.Plane.{Plane, Change, makes, is_slot_of, slot_of, free_slot, is_granted, max_slots, max_runs}
 use Rattle.ark_machine.specs.Granting.{new_slot}
@@ -60,13 +61,15 @@ use Rattle.ark_held.proofs.Doing.{same_tables}
 use Rattle.ark_held.specs.declared.app.App.{App}
 use Rattle.ark_held.specs.declared.areas.Area.{Area as Kept}
 use Rattle.ark_host.specs.declared.host.Host.{Host}
-use Rattle.ark_host.specs.Tabled.{table_of, TableStands, StandsBeside, AreRaw, slot_count}
+use Rattle.ark_host.specs.Tabled.{table_of, TableStands, StandsBeside, slot_count}
+use Rattle.ark_host.specs.Stored.{stored_slots}
 use Rattle.ark_host.specs.Stands.{Stands, RowDone, IsHeld, IsAdmitted, AreNamed, around, app_of, area_count, vsa_row}
 use Rattle.ark_host.proofs.Machines.{bytes_eq-same, by_test}
 use Rattle.ark_held.proofs.Members.{in_contains}
 use Rattle.ark_host.proofs.Lists.{first_found}
 use Rattle.ark_host.proofs.Sharing.{has}
 use Rattle.ark_host.proofs.Freeing.{free_after}
+use Rattle.ark_host.proofs.Storing.{own_set}
 use Rattle.ark_host.proofs.Tabling.{free_at, slot_there, table_more, table_size, owned_counted, count_more}
 use Rattle.ark_host.proofs.Standing.{slot_names, slot_based, slot_data}
 use Rattle.ark_host.proofs.Setting.{with_set, set_apps, set_now, set_here}
@@ -130,6 +133,9 @@ module _ (host : Host) (size : ℕ) (past : History) (s : System) (a l : List �
   count : length slot.blocks ≡ n
   count = ap (λ (f : List ℕ). length (take n f)) (st.plane.free ok.settled) ∙ length-take n host.free ∙ (let space = ok.space in grind (arith, nat_tests))
 
+  pub has_some : 1 ≤ length slot.blocks
+  has_some = omega (arith, some, count)
+
   fits : SlotFits size slot
   fits = subst (λ (k : ℕ). SlotFits k slot) st.plane.size (new_fits s.plane a l kind.Raw n few)
 
@@ -161,7 +167,7 @@ module _ (host : Host) (size : ℕ) (past : History) (s : System) (a l : List �
   right = record {
     app = app_name;
     label = label_name;
-    some = omega (arith, some, count);
+    some = has_some;
     data_part = λ k new. let d = fits.data_part k new in (d.0, omega (arith, d.1, st.based));
     distinct = fits.distinct;
     few_runs = subst (λ (bs : List ℕ). length (runs_of bs) ≤ 16) (sym (slot_blocks ∙ taken)) compact;
@@ -219,7 +225,7 @@ module _ (host : Host) (size : ℕ) (past : History) (s : System) (a l : List �
         few_test lt = lt_true (length s.plane.slots) max_slots lt
 
     -- no block of a slot that is held was written
-    beside : (t : Slot) → Contains s.plane.slots t → AreBeside t.blocks es
+    pub beside : (t : Slot) → Contains s.plane.slots t → AreBeside t.blocks es
     beside t held = grant_beside t.blocks slot.index (area_of slot) slot.blocks well es
         (λ low. let d = (slot_data host size past s st t slot.index held low).0 in let high = fits.index_high in absurd (omega (arith, d, high)))
         (λ k new old. apart_held t held k new old) calls
@@ -289,11 +295,10 @@ module _ (host : Host) (size : ℕ) (past : History) (s : System) (a l : List �
             filters = st.plane.filters;
             apps = st.plane.apps ∙ ap (λ (xs : List App). map (λ x. x.name) xs) (sym items);
             table = kept ∙ st.plane.table;
-            raw = st.plane.raw;
             failed = sym failed;
             free = λ no. absurd (false≢true (sym no ∙ failed));
             settled = λ no. absurd (false≢true (sym no ∙ failed));
-            beside = (agree, refl);
+            beside = (agree, has_some);
             apart = st.plane.apart;
             named = st.plane.named;
             counted = λ b. subst (λ (o : Option App). slot_count b s.plane.slots ≤ area_count o) (sym (same_app b)) (st.plane.counted b);
@@ -303,7 +308,7 @@ module _ (host : Host) (size : ℕ) (past : History) (s : System) (a l : List �
           now = st.now ∙ sym clock;
           machines = set_apps s lost a left left_made host.grants now.grants past (after past es) host.apps.items now.apps.items app (omega (arith, grants)) left_held
               (λ b q. same_app b ∙ ap (λ (c : List ℕ). app_of host.apps.items c) ((bytes_eq-Decides b a).0 q) ∙ (first_found (λ x. bytes_eq a x.name) host.apps.items place app ok.place).1 ∙ ap (λ x. Some x) there)
-              (λ b q. same_app b) (λ b k q. refl) (λ b k t q is. same_others b k t is) st.machines;
+              (λ b q. same_app b) (λ b k q. refl) (λ b k t q is. same_others b k t is) st.plane.apart st.plane.named (λ b q. refl) st.machines;
           same_now = set_now s lost a left left_made (synced_now (ended_sync (ends_of es)) (machine_of s a) ∙ st.same_now a) st.same_now;
         };
       })
@@ -406,11 +411,14 @@ module _ (host : Host) (size : ℕ) (past : History) (s : System) (a l : List �
             (λ new. subst (λ (v : Slot). slot_of plane v.app v.label ≡ Some v) new
             (find-append (λ u. is_slot_of a l u) s.plane.slots (slot ∷ []) ∙ ap (λ o. option_or o (find (λ u. is_slot_of a l u) (slot ∷ []))) no_slot ∙ ap (λ b. cond b (Some slot) None) (ap (λ b. b && bytes_eq l l) (bytes_eq-same a) ∙ bytes_eq-same l))) (Contains-push_cases s.plane.slots slot t among)
 
-        all_raw : AreRaw plane.slots
-        all_raw t among = ⊎_elim (λ old. st.plane.raw t old) (λ new. ap (λ (v : Slot). v.kind) (sym new)) (Contains-push_cases s.plane.slots slot t among)
-
         more_slots : table_of plane.slots ≡ with_slot (table_of s.plane.slots) slot.index (Some (area_of slot))
         more_slots = table_more size s.plane.slots slot (subst (λ (k : ℕ). SlotsFit k s.plane.slots) st.plane.size st.plane.apart.fit) fits (free_index s.plane max_slots refl few)
+
+        -- the new slot is none of another application's
+        same_stored : (b : List ℕ) → bytes_eq b a ≡ false → stored_slots b plane.slots ≡ stored_slots b s.plane.slots
+        same_stored b apart =
+            ap (λ (t : Table). own_slots b (slots_in 1 t)) more_slots
+            ∙ own_set b (table_of s.plane.slots) 1 (slot.index - 1) (Some (area_of slot)) (ap (λ (o : Option Area). is_of b o) free_entry) apart
 
         its_table : now.table ≡ table_of plane.slots
         its_table =
@@ -453,7 +461,6 @@ module _ (host : Host) (size : ℕ) (past : History) (s : System) (a l : List �
               filters = st.plane.filters;
               apps = st.plane.apps ∙ sym (ap (λ (xs : List App). map (λ x. x.name) xs) items ∙ names_set host.apps.items a place app app1 ok.place there name);
               table = its_table;
-              raw = all_raw;
               failed = st.plane.failed ∙ sym failed;
               free = λ no. free_after s.plane slot n refl ∙ ap (λ (f : List ℕ). drop n f) (st.plane.free ok.settled) ∙ sym free;
               settled = λ no. st.plane.settled (sym failed ∙ no);
@@ -468,7 +475,7 @@ module _ (host : Host) (size : ℕ) (past : History) (s : System) (a l : List �
             machines = set_apps s plane a one one_made host.grants now.grants past (after past es) host.apps.items now.apps.items app1 (omega (arith, grants)) own
                 (λ b q. now_app b ∙ ap (λ t. cond t (Some app1) (app_of host.apps.items b)) q)
                 (λ b q. now_app b ∙ ap (λ t. cond t (Some app1) (app_of host.apps.items b)) q)
-                (λ b k q. slot_other b k s.plane.slots slot q) (λ b k t q is. same_others b k t is) st.machines;
+                (λ b k q. slot_other b k s.plane.slots slot q) (λ b k t q is. same_others b k t is) st.plane.apart st.plane.named same_stored st.machines;
             same_now = set_now s plane a one one_made one_now st.same_now;
           };
         })

@@ -1,7 +1,8 @@
 -- What a stop leaves at each front of a line's events recovers, by what the host stands for before the line.
-use Rattle.std.proofs.Common.{◌≡◌, ◌⊎◌, inl, inr, ⊎_elim, ℕ, ◌<◌, Bool, true, false, cond, ◌||◌, List, [], ◌∷◌, ◌++◌, length, get_or, refl, sym, ◌∙◌, ap, subst, arith, Contains}
+use Rattle.std.proofs.Common.{◌≡◌, ◌⊎◌, inl, inr, ⊎_elim, ℕ, ◌<◌, ◌≤◌, ◌==◌, Bool, true, false, cond, ◌||◌, List, [], ◌∷◌, ◌++◌, length, get_or, refl, sym, ◌∙◌, ap, subst, arith, Contains}
 use Rattle.std.specs.Prelude.{Option, Some, None, unwrap_or, Any}
 use Rattle.std.proofs.lemmas.Bool.{false≢true}
+use Rattle.std.proofs.lemmas.Bool.Decides.{nat_tests}
 use Rattle.std.proofs.lemmas.List.Elements.{Contains-append_left, Contains-append_right, Contains-get_or}
 use Rattle.ark_base.specs.declared.kind.Kind.{Kind}
 use Rattle.ark_base.specs.declared.kind.Kind.TheVariants as kind
@@ -13,27 +14,34 @@ use Rattle.ark_table.specs.Table.{HasTable, slots_in}
 use Rattle.ark_table.specs.Standing.{IsWritten, Spare, AreZero, creates, IsEither, IsUnderWay, GoesThrough}
 use Rattle.ark_table.proofs.Standing.{stands, either}
 use Rattle.ark_table.proofs.Tables.{table_is_read}
+use Rattle.ark_entry.specs.Found.{found, found_of}
+use Rattle.ark_caladan.specs.Chain.{lists}
 use Rattle.ark_script.specs.Lines.{Meaning}
+use Rattle.ark_machine.specs.Objects
 use Rattle.ark_machine.specs.Objects.{Object}
 use Rattle.ark_machine.specs.Machine.{object_at}
 use Rattle.ark_machine.specs.Plane.{Change, makes, grows, drops, is_granted}
-use Rattle.ark_machine.specs.Grants.{has_block, SlotsAgree}
+use Rattle.ark_machine.specs.Grants.{has_block, has_index, SlotsAgree}
+use Rattle.ark_machine.specs.Start.{contents_at}
 use Rattle.ark_machine.specs.System.{System, machine_of}
-use Rattle.ark_machine.specs.Recovers.{Recovers, begun, IsFound, IsMade, IsKnown, is_new_block, object_of, object_maybe, dropped_object, written_to, BlocksStand, ContentStands}
+use Rattle.ark_machine.specs.Recovers.{Recovers, begun, IsFound, IsMade, IsKnown, is_new_block, is_new, object_of, object_maybe, object_lists, dropped_object, written_to, BlocksStand, LogStands, ContentStands}
 use Rattle.ark_machine.specs.Stopped.{begun_in}
 use Rattle.ark_machine.specs.Fronts.{AtFront, AtEachFront}
 use Rattle.ark_machine.proofs.Fronts.{front_adds, written_devices}
 use Rattle.ark_media.specs.Standing.{after}
+use Rattle.ark_held.proofs.Fronts.{shows}
 use Rattle.ark_held.proofs.Members.{contains_in, in_contains}
 use Rattle.ark_host.specs.declared.host.Host.{Host}
 use Rattle.ark_host.specs.Tabled.{table_of, TableStands, StandsBeside, unsettled_blocks}
 use Rattle.ark_host.specs.Stands.{Stands, app_of}
 use Rattle.ark_host.proofs.Machines.{by_test}
-use Rattle.ark_host.proofs.Tabling.{slot_in_table, slot_of_table}
+use Rattle.ark_host.proofs.Tabling.{has_in, slot_in_table, slot_of_table}
 use Rattle.ark_host.proofs.Staying.{table_stays, spare_front}
+use Rattle.ark_host.proofs.Freeing.{eq_same}
 use Rattle.ark_host.proofs.Sharing.{has}
-use Rattle.ark_host.proofs.Standing.{slot_based}
-use Rattle.ark_host.proofs.Fronts.{its_own, not_new, by_app, place_of}
+use Rattle.ark_host.proofs.Standing.{slot_fits, slot_based}
+use Rattle.ark_host.proofs.Fronts.{IsStored, IsChained, StandsAs, its_own, not_new, by_app, place_of}
+use Rattle.ark_host.proofs.Contents.{LogsOpen, LogsOpenInside, none_made, logs_open, zeros_open}
 
 -- no slot is held, and the table has none
 pub none_recovers : (s : System) (c : Option Change) (rest : List Event) (image : List (List ℕ)) → s.plane.slots ≡ [] → HasTable (table_of []) image → Recovers s c rest image
@@ -60,6 +68,13 @@ not_dropped size slots (Some (makes v)) t o beside = refl
 not_dropped size slots (Some (grows v more)) t o beside = absurd beside
 not_dropped size slots (Some (drops v x)) t o beside = absurd beside
 
+not_made : (size : ℕ) (slots : List Slot) (u : Option Change) (t : Slot) → StandsBeside size slots u → Contains slots t → is_new t u ≡ false
+not_made size slots None t beside slot = refl
+not_made size slots (Some (makes v)) t beside slot = by_test (v.index == t.index) (λ b. (v.index == t.index) ≡ b → b ≡ false)
+    (λ yes q. let same : v.index ≡ t.index = grind (arith, nat_tests, q) in absurd (false≢true (sym beside.0.apart.0.0 ∙ ap (λ i. has_index slots i) same ∙ has_in slots t (contains_in slots t slot)))) (λ no q. refl) refl
+not_made size slots (Some (grows v more)) t beside slot = refl
+not_made size slots (Some (drops v o)) t beside slot = refl
+
 unsettled_new : (size : ℕ) (slots : List Slot) (u : Option Change) (n : ℕ) → StandsBeside size slots u → Contains (unsettled_blocks u) n → is_new_block n u ≡ true
 unsettled_new size slots None n beside among = absurd (contains_in [] n among)
 unsettled_new size slots (Some (makes v)) n beside among = has v.blocks n among
@@ -71,20 +86,33 @@ pub held_settled : (host : Host) (size : ℕ) (h : History) (s : System) → Sta
 held_settled host size h s st t n slot among new =
     false≢true (sym (not_unsettled size s.plane.slots s.plane.unsettled n st.plane.beside (its_own s t n slot among)) ∙ unsettled_new size s.plane.slots s.plane.unsettled n st.plane.beside new)
 
-module _ (host : Host) (size : ℕ) (h : History) (s : System) (st : Stands host size h s) (m : Option Meaning) (front : List Event) (image : List (List ℕ)) (left : MayLeave Whole h.base (onto front h.journal) image) where
+or_right : (b c : Bool) → c ≡ true → (b || c) ≡ true
+or_right true c is = refl
+or_right false c is = is
+
+or_left : (b c : Bool) → b ≡ true → (b || c) ≡ true
+or_left b c is = ap (λ x. x || c) is
+
+made_new : (u : Slot) (c : Option Change) → IsMade u c → is_new u c ≡ true
+made_new u None made = absurd made
+made_new u (Some (makes v)) made = subst (λ (x : Slot). (v.index == x.index) ≡ true) made (eq_same v.index)
+made_new u (Some (grows v more)) made = absurd made
+made_new u (Some (drops v o)) made = absurd made
+
+module _ (host : Host) (size : ℕ) (h : History) (s : System) (st : Stands host size h s) (m : Option Meaning) (front : List Event) (image : List (List ℕ)) (left : MayLeave Whole h.base (onto front h.journal) image)
+    (logs : LogsOpen (after h front) s) where
   abbrev rest : List Event
   rest = device_events front
 
   abbrev change : Option Change
   change = begun_in s m rest
 
-  -- each block of an area that is held has what it may
-  at_block : (t : Slot) → Contains s.plane.slots t → BlocksStand s change rest image t
-  at_block t slot k n place =
+  -- each block of a raw area that is held has what it may
+  at_block : (t : Slot) → Contains s.plane.slots t → IsStored h s t → BlocksStand s change rest image t
+  at_block t slot stored k n place =
       let p = place_of t.blocks k n place in
       let among : Contains t.blocks n = subst (λ (i : ℕ). Contains t.blocks i) p.1 (Contains-get_or t.blocks k 0 p.0) in
       let lt : n < length h.base = slot_based host size h s st t n slot among in
-      let stored = by_app h s t (st.plane.raw t slot) (st.plane.named t slot) host.grants (app_of host.apps.items t.app) (st.machines t.app) in
       let maybe : object_maybe k (object_of s t) ≡ get_or stored.raw.maybe k [] =
       ap (λ (o : Option Object). object_maybe k o) (not_dropped size s.plane.slots s.plane.unsettled t (object_at (machine_of s t.app) t.label) st.plane.beside ∙ stored.there) in
       let none : (is_new_block n change || is_new_block n s.plane.unsettled) ≡ false =
@@ -99,8 +127,25 @@ module _ (host : Host) (size : ℕ) (h : History) (s : System) (st : Stands host
       (front_adds h.base front h.journal n lt (block image n) (left.each n lt)) in
       subst (λ (b : Bool). Contains (cond b (zero_block ∷ []) (object_maybe k (object_of s t) ++ written_to n rest)) (block image n)) (sym none) choice
 
-  content : (t : Slot) → t.kind ≡ kind.Raw → BlocksStand s change rest image t → ContentStands s change rest image t t.kind
-  content t raw blocks = subst (λ (k : Kind). ContentStands s change rest image t k) (sym raw) blocks
+  -- a log or queue opens to one of its lists
+  log_there : (t : Slot) → Contains s.plane.slots t → IsChained s t → LogStands s change image t
+  log_there t slot c =
+      let old : (is_new t change || is_new t s.plane.unsettled) ≡ false =
+      ap (λ b. b || is_new t s.plane.unsettled) (none_made s t slot (slot_fits host size h s st t slot).index_high m rest) ∙ not_made size s.plane.slots s.plane.unsettled t st.plane.beside slot in
+      let object : object_of s t ≡ Some (Objects.log c.log) = not_dropped size s.plane.slots s.plane.unsettled t (object_at (machine_of s t.app) t.label) st.plane.beside ∙ c.there in
+      let shown : Contains (lists c.log) (found_of t.kind (contents_at image t.blocks)) =
+      subst (λ (k : Kind). Contains (lists c.log) (found_of k (contents_at image t.blocks))) (sym c.same_kind)
+      (logs t c.log slot c.there (contents_at image t.blocks) (shows (after h front) t.blocks image (λ n has. slot_based host size h s st t n slot has) left)) in
+      subst (λ (b : Bool). Contains (cond b (found (record { first = 1; payloads = [] }) ∷ []) (object_lists (object_of s t))) (found_of t.kind (contents_at image t.blocks))) (sym old)
+      (subst (λ (o : Option Object). Contains (object_lists o) (found_of t.kind (contents_at image t.blocks))) (sym object) shown)
+
+  content : (t : Slot) → Contains s.plane.slots t → ContentStands s change rest image t t.kind
+  content t slot = by t.kind (by_app h s t (st.plane.named t slot) st.plane.apart st.plane.named slot host.grants (app_of host.apps.items t.app) (st.machines t.app))
+    where
+      by : (k : Kind) → StandsAs h s t k → ContentStands s change rest image t k
+      by kind.Raw stored = at_block t slot stored
+      by kind.Log chain = log_there t slot chain
+      by kind.Queue chain = log_there t slot chain
 
   any_held : (t : Slot) → Contains s.plane.slots t → Any (λ x. IsFound x change t ⊎ IsFound x s.plane.unsettled t) s.plane.slots
   any_held t held = (held.0, t, held.1, held.2, inl (inl refl))
@@ -112,11 +157,11 @@ module _ (host : Host) (size : ℕ) (h : History) (s : System) (st : Stands host
     readable = table_is_read (table_of s.plane.slots) image table;
     held = λ t held. inl (t, slot_in_table s.plane.size s.plane.slots st.plane.apart t held, inl (inl refl));
     others = λ t seen. inl (any_held t (slot_of_table s.plane.size s.plane.slots st.plane.apart t seen));
-    contents = λ t seen. let held = slot_of_table s.plane.size s.plane.slots st.plane.apart t seen in content t (st.plane.raw t held) (at_block t held);
+    contents = λ t seen. content t (slot_of_table s.plane.size s.plane.slots st.plane.apart t seen);
   }
 
   -- or it has a slot more, which is being made, or whose making failed
-  module _ (u : Slot) (agree : SlotsAgree size (u ∷ s.plane.slots)) (raw : u.kind ≡ kind.Raw) (made : IsMade u change ⊎ IsMade u s.plane.unsettled)
+  module _ (u : Slot) (agree : SlotsAgree size (u ∷ s.plane.slots)) (some : 1 ≤ length u.blocks) (made : IsMade u change ⊎ IsMade u s.plane.unsettled)
       (new : (n : ℕ) → has_block u.blocks n ≡ true → (is_new_block n change || is_new_block n s.plane.unsettled) ≡ true) where
     one_of : (t : Slot) → Contains (u ∷ s.plane.slots) t → (u ≡ t) ⊎ Contains s.plane.slots t
     one_of t c = ⊎_elim (λ e. inl e) (λ i. inr (in_contains s.plane.slots t i)) (contains_in (u ∷ s.plane.slots) t c)
@@ -132,51 +177,57 @@ module _ (host : Host) (size : ℕ) (h : History) (s : System) (st : Stands host
         subst (λ (b : Bool). Contains (cond b (zero_block ∷ []) (object_maybe k (object_of s u) ++ written_to n rest)) (block image n)) (sym (new n (has u.blocks n among)))
         (0, omega arith, sym (zero n among))
 
-    blocks_of_one : (t : Slot) → AreZero u.blocks image → (u ≡ t) ⊎ Contains s.plane.slots t → ContentStands s change rest image t t.kind
-    blocks_of_one t zero (inl e) = subst (λ (x : Slot). ContentStands s change rest image x x.kind) e (content u raw (zero_blocks zero))
-    blocks_of_one t zero (inr held) = content t (st.plane.raw t held) (at_block t held)
+    its_new : (is_new u change || is_new u s.plane.unsettled) ≡ true
+    its_new = ⊎_elim (λ c. or_left (is_new u change) (is_new u s.plane.unsettled) (made_new u change c)) (λ c. or_right (is_new u change) (is_new u s.plane.unsettled) (made_new u s.plane.unsettled c)) made
+
+    zero_log : AreZero u.blocks image → LogStands s change image u
+    zero_log zero = subst (λ (b : Bool). Contains (cond b (found (record { first = 1; payloads = [] }) ∷ []) (object_lists (object_of s u))) (found_of u.kind (contents_at image u.blocks))) (sym its_new)
+        (0, omega arith, sym (zeros_open u.kind u.blocks image some zero))
+
+    zeros : AreZero u.blocks image → (k : Kind) → ContentStands s change rest image u k
+    zeros zero kind.Raw = zero_blocks zero
+    zeros zero kind.Log = zero_log zero
+    zeros zero kind.Queue = zero_log zero
+
+    contents_of : (t : Slot) → AreZero u.blocks image → (u ≡ t) ⊎ Contains s.plane.slots t → ContentStands s change rest image t t.kind
+    contents_of t zero (inl e) = subst (λ (x : Slot). ContentStands s change rest image x x.kind) e (zeros zero u.kind)
+    contents_of t zero (inr held) = content t held
 
     pub recovers_made : HasTable (table_of (u ∷ s.plane.slots)) image → AreZero (creates u.index (area_of u)).added image → AtFront s m front image
     recovers_made table zero =
-        let zeros : AreZero u.blocks image = subst (λ (bs : List ℕ). AreZero bs image) (blocks_of-runs_of u.blocks) zero in
+        let zero : AreZero u.blocks image = subst (λ (bs : List ℕ). AreZero bs image) (blocks_of-runs_of u.blocks) zero in
         record {
           slots = slots_in 1 (table_of (u ∷ s.plane.slots));
           readable = table_is_read (table_of (u ∷ s.plane.slots)) image table;
           held = λ t held. inl (t, slot_in_table size (u ∷ s.plane.slots) agree t (in_contains (u ∷ s.plane.slots) t (inr (contains_in s.plane.slots t held))), inl (inl refl));
           others = λ t seen. known t (one_of t (slot_of_table size (u ∷ s.plane.slots) agree t seen));
-          contents = λ t seen. blocks_of_one t zeros (one_of t (slot_of_table size (u ∷ s.plane.slots) agree t seen));
+          contents = λ t seen. contents_of t zero (one_of t (slot_of_table size (u ∷ s.plane.slots) agree t seen));
         }
 
 -- Events beside the table, and beside what a change may yet add.
 
 module _ (host : Host) (size : ℕ) (h : History) (s : System) (st : Stands host size h s) (m : Option Meaning) where
-  or_right : (b c : Bool) → c ≡ true → (b || c) ≡ true
-  or_right true c is = refl
-  or_right false c is = is
-
-  or_left : (b c : Bool) → b ≡ true → (b || c) ≡ true
-  or_left b c is = ap (λ x. x || c) is
-
-  by_unsettled : (front : List Event) (image : List (List ℕ)) → MayLeave Whole h.base (onto front h.journal) image → (u : Option Change) → s.plane.unsettled ≡ u → StandsBeside size s.plane.slots u → TableStands (after h front) s.plane.slots u → AtFront s m front image
-  by_unsettled front image left None is beside table = recovers_kept host size h s st m front image left (stands (after h front) (table_of s.plane.slots) image table left)
-  by_unsettled front image left (Some (makes v)) is beside (inl table) = recovers_kept host size h s st m front image left (stands (after h front) (table_of s.plane.slots) image table left)
-  by_unsettled front image left (Some (makes v)) is beside (inr tried) = by (either (after h front) (table_of s.plane.slots) (creates v.index (area_of v)) image tried left)
+  by_unsettled : (front : List Event) (image : List (List ℕ)) → MayLeave Whole h.base (onto front h.journal) image → (u : Option Change) → s.plane.unsettled ≡ u → StandsBeside size s.plane.slots u → TableStands (after h front) s.plane.slots u → LogsOpen (after h front) s → AtFront s m front image
+  by_unsettled front image left None is beside table logs = recovers_kept host size h s st m front image left logs (stands (after h front) (table_of s.plane.slots) image table left)
+  by_unsettled front image left (Some (makes v)) is beside (inl table) logs = recovers_kept host size h s st m front image left logs (stands (after h front) (table_of s.plane.slots) image table left)
+  by_unsettled front image left (Some (makes v)) is beside (inr tried) logs = by (either (after h front) (table_of s.plane.slots) (creates v.index (area_of v)) image tried left)
     where
       by : IsEither (table_of s.plane.slots) (creates v.index (area_of v)) image → AtFront s m front image
-      by (inl kept) = recovers_kept host size h s st m front image left kept
-      by (inr more) = recovers_made host size h s st m front image left v beside.0 beside.1 (inr (subst (λ (u : Option Change). IsMade v u) (sym is) refl))
+      by (inl kept) = recovers_kept host size h s st m front image left logs kept
+      by (inr more) = recovers_made host size h s st m front image left logs v beside.0 beside.1 (inr (subst (λ (u : Option Change). IsMade v u) (sym is) refl))
           (λ n has. or_right (is_new_block n (begun_in s m (device_events front))) (is_new_block n s.plane.unsettled) (ap (λ (u : Option Change). is_new_block n u) is ∙ has)) more.0 more.1
-  by_unsettled front image left (Some (grows v more)) is beside table = absurd table
-  by_unsettled front image left (Some (drops v o)) is beside table = absurd table
+  by_unsettled front image left (Some (grows v more)) is beside table logs = absurd table
+  by_unsettled front image left (Some (drops v o)) is beside table logs = absurd table
 
-  pub spare_fronts : (es : List Event) → Spare (unsettled_blocks s.plane.unsettled) es → AtEachFront h.base h.journal s m es
-  spare_fronts es spare front back image split left =
+  pub spare_fronts : (es : List Event) → Spare (unsettled_blocks s.plane.unsettled) es → LogsOpenInside h s es → AtEachFront h.base h.journal s m es
+  spare_fronts es spare logs front back image split left =
       by_unsettled front image left s.plane.unsettled refl st.plane.beside
       (table_stays h s.plane.slots s.plane.unsettled front st.table (spare_front (unsettled_blocks s.plane.unsettled) front back (subst (λ (xs : List Event). Spare (unsettled_blocks s.plane.unsettled) xs) split spare)))
+      (logs front back split)
 
   -- no event
   pub none_fronts : AtEachFront h.base h.journal s m []
-  none_fronts = spare_fronts [] (λ n written. absurd written)
+  none_fronts = spare_fronts [] (λ n written. absurd written) (logs_open host size h s st [] (λ t slot. tt))
 
   -- A slot that is being made: once it was written, it may stand with its zeros.
 
@@ -187,17 +238,20 @@ module _ (host : Host) (size : ℕ) (h : History) (s : System) (st : Stands host
   begun_written n (Sync ok ∷ es) written = refl
   begun_written n (Out bytes ∷ es) written = begun_written n es written
 
-  pub made_fronts : (u : Slot) (ok : Bool) (es : List Event) → SlotsAgree size (u ∷ s.plane.slots) → u.kind ≡ kind.Raw → begun s m ≡ Some (makes u) → GoesThrough h (table_of s.plane.slots) (creates u.index (area_of u)) ok es
-      → AtEachFront h.base h.journal s m es
-  made_fronts u ok es agree raw begins goes front back image split left = by (goes.each front back split)
+  pub made_fronts : (u : Slot) (ok : Bool) (es : List Event) → SlotsAgree size (u ∷ s.plane.slots) → 1 ≤ length u.blocks → begun s m ≡ Some (makes u) → GoesThrough h (table_of s.plane.slots) (creates u.index (area_of u)) ok es
+      → LogsOpenInside h s es → AtEachFront h.base h.journal s m es
+  made_fronts u ok es agree some begins goes opens front back image split left = by (goes.each front back split)
     where
+      logs : LogsOpen (after h front) s
+      logs = opens front back split
+
       with_either : IsWritten u.index front → IsEither (table_of s.plane.slots) (creates u.index (area_of u)) image → AtFront s m front image
-      with_either written (inl kept) = recovers_kept host size h s st m front image left kept
+      with_either written (inl kept) = recovers_kept host size h s st m front image left logs kept
       with_either written (inr more) =
           let is : begun_in s m (device_events front) ≡ Some (makes u) = begun_written u.index front written ∙ begins in
-          recovers_made host size h s st m front image left u agree raw (inl (subst (λ (c : Option Change). IsMade u c) (sym is) refl))
+          recovers_made host size h s st m front image left logs u agree some (inl (subst (λ (c : Option Change). IsMade u c) (sym is) refl))
           (λ n has. or_left (is_new_block n (begun_in s m (device_events front))) (is_new_block n s.plane.unsettled) (ap (λ (c : Option Change). is_new_block n c) is ∙ has)) more.0 more.1
 
       by : IsUnderWay h (table_of s.plane.slots) (creates u.index (area_of u)) front → AtFront s m front image
-      by (inl table) = recovers_kept host size h s st m front image left (stands (after h front) (table_of s.plane.slots) image table left)
+      by (inl table) = recovers_kept host size h s st m front image left logs (stands (after h front) (table_of s.plane.slots) image table left)
       by (inr under) = with_either under.0 (either (after h front) (table_of s.plane.slots) (creates u.index (area_of u)) image under.1 left)

@@ -34,9 +34,10 @@ use Rattle.ark_host.proofs.Apps.{not_made}
 use Rattle.ark_host.proofs.Lifting.{quiet_steps}
 use Rattle.ark_host.proofs.Words.{vsa_answered}
 use Rattle.ark_host.proofs.Placing.{app_there}
+use Rattle.ark_host.proofs.Contents.{logs_open}
 use Rattle.ark_host.proofs.Recovering.{made_fronts}
 use Rattle.ark_host.proofs.Granting.{Refuses, Says, refused_by, vsa_unmade, vsa_taken, vsa_full, vsa_slots, vsa_failed, vsa_no_space, vsa_scattered}
-use Rattle.ark_host.proofs.Granted.{raw_area, slot, agree, begins, goes, vsa_lost, vsa_granted}
+use Rattle.ark_host.proofs.Granted.{raw_area, slot, has_some, agree, begins, goes, beside, vsa_lost, vsa_granted}
 
 -- Refusals.
 
@@ -110,9 +111,11 @@ module _ (host now : Host) (told : Told) (a l : List ℕ) (n i place : ℕ) (app
 
   fronts : (well : Bool) → plan well → (s : System) (h : History) → Stood host told h es s → AtEachFront h.base h.journal s (Some (Ok (w.vsa a l n kind.Raw))) es
   fronts well made s h stood = made_fronts host told.blocks h s stood.stands (Some (Ok (w.vsa a l n kind.Raw))) (slot host told.blocks h s a l n i place app stood.stands small some app_name label_name ok there compact spans taken) well es
-      (agree host told.blocks h s a l n i place app stood.stands small some app_name label_name ok there compact spans taken) refl
+      (agree host told.blocks h s a l n i place app stood.stands small some app_name label_name ok there compact spans taken)
+      (has_some host told.blocks h s a l n i place app stood.stands small some app_name label_name ok there compact spans taken)
       (begins host told.blocks h s a l n i place app stood.stands small some app_name label_name ok there compact spans taken)
       (goes host told.blocks h s a l n i place app stood.stands small some app_name label_name ok there compact spans taken well es made)
+      (logs_open host told.blocks h s stood.stands es (beside host told.blocks h s a l n i place app stood.stands small some app_name label_name ok there compact spans taken well es made))
 
   pub steps_lost : plan false → now.apps.items ≡ host.apps.items → now.table ≡ host.table → now.failed ≡ true → now.grants ≡ host.grants → now.clock ≡ host.clock → Steps host now told (Ok (w.vsa a l n kind.Raw)) es (said.Refused r.DeviceFault) []
   steps_lost made items kept failed grants clock = record {

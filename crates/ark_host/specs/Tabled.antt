@@ -1,6 +1,5 @@
 -- The table of grants that a plane's slots stand for, on the device and in whatever image a stop may leave of it.
-use Rattle.std.specs.Prelude.{◌≡◌, ℕ, ◌+◌, List, [], ◌∷◌, replicate, Option, Some, None, Contains, bytes_eq}
-use Rattle.ark_base.specs.declared.kind.Kind.TheVariants as kind
+use Rattle.std.specs.Prelude.{ℕ, ◌+◌, ◌≤◌, List, [], ◌∷◌, length, replicate, Option, Some, None, bytes_eq}
 use Rattle.ark_media.specs.Journal.{History}
 use Rattle.ark_table.specs.Slots.{Slot, area_of}
 use Rattle.ark_table.specs.Standing.{Table, with_slot, IsTableOf, IsUnsettled, creates}
@@ -20,10 +19,10 @@ TableStands h slots (Some (makes t)) = IsUnsettled h (table_of slots) (creates t
 TableStands h slots (Some (grows t more)) = ⊥
 TableStands h slots (Some (drops t o)) = ⊥
 
--- A slot whose making failed goes with those that are held: no block of it is in another.
+-- A slot whose making failed goes with those that are held: it has a block, and none of its blocks is in another.
 abbrev pub StandsBeside : ℕ → List Slot → Option Change → Type 0
 StandsBeside size slots None = Unit {0}
-StandsBeside size slots (Some (makes t)) = SlotsAgree size (t ∷ slots) × (t.kind ≡ kind.Raw)
+StandsBeside size slots (Some (makes t)) = SlotsAgree size (t ∷ slots) × (1 ≤ length t.blocks)
 StandsBeside size slots (Some (grows t more)) = ⊥
 StandsBeside size slots (Some (drops t o)) = ⊥
 
@@ -38,7 +37,3 @@ unsettled_blocks (Some (drops t o)) = []
 abbrev pub slot_count : List ℕ → List Slot → ℕ
 slot_count a [] = 0
 slot_count a (t ∷ slots) = bit (bytes_eq a t.app) + slot_count a slots
-
--- no word makes an area of another kind so far
-abbrev pub AreRaw : List Slot → Type 0
-AreRaw slots = (t : Slot) → Contains slots t → t.kind ≡ kind.Raw
