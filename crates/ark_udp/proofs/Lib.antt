@@ -1,3 +1,4 @@
+pub mod Filling
 pub mod Keeping
 pub mod OneSocket
 pub mod Posting

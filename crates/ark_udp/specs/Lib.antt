@@ -2,3 +2,4 @@ pub mod Socket
 pub mod Kept
 pub mod Received
 pub mod Sent
+pub mod Filled

@@ -2,6 +2,7 @@
 #![tactic(auto)]
 
 mod among;
+mod fill;
 mod laws;
 mod peer;
 mod receive;

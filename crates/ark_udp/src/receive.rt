@@ -37,7 +37,7 @@ fn frame_in<'a>(done: &Completion, region: &'a Region) -> &'a [u8]
 }
 
 // Posts a buffer for a frame to be received.
-fn post_buffer(ring: &mut Ring, tag: u32, buf: Option<Buf>)
+pub(crate) fn post_buffer(ring: &mut Ring, tag: u32, buf: Option<Buf>)
     requires { members ring.old < ring.old.size }
     ensures { ring.new ≡ record ring.old {
       posted = ring.old.posted ++ spec.receiving tag buf ∷ [];
