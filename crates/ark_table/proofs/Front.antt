@@ -3,6 +3,7 @@ use Rattle.std.proofs.Common.{◌≡◌, inl, inr, ℕ, zero, suc, ◌+◌, ◌<
 use Rattle.std.specs.Prelude.{bytes_eq, nat_le, Result}
 use Rattle.std.proofs.lemmas.Bool.{and_parts, leb-true, le-leb}
 use Rattle.std.proofs.lemmas.List.{take_more, get_or-drop, get_or-take, length-take-le, take-append-drop, length-map, map-append}
+use Rattle.std.proofs.lemmas.List.Elements.{All-append, All-cons, All-nil}
 use Rattle.std.proofs.lemmas.Slice.Eq.{bytes_eq-Decides}
 use Rattle.ark_media.specs.Journal.{Event, Read, History, block, current, onto}
 use Rattle.ark_media.specs.Calls.{Reads, Makes, Adds, Told, Tells, Went}
@@ -15,7 +16,7 @@ use Rattle.ark_table.specs.Superblock.{superblock}
 use Rattle.ark_table.specs.Area.{Area, area_in, area_bytes, is_area, is_used}
 use Rattle.ark_table.specs.Slots.{HeldSlot, goes_with, with_area, with_used, with_block, and_then, held_after, held_if, as_slots, slots_of, is_device}
 use Rattle.ark_table.specs.Table.{IsSlotBlock, HasTable, held_in}
-use Rattle.ark_table.specs.Loading.{Follows, IsBad}
+use Rattle.ark_table.specs.Loading.{Follows, IsBad, IsRightIf, AreRight}
 use Rattle.ark_table.proofs.Walking.{EachSays, GoIn, read_walk, stays_bad}
 use Rattle.ark_table.proofs.Tables.{big, few, table_from}
 
@@ -219,3 +220,9 @@ module _ {D : Type 0} (goes : D → List Event → D → Type 0) (told : D → T
 
   pub read_size : (n : ℕ) (ok : Bool) (a b : D) → Went goes (Reads n ∷ []) ok a b → (h : History) → (told b).history ≡ Some h → length (current h.base h.journal) ≡ (told a).blocks
   read_size n ok a b went h is = length-current h.base h.journal ∙ size_is b h is ∙ (tells a b went.events went.goes_on).blocks
+
+-- slots that keep the rules by themselves, with one more
+pub right_more : (size : ℕ) (slots now : List (Option Slot)) (x : Option Slot) → now ≡ slots ++ x ∷ [] → IsRightIf size (stated_if x) → AreRight size (areas slots) → AreRight size (areas now)
+right_more size slots now x is right all =
+    subst (λ (l : List (Option Area)). AreRight size l) (sym (ap areas is ∙ map-append stated_if slots (x ∷ [])))
+    (All-append (IsRightIf size) (areas slots) (stated_if x ∷ []) all (All-cons (IsRightIf size) (stated_if x) [] right (All-nil (IsRightIf size))))

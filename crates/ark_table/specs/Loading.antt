@@ -1,5 +1,5 @@
 -- How a table is read from its device.
-use Rattle.std.specs.Prelude.{◌≡◌, ◌≤◌, ℕ, zero, suc, ◌+◌, List, [], ◌∷◌, ◌++◌, Bool, true, false, not, ◌&&◌, Result, Ok, Err, Option, Some, None, OnOk}
+use Rattle.std.specs.Prelude.{◌≡◌, ◌≤◌, ℕ, zero, suc, ◌+◌, List, [], ◌∷◌, ◌++◌, All, Bool, true, false, not, ◌&&◌, Result, Ok, Err, Option, Some, None, OnOk}
 use Rattle.ark_media.specs.Journal.{Event, History, block, current}
 use Rattle.ark_media.specs.Calls.{Call, Reads, Told, Went}
 use Rattle.ark_table.specs.declared.fault.LoadFault.{LoadFault}
@@ -7,7 +7,7 @@ use Rattle.ark_table.specs.declared.fault.LoadFault.TheVariants.{DeviceFault, Da
 use Rattle.ark_table.specs.declared.slot.Slot.{Slot}
 use Rattle.ark_table.specs.declared.reading.Content.{Content}
 use Rattle.ark_table.specs.declared.reading.Content.TheVariants.{Free, Used, Broken}
-use Rattle.ark_table.specs.Area.{Area, area_in, is_free, is_used}
+use Rattle.ark_table.specs.Area.{Area, area_in, is_area, is_free, is_used}
 use Rattle.ark_table.specs.Slots.{goes_with, share_no_block, is_same, slots_of}
 use Rattle.ark_table.specs.Table.{IsSlotBlock, held_in}
 use Rattle.ark_table.specs.Stated.{stated, stated_if, areas}
@@ -41,6 +41,21 @@ pub record HasRead {D T : Type 0} (goes : D → List Event → D → Type 0) (re
   pub all : OnOk result (count ≡ 129)
   pub stops : (bad : ℕ) → result ≡ Err (Damaged bad) → count ≤ bad + 1
 
+-- a slot is free, or keeps the rules by itself on a device of so many blocks
+abbrev pub IsRightIf : ℕ → Option Area → Type 0
+IsRightIf size None = Unit {0}
+IsRightIf size (Some a) = is_area size a ≡ true
+
+-- so does each slot of a table
+abbrev pub AreRight : ℕ → List (Option Area) → Type 0
+AreRight size table = All (IsRightIf size) table
+
+-- what a block says of its slot is right
+abbrev pub SaysRight : ℕ → Content → Type 0
+SaysRight size Free = Unit {0}
+SaysRight size (Used slot) = is_area size (stated slot) ≡ true
+SaysRight size Broken = Unit {0}
+
 -- the area may stand beside this slot
 abbrev pub goes_beside : Area → Option Area → Bool
 goes_beside a None = true
@@ -64,7 +79,7 @@ IsNext size before block Broken = IsBad size before block
 -- block i was read, and what it says of its slot was put behind these slots
 abbrev pub IsMore : Told → ℕ → ℕ → List (Option Slot) → List (Option Slot) → Type 0
 IsMore told size i old new =
-    (x : Option Slot) × (new ≡ old ++ x ∷ []) × OnTold told (λ image. Follows size (areas old) (block image i) (stated_if x))
+    (x : Option Slot) × (new ≡ old ++ x ∷ []) × IsRightIf size (stated_if x) × OnTold told (λ image. Follows size (areas old) (block image i) (stated_if x))
 
 -- where a block is told to be damaged, it is block i, which is bad behind these slots
 abbrev pub IsDamagedAt : {T : Type 0} → Told → ℕ → ℕ → List (Option Slot) → Result T LoadFault → Type 0

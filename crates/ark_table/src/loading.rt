@@ -4,7 +4,7 @@ ghost use Rattle.ark_media.specs.Calls.{Went, Reads};
 ghost use Rattle.ark_table.specs.Slots.{is_device};
 ghost use Rattle.ark_table.specs.Table.{HasTable};
 ghost use Rattle.ark_table.specs.Stated.{areas};
-ghost use Rattle.ark_table.specs.Loading.{HasRead, OnTold, IsFirstDamaged, IsNext, IsMore, IsDamagedAt, is_read};
+ghost use Rattle.ark_table.specs.Loading.{HasRead, OnTold, IsFirstDamaged, IsNext, IsMore, IsDamagedAt, AreRight, SaysRight, is_read};
 
 use crate::fault::LoadFault;
 use crate::going::goes_into;
@@ -36,6 +36,7 @@ fn read_next<D: Disk>(slots: &[Option<Slot>], disk: &mut D, i: u32) -> Result<Co
     ensures went { Went D.goes (Reads i ∷ []) (is_ok result) disk.old disk.new }
     ensures next { IfOk result (λ content. OnTold (D.told disk.new)
         (λ image. IsNext (D.told disk.old).blocks (areas slots.now) (block image i) content)) }
+    ensures right { IfOk result (λ content. SaysRight (D.told disk.old).blocks content) }
 {
     let mut block = [0; 512];
     let size = disk.blocks();
@@ -80,6 +81,8 @@ pub fn load_slots<D: Disk>(alloc: Global, disk: &mut D) -> Result<Vec<Option<Slo
     ensures went { HasRead D.goes result disk.old disk.new }
     ensures size { IfOk result (λ slots. length slots.items ≡ 128) }
     ensures table { IfOk result (λ slots. OnTold (D.told disk.new) (HasTable (areas slots.items))) }
+    ensures right { IfOk result
+        (λ slots. AreRight (D.told disk.old).blocks (areas slots.items)) }
     ensures damaged { IsFirstDamaged (D.told disk.new) result }
 {
     let size = disk.blocks();

@@ -3,7 +3,7 @@ ghost use Rattle.std.specs.List.{position};
 ghost use Rattle.ark_media.specs.Calls.{Went};
 ghost use Rattle.ark_table.specs.Area.{Area};
 ghost use Rattle.ark_table.specs.Table.{HasTable, slots_in};
-ghost use Rattle.ark_table.specs.Loading.{HasRead, OnTold, IsFirstDamaged};
+ghost use Rattle.ark_table.specs.Loading.{HasRead, OnTold, IsFirstDamaged, AreRight};
 ghost use Rattle.ark_table.specs.Plans.{create_calls, remove_calls};
 ghost use Rattle.ark_table.specs.Standing.{slot_in, with_slot, grown_area, grow_calls};
 ghost use Rattle.ark_table.specs.Stated.{stated};
@@ -70,6 +70,7 @@ impl GrantTable {
     pub fn load<D: Disk>(alloc: Global, disk: &mut D) -> Result<GrantTable, LoadFault>
         ensures went { HasRead D.goes result disk.old disk.new }
         ensures table { IfOk result (λ t. OnTold (D.told disk.new) (HasTable t)) }
+        ensures right { IfOk result (λ t. AreRight (D.told disk.old).blocks t) }
         ensures damaged { IsFirstDamaged (D.told disk.new) result }
     {
         match load_slots(alloc, disk) {

@@ -8,10 +8,10 @@ use Rattle.ark_media.proofs.Planning.{went_then}
 use Rattle.ark_media.proofs.Stopping.{length-current}
 use Rattle.ark_table.specs.declared.fault.LoadFault.{LoadFault}
 use Rattle.ark_table.specs.declared.fault.LoadFault.TheVariants.{Damaged}
-use Rattle.ark_table.specs.Loading.{read_calls, is_read}
+use Rattle.ark_table.specs.Loading.{IsRightIf, read_calls, is_read}
 use Rattle.ark_table.specs.Stated.{areas, stated_if}
 use Rattle.ark_table.proofs.Zeroing.{same_blocks}
-use Rattle.ark_table.proofs.Front.{not_device, too_small, too_large, same_fault, same_bad, slot_more, slot_bad, front_whole, still_front, read_size, longer}
+use Rattle.ark_table.proofs.Front.{not_device, too_small, too_large, same_fault, same_bad, slot_more, slot_bad, front_whole, still_front, read_size, longer, right_more}
 use Rattle.ark_table.proofs.loading.load_slots.Goals as goal
 
 pub returns-then-size-lt130-clause-damaged : goal.returns-then-size-lt130-clause-damaged
@@ -61,10 +61,12 @@ loop-i-preserved g c =
           (went_then g.D.Disk.goes g.met.D.Disk.goes_more (read_calls i) (Reads i ∷ []) true c.args.disk.now c.loop-i.disk c.load_next.new.disk c.loop-i.invariant.went e.went);
       count = omega (arith, longer slots c.load_next.new.slots.items x e.more.1, c.loop-i.invariant.count);
       blocks = same_blocks g.D.Disk.goes g.D.Disk.told g.met.D.Disk.goes_told (Reads i ∷ []) true c.loop-i.disk c.load_next.new.disk e.went ∙ c.loop-i.invariant.blocks;
+      right = right_more (g.D.Disk.told c.args.disk.now).blocks slots c.load_next.new.slots.items x e.more.1
+          (subst (λ n. IsRightIf n (stated_if x)) c.loop-i.invariant.blocks e.more.2) c.loop-i.invariant.right;
       front = λ h told. slot_more (current h.base h.journal) slots c.load_next.new.slots.items x i (g.D.Disk.told c.loop-i.disk).blocks c.loop-i.invariant.count c.loop-i-test.true e.more.1
           (read_size g.D.Disk.goes g.D.Disk.told g.met.D.Disk.goes_told g.met.D.Disk.size_is i true c.loop-i.disk c.load_next.new.disk e.went h told)
           (still_front g.D.Disk.goes g.D.Disk.told g.met.D.Disk.goes_told g.met.D.Disk.size_is i true c.loop-i.disk c.load_next.new.disk (areas slots) e.went c.loop-i.invariant.front h told)
-          (e.more.2 h told);
+          (e.more.3 h told);
     }
 
 pub returns-clause-went : goal.returns-clause-went

@@ -1,4 +1,4 @@
-use Rattle.std.proofs.Common.{◌≡◌, ◌≤◌, ◌∙◌, ◌-◌, ◌++◌, true, false, Some, Option, ℕ, List, set, sym, subst, length, arith}
+use Rattle.std.proofs.Common.{◌≤◌, ◌∙◌, ◌-◌, ◌++◌, true, false, Some, Option, ℕ, List, set, sym, subst, length, arith}
 use Rattle.std.specs.Prelude.{IsSome}
 use Rattle.ark_extents.specs.Blocks.{runs_of, ShareNoBlock}
 use Rattle.ark_extents.specs.declared.spans.Spans.{Spans}
