@@ -140,7 +140,7 @@ module _ (host : Host) (size : ℕ) (h : History) (s : System) (st : Stands host
       (subst (λ (o : Option Object). Contains (object_lists o) (found_of t.kind (contents_at image t.blocks))) (sym object) shown)
 
   content : (t : Slot) → Contains s.plane.slots t → ContentStands s change rest image t t.kind
-  content t slot = by t.kind (by_app h s t (st.plane.named t slot) host.grants (app_of host.apps.items t.app) (st.machines t.app))
+  content t slot = by t.kind (by_app h s t (st.plane.named t slot) st.plane.apart st.plane.named slot host.grants (app_of host.apps.items t.app) (st.machines t.app))
     where
       by : (k : Kind) → StandsAs h s t k → ContentStands s change rest image t k
       by kind.Raw stored = at_block t slot stored
