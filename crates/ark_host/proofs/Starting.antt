@@ -356,10 +356,9 @@ module _ (image : List (List ℕ)) (table : Table) (has : HasTable table image) 
       let at = (unused n).0 (in_contains free n h) in
       select_in is_free (range_with_len 129 (size - 129)) n (contains_in (range_with_len 129 (size - 129)) n at.0) (ap not (outside_granted n at.1)))
 
-  -- The host.
+  -- The applications.
 
-  module _ (es : List Event) (reads : AreReads es) (host : Host) (apps : host.apps.items ≡ []) (tables : host.table ≡ table) (failed : host.failed ≡ false) (grants : host.grants ≡ 129) (clock : host.clock ≡ 0)
-      (increasing : IsStrictlyIncreasing host.free) (unused : IsUnused size table host.free) where
+  module _ (es : List Event) (reads : AreReads es) where
     abbrev past : History
     past = after (as_found image) es
 
@@ -376,45 +375,53 @@ module _ (image : List (List ℕ)) (table : Table) (has : HasTable table image) 
     in_device : (a : List ℕ) (t : Slot) → In (own_slots a slots) t → (n : ℕ) → Contains t.blocks n → n < size
     in_device a t among n has_n = ((fit_in size slots t agree.fit (in_select (λ (v : Slot). bytes_eq a v.app) slots t among).0).data_part n has_n).1
 
-    unmade_stands : (a : List ℕ) → IsUnmade host.grants past system a
-    unmade_stands a = record {
+    pub unmade_stands : (grants : ℕ) → grants ≡ 129 → (a : List ℕ) → IsUnmade grants past system a
+    unmade_stands grants is a = record {
       made = ap (λ (m : Machine). m.made) (machine_is a) ∙ made_from image (own_slots a slots) unmade;
-      holds = subst (λ (ts : List Slot). HoldsStored host.grants past ts (machine_of system a)) (sym (mine_same a)) (subst (λ (m : Machine). HoldsStored host.grants past (own_slots a slots) m) (sym (machine_is a)) (record {
+      holds = subst (λ (ts : List Slot). HoldsStored grants past ts (machine_of system a)) (sym (mine_same a)) (subst (λ (m : Machine). HoldsStored grants past (own_slots a slots) m) (sym (machine_is a)) (record {
         serial = serial_from image (own_slots a slots) unmade ∙ (let e : 0 + length (own_slots a slots) ≡ length (own_slots a slots) = omega arith in e);
         stored = subst (λ (hs : List Held). AllStored past 0 (own_slots a slots) hs) (sym (held_from image es reads (own_slots a slots) unmade)) (all_new image es reads 0 (own_slots a slots) (λ t among. in_device a t among));
         below = λ t among.
             let high = (fit_in size slots t agree.fit (in_select (λ (v : Slot). bytes_eq a v.app) slots t (contains_in (own_slots a slots) t among)).0).index_high in
-            omega (arith, high, grants);
+            omega (arith, high, is);
       }));
     }
 
-    pub start_stands : StandsLoaded host size image es
-    start_stands = record {
-      slots = slots;
-      found = read;
-      count = ap (λ (t : Table). length (slots_in 1 t)) tables;
-      stands = record {
-        plane = record {
-          size = refl;
-          own = refl;
-          filters = refl;
-          apps = ap (λ (l : List App). map (λ app. app.name) l) (sym apps);
-          table = tables ∙ sym table_again;
-          failed = sym failed;
-          free = λ no. free_same host.free increasing unused;
-          settled = λ no. refl;
-          beside = tt;
-          apart = agree;
-          named = all_named;
-          counted = λ a. subst (λ (l : List App). slot_count a slots ≤ area_count (app_of l a)) (sym apps) (few_own a);
+    -- the table stands, whatever a stop leaves
+    pub table_stands : IsTableOf past table
+    table_stands = stays (as_found image) table es (attached image table has) (λ n written. absurd (none_written es n reads written))
+
+    -- The host.
+
+    module _ (host : Host) (apps : host.apps.items ≡ []) (tables : host.table ≡ table) (failed : host.failed ≡ false) (grants : host.grants ≡ 129) (clock : host.clock ≡ 0)
+        (increasing : IsStrictlyIncreasing host.free) (unused : IsUnused size table host.free) where
+      pub start_stands : StandsLoaded host size image es
+      start_stands = record {
+        slots = slots;
+        found = read;
+        count = ap (λ (t : Table). length (slots_in 1 t)) tables;
+        stands = record {
+          plane = record {
+            size = refl;
+            own = refl;
+            filters = refl;
+            apps = ap (λ (l : List App). map (λ app. app.name) l) (sym apps);
+            table = tables ∙ sym table_again;
+            failed = sym failed;
+            free = λ no. free_same host.free increasing unused;
+            settled = λ no. refl;
+            beside = tt;
+            apart = agree;
+            named = all_named;
+            counted = λ a. subst (λ (l : List App). slot_count a slots ≤ area_count (app_of l a)) (sym apps) (few_own a);
+          };
+          based = refl;
+          table = subst (λ (t : Table). IsTableOf past t) (sym table_again) table_stands;
+          now = sym clock;
+          machines = λ a. subst (λ (l : List App). AtApp host.grants past system a (app_of l a)) (sym apps) (unmade_stands host.grants grants a);
+          same_now = λ a. ap (λ (m : Machine). m.now) (machine_is a) ∙ now_from image (own_slots a slots) unmade;
         };
-        based = refl;
-        table = subst (λ (t : Table). IsTableOf past t) (sym table_again) (stays (as_found image) table es (attached image table has) (λ n written. absurd (none_written es n reads written)));
-        now = sym clock;
-        machines = λ a. subst (λ (l : List App). AtApp host.grants past system a (app_of l a)) (sym apps) (unmade_stands a);
-        same_now = λ a. ap (λ (m : Machine). m.now) (machine_is a) ∙ now_from image (own_slots a slots) unmade;
-      };
-    }
+      }
 
 -- The same for a device of so many blocks.
 pub loaded_stands : (blocks : ℕ) (image : List (List ℕ)) (table : Table) (es : List Event) → AreReads es → length image ≡ blocks → HasTable table image → (host : Host) → host.apps.items ≡ [] → host.table ≡ table → host.failed ≡ false → host.grants ≡ 129 → host.clock ≡ 0
