@@ -8,7 +8,10 @@ use Rattle.ark_media.specs.Calls.{Opening, Script, Adds, Takes}
 use Rattle.ark_media.specs.Parts.{parts}
 use Rattle.ark_script.specs.Lines.{lines_of}
 use Rattle.ark_cli.specs.Words.{IsRun}
-use Rattle.ark_cli.specs.Opening.{Start, asking, blocks_asked}
+use Rattle.ark_script.specs.Text.{text}
+use Rattle.ark_script.specs.declared.said.Said.TheVariants.{Ready}
+use Rattle.ark_cli.specs.Opening.{Start, asking, blocks_of, blocks_asked}
+use Rattle.ark_cli.proofs.Openings.{slots_told}
 use Rattle.ark_cli.specs.Ending as ending
 use Rattle.ark_cli.specs.Ending.{Does, HasRun, Ends, Closes, IsQuiet, IsDeviceRefused, IsClosed}
 use Rattle.ark_record.specs.Replay.{Model}
@@ -81,7 +84,9 @@ module _ (old now : Model) (honest : now.is_honest ≡ true) where
   }
 
   cut : (start : Start) (script : List ℕ) (whole : List (List Event)) (rest : List Event) → Ends start (told_of now) Sink script whole rest → EndsBy start (told_of now) Sink script whole rest
-  cut start script [] rest e = e
+  cut start script [] rest e =
+      let t = slots_told start (told_of now) e.0 h told e.1 in
+      (t.0, t.1, (e.2.0, ap (λ n. text (Ready (blocks_of start) n) []) (sym t.2) ∙ e.2.1))
   cut start script (opening ∷ whole) rest e = e h told
 
   ends_by : (start : Start) (status : Status) (script : List ℕ) (whole : List (List Event)) (rest : List Event) → Ends start (told_of now) status script whole rest → EndsBy start (told_of now) status script whole rest

@@ -3,16 +3,18 @@ use Rattle.std.specs.Prelude.{◌≡◌, ◌+◌, ◌≤◌, ℕ, true, false, L
 use Rattle.ark_base.specs.Status.{code_of}
 use Rattle.ark_base.specs.declared.status.Status.{Status}
 use Rattle.ark_base.specs.declared.status.Status.TheVariants.{Done, Usage, Sink, Device, Memory, Long}
-use Rattle.ark_media.specs.Journal.{Event, onto, device_events, HasFailed}
+use Rattle.ark_media.specs.Journal.{Event, onto, output_of, device_events, HasFailed}
 use Rattle.ark_media.specs.Calls.{Opening, Told, Rose}
 use Rattle.ark_media.specs.Parts.{parts}
 use Rattle.ark_script.specs.Lines.{lines_of}
+use Rattle.ark_script.specs.Text.{text}
+use Rattle.ark_script.specs.declared.said.Said.TheVariants.{Ready}
 use Rattle.ark_machine.specs.System.{System}
 use Rattle.ark_cli.specs.Words.{IsRun}
 use Rattle.ark_cli.specs.Line.{limit}
 use Rattle.ark_cli.specs.Cut.{CutReplies, CutConfined}
-use Rattle.ark_cli.specs.Opening.{Start, base_of, blocks_asked, asking, Starts, HeedsDamage}
-use Rattle.ark_cli.specs.Ending.{Does, HasRun, EndsCut, Ends, Closes, RecoversAtFronts}
+use Rattle.ark_cli.specs.Opening.{Start, base_of, blocks_of, blocks_asked, asking, Starts, HeedsDamage}
+use Rattle.ark_cli.specs.Ending.{Does, HasRun, Ends, Closes, RecoversAtFronts}
 use Rattle.ark_record.specs.Replay.{Past, Model, model_of}
 use Rattle.ark_record.specs.Watch.{told_of, told_by, beside_by}
 use Rattle.ark_record.specs.Honest.{IsHonest}
@@ -28,14 +30,15 @@ pub record IsUnopened (asked : List Opening) (status : Status) (old now : Model)
 
 -- Where a put failed, what stands behind the whole parts shows the first bytes of the line that was put: that of the device, or
 -- the next reply.
-abbrev pub CutEnds : Start → Told → List ℕ → List (List Event) → List Event → Type 0
-CutEnds start told script [] rest = EndsCut start told script [] rest
-CutEnds start told script (opening ∷ whole) rest =
+abbrev pub CutEnds : Start → List ℕ → List (List Event) → List Event → Type 0
+CutEnds start script [] rest =
+    (s : System) × Starts start s × ((more : List ℕ) × (text (Ready (blocks_of start) (length s.plane.slots)) [] ≡ output_of rest ++ more))
+CutEnds start script (opening ∷ whole) rest =
     (s : System) × Starts start s × CutReplies s (lines_of script) whole rest × CutConfined s (lines_of script) whole rest
 
 -- how many whole parts there are by the status, and what stands behind them
 abbrev pub EndsBy : Start → Told → Status → List ℕ → List (List Event) → List Event → Type 0
-EndsBy start told Sink script whole rest = CutEnds start told script whole rest
+EndsBy start told Sink script whole rest = CutEnds start script whole rest
 EndsBy start told status script whole rest = Ends start told status script whole rest
 
 -- A device was made, or was there, and the script was run on it.
