@@ -3,7 +3,7 @@ use Rattle.std.proofs.Common.{◌≡◌, ◌⊎◌, inl, inr, ℕ, zero, suc, �
 use Rattle.std.specs.Prelude.{Option, Some, None, Result, Ok, Err, IfErr}
 use Rattle.std.proofs.lemmas.Bool.{cases_lt}
 use Rattle.std.proofs.lemmas.List.{get_or_default}
-use Rattle.ark_extents.specs.Blocks.{blocks_of, AreAmong}
+use Rattle.ark_extents.specs.Blocks.{blocks_of, runs_of, AreAmong, AreDistinct}
 use Rattle.ark_extents.specs.Free.{free_at_first, Loses}
 use Rattle.ark_extents.proofs.RunLemmas.{blocks_of-runs_of}
 use Rattle.ark_extents.proofs.Holding.{range_contains, contains_range}
@@ -22,8 +22,8 @@ use Rattle.ark_held.specs.Inside.{AreasInside}
 use Rattle.ark_held.specs.declared.app.App.{App}
 use Rattle.ark_machine.specs.Grants.{SlotsAgree}
 use Rattle.ark_held.proofs.Members.{in_contains}
-use Rattle.ark_host.specs.Inside.{TableInside}
-use Rattle.ark_host.specs.Loaded.{IsOutside, IsUnused, TakesEntry, HasLost, FailsEntry, IsMisfit}
+use Rattle.ark_host.specs.Inside.{IsShared}
+use Rattle.ark_host.specs.Loaded.{IsOutside, IsUnused, TakesEntry, SpellsEntry, HasLost, FailsEntry, IsMisfit}
 use Rattle.ark_host.proofs.Tabling.{none_some, same_some, in_table, fit_in}
 use Rattle.ark_host.proofs.Sharing.{one_slot}
 
@@ -87,39 +87,9 @@ module _ (size : ℕ) (table : Table) (k : ℕ) where
               omega (arith, index, front.0),
         )
 
-    -- blocks that were free lie on the device
-    pub inside_more : (free : List ℕ) → 130 ≤ size → IsUnused size (take k table) free → AreAmong (blocks_of a.runs) free → TableInside size (take k table) → TableInside size (take (k + 1) table)
-    inside_more free low is among inside i b there = by (front_entry (k + 1) table i b there)
-      where
-        below : (n : ℕ) → Contains (blocks_of a.runs) n → n < size
-        below n has = let r = contains_range 129 (size - 129) n ((is n).0 (among n has)).0 in omega (arith, r, low)
-
-        all_below : All (λ n. n < size) (blocks_of a.runs)
-        all_below j d lt = below (get_or (blocks_of a.runs) j d) (j, lt, get_or_default (blocks_of a.runs) j (get_or (blocks_of a.runs) j d) d lt)
-
-        by : (i < k + 1) × (area_at table i ≡ Some b) → All (λ n. n < size) (blocks_of b.runs)
-        by p = elim (cases_lt i k) [
-          | inl lt ↦ inside i b (entry_front k table i b lt p.1)
-          | inr past ↦
-              let same : i ≡ k = (let lt = p.0 in omega (arith, lt, past)) in
-              let its : Some a ≡ Some b = sym at ∙ ap (λ j. area_at table j) (sym same) ∙ p.1 in
-              subst (λ (x : Area). All (λ n. n < size) (blocks_of x.runs)) (same_some a b its) all_below
-        ]
-
-  pub inside_none : area_at table k ≡ None → TableInside size (take k table) → TableInside size (take (k + 1) table)
-  inside_none empty inside i b there =
-      let p = front_entry (k + 1) table i b there in
-      elim (cases_lt i k) [
-        | inl lt ↦ inside i b (entry_front k table i b lt p.1)
-        | inr past ↦ let same : i ≡ k = (let lt = p.0 in omega (arith, lt, past)) in absurd (none_some b (sym empty ∙ ap (λ j. area_at table j) (sym same) ∙ p.1))
-      ]
-
 -- no slot was looked at yet
 pub unused_first : (size : ℕ) (table : Table) → IsUnused size (take 0 table) (free_at_first size)
 unused_first size table n = (λ has. (has, λ i a is. absurd (none_some a is)), λ both. both.0)
-
-pub inside_first : (size : ℕ) (table : Table) → TableInside size (take 0 table)
-inside_first size table i b is = absurd (none_some b is)
 
 -- What is done with one entry of the table.
 
@@ -129,6 +99,16 @@ absent i o low (inr none) = none
 
 pub taken_none : (i : ℕ) (o : Option Area) (free : List ℕ) → 1 ≤ i → (i ≡ 0) ⊎ (o ≡ None) → TakesEntry o free free
 taken_none i o free low is = subst (λ (x : Option Area). TakesEntry x free free) (sym (absent i o low is)) refl
+
+pub spelled_some : (o : Option Area) (slot : Coded) → o ≡ Some (stated slot) → length (runs_of slot.spans) ≤ 16 → AreDistinct slot.spans → SpellsEntry o
+spelled_some o slot is few distinct = subst (λ (x : Option Area). SpellsEntry x) (sym is) (record {
+  longest = ap runs_of (blocks_of-runs_of slot.spans);
+  few = few;
+  distinct = subst (λ (bs : List ℕ). AreDistinct bs) (sym (blocks_of-runs_of slot.spans)) distinct;
+})
+
+pub spelled_none : (i : ℕ) (o : Option Area) → 1 ≤ i → (i ≡ 0) ⊎ (o ≡ None) → SpellsEntry o
+spelled_none i o low is = subst (λ (x : Option Area). SpellsEntry x) (sym (absent i o low is)) tt
 
 pub taken_some : (o : Option Area) (slot : Coded) (free now : List ℕ) → o ≡ Some (stated slot) → AreAmong slot.spans free → Loses free now slot.spans → TakesEntry o free now
 taken_some o slot free now is among loses = subst (λ (x : Option Area). TakesEntry x free now) (sym is) (
@@ -140,7 +120,7 @@ pub lost_some : (o : Option Area) (slot : Coded) (free : List ℕ) → o ≡ Som
 lost_some o slot free is lost = subst (λ (x : Option Area). HasLost x free) (sym is) (λ among. lost (subst (λ (bs : List ℕ). AreAmong bs free) (blocks_of-runs_of slot.spans) among))
 
 module _ (size : ℕ) (table : Table) (k : ℕ) where
-  entry : (o : Option Area) → slot_in table (k + 1) ≡ o → area_at table k ≡ o
+  pub entry : (o : Option Area) → slot_in table (k + 1) ≡ o → area_at table k ≡ o
   entry o is = ap (λ i. area_at table i) (let e : k ≡ (k + 1) - 1 = omega arith in e) ∙ is
 
   pub entry_unused : (free now : List ℕ) → TakesEntry (slot_in table (k + 1)) free now → IsUnused size (take k table) free → IsUnused size (take (k + 1) table) now
@@ -149,13 +129,6 @@ module _ (size : ℕ) (table : Table) (k : ℕ) where
       by : (o : Option Area) → slot_in table (k + 1) ≡ o → TakesEntry o free now → IsUnused size (take (k + 1) table) now
       by None at kept = unused_none size table k now (entry None at) (subst (λ (f : List ℕ). IsUnused size (take k table) f) (sym kept) is)
       by (Some a) at took = unused_more size table k a (entry (Some a) at) free now took.1 is
-
-  pub entry_inside : (free now : List ℕ) → 130 ≤ size → TakesEntry (slot_in table (k + 1)) free now → IsUnused size (take k table) free → TableInside size (take k table) → TableInside size (take (k + 1) table)
-  entry_inside free now low takes is inside = by (slot_in table (k + 1)) refl takes
-    where
-      by : (o : Option Area) → slot_in table (k + 1) ≡ o → TakesEntry o free now → TableInside size (take (k + 1) table)
-      by None at kept = inside_none size table k (entry None at) inside
-      by (Some a) at took = inside_more size table k a (entry (Some a) at) free low is took.0 inside
 
   pub entry_misfit : (i : ℕ) (free : List ℕ) (e : LoadFault) → FailsEntry i (slot_in table (k + 1)) free e → IsUnused size (take k table) free → IsMisfit size table e
   entry_misfit i free fault.DeviceFault fails is = absurd fails
@@ -167,8 +140,8 @@ module _ (size : ℕ) (table : Table) (k : ℕ) where
       by (Some a) at lost agree = lost (all_free size table k a (entry (Some a) at) free is agree)
 
 -- Of a host that was loaded, all that is granted and free lies on the device.
-pub loaded_inside : (size : ℕ) (apps : List App) (free : List ℕ) (table : Table) → 130 ≤ size → size ≤ 1048576 → apps ≡ [] → IsUnused size table free → TableInside size table
-    → (130 ≤ size) × (size ≤ 1048576) × All (λ app. AreasInside size app.areas) apps × All (λ n. n < size) free × TableInside size table
+pub loaded_inside : (size : ℕ) (apps : List App) (free : List ℕ) (table : Table) → 130 ≤ size → size ≤ 1048576 → apps ≡ [] → IsUnused size table free → IsShared size table free false
+    → (130 ≤ size) × (size ≤ 1048576) × All (λ app. AreasInside size app.areas) apps × All (λ n. n < size) free × IsShared size table free false
 loaded_inside size apps free table low high none is inside = (
   low,
   high,

@@ -1,9 +1,9 @@
 -- What a host is made of that is loaded from a device that was there.
-use Rattle.std.specs.Prelude.{◌≡◌, ◌≤◌, ◌↔◌, ℕ, List, [], ◌∷◌, length, Option, Result, Ok, Some, None, OnOk, Contains}
+use Rattle.std.specs.Prelude.{◌≡◌, ◌≤◌, ◌<◌, ◌↔◌, ℕ, List, [], ◌∷◌, length, Option, Result, Ok, Some, None, OnOk, Contains}
 use Rattle.ark_media.specs.Journal.{Event, Read, History}
 use Rattle.ark_media.specs.Calls.{Told, Went}
 use Rattle.ark_media.specs.Standing.{after}
-use Rattle.ark_extents.specs.Blocks.{blocks_of, AreAmong}
+use Rattle.ark_extents.specs.Blocks.{blocks_of, runs_of, AreAmong, AreDistinct}
 use Rattle.ark_extents.specs.Free.{free_at_first, Loses}
 use Rattle.ark_table.specs.declared.fault.LoadFault.{LoadFault}
 use Rattle.ark_table.specs.declared.fault.LoadFault.TheVariants as fault
@@ -12,6 +12,7 @@ use Rattle.ark_table.specs.Slots.{Slot, slots_of}
 use Rattle.ark_table.specs.Table.{area_at, slots_in}
 use Rattle.ark_table.specs.Loading.{read_calls, is_read}
 use Rattle.ark_table.specs.Standing.{Table}
+use Rattle.ark_machine.specs.Plane.{max_runs}
 use Rattle.ark_machine.specs.Grants.{SlotsAgree}
 use Rattle.ark_machine.specs.Start.{start_system}
 use Rattle.ark_host.specs.declared.host.Host.{Host}
@@ -39,6 +40,22 @@ IsUnused size table free = (n : ℕ) → Contains free n ↔ (Contains (free_at_
 abbrev pub TakesEntry : Option Area → List ℕ → List ℕ → Type 0
 TakesEntry None old new = new ≡ old
 TakesEntry (Some a) old new = AreAmong (blocks_of a.runs) old × Loses old new (blocks_of a.runs)
+
+-- an area as its blocks spell it: by their longest runs, which are few, and no block is in it twice
+pub record IsSpelled (a : Area) : Type 0 where
+  pub longest : runs_of (blocks_of a.runs) ≡ a.runs
+  pub few : length a.runs ≤ max_runs
+  pub distinct : AreDistinct (blocks_of a.runs)
+
+abbrev pub SpellsEntry : Option Area → Type 0
+SpellsEntry None = Unit {0}
+SpellsEntry (Some a) = IsSpelled a
+
+-- the areas of the table are of data blocks of a device of so many blocks, and no block is in two of them
+pub record AreApartOn (size : ℕ) (table : Table) : Type 0 where
+  pub spelled : (k : ℕ) (a : Area) → area_at table k ≡ Some a → IsSpelled a
+  pub data_part : (k : ℕ) (a : Area) → area_at table k ≡ Some a → (n : ℕ) → Contains (blocks_of a.runs) n → (129 ≤ n) × (n < size)
+  pub apart : (i k : ℕ) (a b : Area) → i < k → area_at table i ≡ Some a → area_at table k ≡ Some b → (n : ℕ) → Contains (blocks_of a.runs) n → Contains (blocks_of b.runs) n → ⊥
 
 -- the slot is in use, and not all of its blocks are free
 abbrev pub HasLost : Option Area → List ℕ → Type 0

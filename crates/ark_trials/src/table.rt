@@ -1,12 +1,12 @@
 //! Tables of runs. A run is a block of rows, and an empty row stands between two. Its first row has the words of the command
 //! with the first reply behind them, and each other row a line of the script with its reply, if it has one.
 
-use crate::areas::{BLOCKS, GRANTS};
+use crate::areas::{BLOCKS, GIVEN_UP, GRANTS};
 use crate::commands::{COMMANDS, OTHER_WORDS};
 use crate::lines::{EMPTY_LINES, LINES};
 use crate::reopened::REOPENED;
 use crate::runs::{Finished, run_on};
-use crate::words::{CARDS_AND_DOORS, EVERY_WORD, FRAMES, TICKS, WORDS_TO_COME};
+use crate::words::{CARDS_AND_DOORS, DEVICES_GIVEN_UP, EVERY_WORD, FRAMES, TICKS, WORDS_TO_COME};
 use ark_base::Status;
 use std::alloc::Global;
 use std::test::Fail;
@@ -92,8 +92,10 @@ fn answers_as_the_tables_say(rt: HostRuntime) -> Result<(), Fail> {
         WORDS_TO_COME,
         EVERY_WORD,
         CARDS_AND_DOORS,
+        DEVICES_GIVEN_UP,
         GRANTS,
         BLOCKS,
+        GIVEN_UP,
     ] {
         let whole = other_row(alloc, table, LastLine::Whole, Status::Done)?;
         assert_eq!(rt; whole, None);

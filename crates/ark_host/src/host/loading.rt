@@ -1,11 +1,11 @@
-ghost use Rattle.std.specs.Prelude.{◌≡◌, ◌≤◌, ℕ, List, IfOk, IfErr, OnOk, length};
+ghost use Rattle.std.specs.Prelude.{◌≡◌, ◌≤◌, false, ℕ, List, IfOk, IfErr, OnOk, length};
 ghost use Rattle.std.specs.List.Sorted.{IsStrictlyIncreasing};
 ghost use Rattle.ark_media.specs.Journal.{Event};
 ghost use Rattle.ark_table.specs.Loading.{IsFirstDamaged};
 ghost use Rattle.ark_table.specs.Standing.{slot_in};
 ghost use Rattle.ark_table.specs.Table.{HasTable};
-ghost use Rattle.ark_host.specs.Inside.{IsInside, TableInside};
-ghost use Rattle.ark_host.specs.Loaded.{AreReads, FailsEntry, IsLoaded, IsMisfit, IsUnused, ReadsTable, StandsLoaded, TakesEntry};
+ghost use Rattle.ark_host.specs.Inside.{IsInside, IsShared};
+ghost use Rattle.ark_host.specs.Loaded.{AreReads, FailsEntry, IsLoaded, IsMisfit, IsUnused, ReadsTable, SpellsEntry, StandsLoaded, TakesEntry};
 ghost use Rattle.ark_host.specs.Time.{IsSound};
 
 use super::Host;
@@ -25,11 +25,15 @@ const FIRST_GRANT: u64 = 129;
 fn take_entry(free: &mut FreeMap, i: u16, table: &GrantTable) -> Result<(), LoadFault>
     requires low { 1 ≤ i }
     ensures taken { OnOk result (TakesEntry (slot_in table.now i) free.old free.new) }
+    ensures spelled { OnOk result (SpellsEntry (slot_in table.now i)) }
     ensures fault { IfErr result (λ e. FailsEntry i (slot_in table.now i) free.old e) }
 {
     let Some(slot) = table.slot(i) else {
         return Ok(());
     };
+    // that its runs are few, and no block is in it twice, is what their numbers say
+    let _ = slot.spans.runs();
+    let _ = slot.spans.blocks();
     if free.runs() > MOST_RUNS {
         return Err(LoadFault::Memory);
     }
@@ -45,7 +49,7 @@ fn unused(alloc: Global, blocks: u32, table: &GrantTable) -> Result<FreeMap, Loa
     requires low { 130 ≤ blocks }
     ensures free { IfOk result (λ free. IsUnused blocks table.now free) }
     ensures rising { IfOk result (λ free. IsStrictlyIncreasing free) }
-    ensures inside { IfOk result (λ free. TableInside blocks table.now) }
+    ensures shared { IfOk result (λ free. IsShared blocks table.now free false) }
     ensures fault { IfErr result (λ e. IsMisfit blocks table.now e) }
 {
     // that it has 128 slots is what the number of those in use says

@@ -20,6 +20,7 @@ fn give_slot(app: &mut App, i: u16, slot: &Slot)
     }
     let area = Area {
         kind: slot.kind,
+        slot: i,
         spans: slot.spans,
     };
     app.add_area(slot.label, u64::from(i), area);
