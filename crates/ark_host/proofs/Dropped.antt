@@ -1,5 +1,5 @@
 -- An area that is given up, also where its slot could not be removed: what the host stands for after the device calls.
-use Rattle.std.proofs.Common.{◌≡◌, ℕ, ◌≤◌, Bool, true, false, not, cond, ◌&&◌, List, [], ◌∷◌, length, map, get_or, set, nat_eq, refl, sym, ◌∙◌, ap, subst, arith, bytes_eq, Contains}
+use Rattle.std.proofs.Common.{◌≡◌, ℕ, ◌-◌, ◌≤◌, Bool, true, false, not, cond, ◌&&◌, List, [], ◌∷◌, length, map, get_or, set, nat_eq, refl, sym, ◌∙◌, ap, subst, arith, bytes_eq, Contains}
 use Rattle.std.specs.Prelude.{Option, Some, None, Ok, slice_get, find, is_some, option_map}
 use Rattle.std.specs.Map.{lookup}
 use Rattle.std.specs.List.Sorted.{IsStrictlyIncreasing}

@@ -1,11 +1,10 @@
 -- A table as the slots that stand in it: the table of these slots is the same, and the free blocks are those that no entry has.
-use Rattle.std.proofs.Common.{◌≡◌, ◌⊎◌, inl, inr, ℕ, zero, suc, ◌+◌, ◌-◌, ◌<◌, ◌≤◌, Bool, true, false, cond, not, ◌||◌, ◌==◌, List, [], ◌∷◌, length, refl, sym, ◌∙◌, ap, subst, arith, Contains}
+use Rattle.std.proofs.Common.{◌≡◌, ◌⊎◌, inl, inr, ℕ, suc, ◌+◌, ◌-◌, ◌<◌, ◌≤◌, Bool, true, false, cond, not, ◌||◌, ◌==◌, List, [], ◌∷◌, length, refl, sym, ◌∙◌, ap, subst, arith, Contains}
 use Rattle.std.specs.Prelude.{Option, Some, None, filter as select, slice_index}
 use Rattle.std.specs.List.{list_any, range_with_len}
 use Rattle.std.specs.List.Sorted.{IsStrictlyIncreasing}
 use Rattle.std.proofs.lemmas.Bool.{false≢true}
 use Rattle.std.proofs.lemmas.Bool.Decides.{nat_tests}
-use Rattle.ark_base.specs.declared.block.Span.{Span}
 use Rattle.ark_extents.specs.Blocks.{blocks_of, runs_of}
 use Rattle.ark_table.specs.Area.{Area}
 use Rattle.ark_table.specs.Slots.{Slot, slot_at, area_of}
@@ -156,4 +155,3 @@ module _ (size : ℕ) (table : Table) where
       (λ n h.
       let at = (unused n).0 (in_contains free n h) in
       select_in is_free (range_with_len 129 (size - 129)) n (contains_in (range_with_len 129 (size - 129)) n at.0) (ap not (outside_granted n at.1)))
-

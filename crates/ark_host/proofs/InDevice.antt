@@ -1,5 +1,5 @@
 -- The blocks that are granted, and those that are free, lie on the device.
-use Rattle.std.proofs.Common.{◌≡◌, ⊎_elim, ℕ, zero, suc, ◌<◌, ◌≤◌, ◌-◌, Bool, true, false, cond, List, [], ◌∷◌, length, take, drop, set, get_or, sym, subst, arith, All, Contains}
+use Rattle.std.proofs.Common.{◌≡◌, ⊎_elim, ℕ, zero, suc, ◌<◌, ◌≤◌, ◌-◌, Bool, true, false, cond, List, [], ◌∷◌, ◌++◌, length, take, drop, set, get_or, sym, subst, arith, All, Contains}
 use Rattle.std.specs.Prelude.{Option, Some, None, nat_eq}
 use Rattle.std.specs.Map.{lookup}
 use Rattle.std.proofs.lemmas.List.Elements.{All-append, All-drop, All-get_or, All-set, All-take, Contains-get_or}
@@ -61,6 +61,14 @@ module _ (size : ℕ) where
   pub with_inside : (areas : AreaList) (g : ℕ) (area : Area) (o : Option Area) → AreasInside size areas → Below area.spans → AreasInside size (added_to areas g area o)
   with_inside areas g area None inside below = All-append (λ x. All (λ n. n < size) x.1.spans) areas ((g, area) ∷ []) inside (one_inside g area below)
   with_inside areas g area (Some old) inside below = inside
+
+  -- of one more application
+  pub app_inside : (apps now : List App) (app : App) → now ≡ apps ++ app ∷ [] → AppsInside apps → AreasInside size app.areas → AppsInside now
+  app_inside apps now app is inside its = subst (λ (xs : List App). AppsInside xs) (sym is) (All-append (λ x. AreasInside size x.areas) apps (app ∷ []) inside one)
+    where
+      one : AppsInside (app ∷ [])
+      one zero d lt = its
+      one (suc k) d lt = absurd (omega (arith, lt))
 
   -- of a host that granted the first of its free blocks
   pub granted_inside : (host : Host) (place : ℕ) (app app1 : App) (g blocks : ℕ) (area : Area) (rest : List ℕ) → place < length host.apps.items → get_or host.apps.items place app ≡ app → app1.areas ≡ with_area app.areas g area

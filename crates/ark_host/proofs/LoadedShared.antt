@@ -1,5 +1,5 @@
 -- A table that was taken from the free blocks, entry by entry, shares none of them: so its slots are those of a plane.
-use Rattle.std.proofs.Common.{◌≡◌, ◌⊎◌, inl, inr, ℕ, zero, suc, ◌+◌, ◌-◌, ◌<◌, ◌≤◌, Bool, true, false, ◌||◌, ◌==◌, List, [], ◌∷◌, length, take, refl, sym, ◌∙◌, ap, subst, arith, Contains, All, get_or}
+use Rattle.std.proofs.Common.{◌≡◌, ◌⊎◌, inl, inr, ℕ, suc, ◌+◌, ◌-◌, ◌<◌, ◌≤◌, Bool, false, ◌==◌, List, [], ◌∷◌, length, take, refl, sym, ◌∙◌, ap, subst, arith, Contains, get_or}
 use Rattle.std.specs.Prelude.{Option, Some, None}
 use Rattle.std.specs.List.Sorted.{IsStrictlyIncreasing}
 use Rattle.std.proofs.lemmas.Bool.{cases_lt}
@@ -9,13 +9,13 @@ use Rattle.ark_extents.specs.Blocks.{blocks_of, runs_of, AreAmong}
 use Rattle.ark_extents.proofs.RunLemmas.{blocks_of-runs_of}
 use Rattle.ark_extents.proofs.Holding.{contains_range}
 use Rattle.ark_table.specs.Area.{Area}
-use Rattle.ark_table.specs.Slots.{Slot, slot_at}
+use Rattle.ark_table.specs.Slots.{Slot}
 use Rattle.ark_table.specs.Table.{area_at, slots_in}
 use Rattle.ark_table.specs.Standing.{Table, slot_in}
 use Rattle.ark_machine.specs.Plane.{is_granted, max_runs}
 use Rattle.ark_machine.specs.Grants.{has_block, has_index, SlotsFit, SlotsApart, SlotsAgree}
 use Rattle.ark_machine.proofs.Grants.{or_both}
-use Rattle.ark_held.proofs.Members.{In, contains_in}
+use Rattle.ark_held.proofs.Members.{contains_in}
 use Rattle.ark_host.specs.Inside.{IsShared, TableInside}
 use Rattle.ark_host.specs.Loaded.{IsUnused, TakesEntry, IsSpelled, SpellsEntry, AreApartOn}
 use Rattle.ark_host.proofs.Machines.{by_test}

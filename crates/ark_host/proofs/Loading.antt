@@ -1,5 +1,5 @@
 -- The blocks that no slot of a table has, slot by slot.
-use Rattle.std.proofs.Common.{◌≡◌, ◌⊎◌, inl, inr, ℕ, zero, suc, ◌+◌, ◌-◌, ◌<◌, ◌≤◌, List, [], ◌∷◌, length, take, refl, sym, ◌∙◌, ap, subst, arith, Contains, All, get_or}
+use Rattle.std.proofs.Common.{◌≡◌, ◌⊎◌, inl, inr, ℕ, false, zero, suc, ◌+◌, ◌-◌, ◌<◌, ◌≤◌, List, [], ◌∷◌, length, take, refl, sym, ◌∙◌, ap, subst, arith, Contains, All, get_or}
 use Rattle.std.specs.Prelude.{Option, Some, None, Result, Ok, Err, IfErr}
 use Rattle.std.proofs.lemmas.Bool.{cases_lt}
 use Rattle.std.proofs.lemmas.List.{get_or_default}
@@ -24,7 +24,7 @@ use Rattle.ark_machine.specs.Grants.{SlotsAgree}
 use Rattle.ark_held.proofs.Members.{in_contains}
 use Rattle.ark_host.specs.Inside.{IsShared}
 use Rattle.ark_host.specs.Loaded.{IsOutside, IsUnused, TakesEntry, SpellsEntry, HasLost, FailsEntry, IsMisfit}
-use Rattle.ark_host.proofs.Tabling.{none_some, same_some, in_table, fit_in}
+use Rattle.ark_host.proofs.Tabling.{none_some, in_table, fit_in}
 use Rattle.ark_host.proofs.Sharing.{one_slot}
 
 pub front_entry : (n : ℕ) (table : Table) (i : ℕ) (a : Area) → area_at (take n table) i ≡ Some a → (i < n) × (area_at table i ≡ Some a)

@@ -1,6 +1,6 @@
 -- What a stop leaves of a device that was there, of which only reads were made, recovers by its slots.
-use Rattle.std.proofs.Common.{◌≡◌, inl, inr, ℕ, zero, suc, ◌<◌, Bool, List, [], ◌∷◌, ◌++◌, length, get_or, refl, sym, ◌∙◌, ap, subst, Contains}
-use Rattle.std.specs.Prelude.{Option, Some, None, Ok, slice_get, option_map}
+use Rattle.std.proofs.Common.{◌≡◌, inl, inr, ℕ, zero, suc, ◌<◌, Bool, List, [], ◌∷◌, ◌++◌, length, refl, sym, ◌∙◌, ap, subst, Contains}
+use Rattle.std.specs.Prelude.{Option, Some, None, Ok, option_map}
 use Rattle.std.proofs.lemmas.List.Elements.{Contains-append_left, Contains-get_or}
 use Rattle.ark_base.specs.declared.kind.Kind.{Kind}
 use Rattle.ark_base.specs.declared.kind.Kind.TheVariants as kind
@@ -18,7 +18,7 @@ use Rattle.ark_entry.specs.Found.{found_of}
 use Rattle.ark_caladan.specs.Chain.{Log, lists}
 use Rattle.ark_machine.specs.Objects
 use Rattle.ark_machine.specs.Objects.{Object, Raw}
-use Rattle.ark_machine.specs.Machine.{Held, object_at}
+use Rattle.ark_machine.specs.Machine.{Held}
 use Rattle.ark_machine.specs.Grants.{SlotsAgree}
 use Rattle.ark_machine.specs.Start.{contents_at, start_system}
 use Rattle.ark_machine.specs.System.{System, machine_of}
@@ -28,7 +28,7 @@ use Rattle.ark_held.proofs.Fronts.{shows}
 use Rattle.ark_host.specs.Stored.{IsStoredArea}
 use Rattle.ark_host.specs.Loaded.{AreReads, as_found}
 use Rattle.ark_host.proofs.Fronts.{place_of}
-use Rattle.ark_host.proofs.Storing.{Found, stored_found}
+use Rattle.ark_host.proofs.Storing.{stored_found}
 use Rattle.ark_host.proofs.Tabling.{fit_in}
 use Rattle.ark_host.proofs.Starting.{all_named, unmade_stands, table_stands}
 use Rattle.ark_held.proofs.Members.{contains_in}

@@ -1,9 +1,8 @@
 -- A host that was just loaded stands for the system of the slots of its device.
-use Rattle.std.proofs.Common.{◌≡◌, ◌⊎◌, inl, inr, ℕ, suc, ◌+◌, ◌-◌, ◌<◌, ◌≤◌, Bool, true, false, cond, not, ◌||◌, ◌==◌, List, [], ◌∷◌, ◌++◌, length, map, get_or, nat_le, ◌&&◌, refl, sym, ◌∙◌, ap, subst, arith, bytes_eq, append_assoc, append-nil, Contains}
-use Rattle.std.specs.Prelude.{Option, Some, None, Result, Ok, Err, IfOk, find, filter as select, slice_index, count_by}
-use Rattle.std.specs.List.{list_any, range_with_len}
+use Rattle.std.proofs.Common.{◌≡◌, inl, inr, ℕ, suc, ◌+◌, ◌<◌, ◌≤◌, Bool, true, false, cond, List, [], ◌∷◌, ◌++◌, length, map, get_or, nat_le, ◌&&◌, refl, sym, ◌∙◌, ap, subst, arith, bytes_eq, append_assoc, append-nil, Contains}
+use Rattle.std.specs.Prelude.{Option, Some, None, Result, Ok, Err, IfOk, find, count_by}
 use Rattle.std.specs.List.Sorted.{IsStrictlyIncreasing}
-use Rattle.std.proofs.lemmas.Bool.{false≢true, cases_eq, and_parts}
+use Rattle.std.proofs.lemmas.Bool.{cases_eq, and_parts}
 use Rattle.std.proofs.lemmas.Bool.Decides.{nat_tests}
 use Rattle.std.proofs.lemmas.List.{length-map, get_or-map, get_or_past}
 use Rattle.std.proofs.lemmas.List.Elements.{Contains-get_or}
@@ -17,7 +16,7 @@ use Rattle.ark_extents.specs.Blocks.{blocks_of, runs_of}
 use Rattle.ark_extents.proofs.RunLemmas.{runs_of-blocks_of, spans_longest}
 use Rattle.ark_table.specs.declared.fault.LoadFault.{LoadFault}
 use Rattle.ark_table.specs.Area.{Area, is_area}
-use Rattle.ark_table.specs.Slots.{Slot, slot_at, area_of, slots_of}
+use Rattle.ark_table.specs.Slots.{Slot, slot_at, slots_of}
 use Rattle.ark_table.specs.Table.{HasTable, IsSlotBlock, area_at, is_of, slots_in}
 use Rattle.ark_table.specs.Standing.{Table, IsTableOf, IsWritten}
 use Rattle.ark_table.proofs.Standing.{attached, stays}
@@ -25,7 +24,7 @@ use Rattle.ark_table.proofs.Tables.{table_is_read}
 use Rattle.ark_entry.specs.Found.{Found, found, damaged, found_of}
 use Rattle.ark_caladan.specs.Chain.{stored_after, list_choices}
 use Rattle.ark_machine.specs.Machine.{Machine, Held, unmade, with_new}
-use Rattle.ark_machine.specs.Plane.{is_granted, is_slot_of}
+use Rattle.ark_machine.specs.Plane.{is_slot_of}
 use Rattle.ark_machine.specs.Grants.{SlotsAgree}
 use Rattle.ark_machine.specs.Start.{contents_at, stored_area, start_system}
 use Rattle.ark_machine.specs.System.{System, machine_of}
@@ -36,18 +35,17 @@ use Rattle.ark_held.specs.Areas.{IsRaw, IsListed, MayShow}
 use Rattle.ark_held.specs.Beside.{AreBeside}
 use Rattle.ark_held.proofs.Besides.{may_beside}
 use Rattle.ark_held.proofs.Lists.{same_name, name_same}
-use Rattle.ark_held.proofs.Members.{In, contains_in, in_contains}
+use Rattle.ark_held.proofs.Members.{In, contains_in}
 use Rattle.ark_held.specs.declared.app.App.{App}
 use Rattle.ark_host.specs.declared.host.Host.{Host}
 use Rattle.ark_host.specs.Tabled.{table_of, slot_count}
 use Rattle.ark_host.specs.Stored.{IsStoredArea, AllStored, HoldsStored, stored_slots}
 use Rattle.ark_host.specs.Stands.{IsUnmade, AtApp, app_of, area_count}
-use Rattle.ark_host.specs.Loaded.{AreReads, as_found, IsOutside, IsUnused, StandsLoaded, IsLoaded}
+use Rattle.ark_host.specs.Loaded.{AreReads, as_found, IsUnused, StandsLoaded, IsLoaded}
 use Rattle.ark_host.proofs.Machines.{by_test}
-use Rattle.ark_host.proofs.Lists.{find_in, any_in, in_select}
-use Rattle.ark_host.proofs.Freeing.{Rises, rising, eq_same}
+use Rattle.ark_host.proofs.Lists.{find_in, in_select}
 use Rattle.ark_host.proofs.Entries.{table_again, free_same}
-use Rattle.ark_host.proofs.Tabling.{none_some, same_some, table_size, slot_there, area_there, in_table, of_table, fit_in, owned_counted}
+use Rattle.ark_host.proofs.Tabling.{none_some, same_some, of_table, fit_in, owned_counted}
 
 -- Reads change nothing.
 

@@ -1,4 +1,4 @@
-use Rattle.std.proofs.Common.{◌≡◌, ◌+◌, ◌∙◌, ℕ, List, ap, sym, subst, arith, take, length}
+use Rattle.std.proofs.Common.{rules, ◌≡◌, ◌+◌, ◌∙◌, ℕ, List, ap, sym, subst, arith, take, length}
 use Rattle.std.proofs.Math.Seq.{take-length}
 use Rattle.ark_table.specs.Standing.{Table}
 use Rattle.ark_host.specs.Loaded.{IsUnused, AreApartOn}
@@ -32,4 +32,4 @@ returns-clause-shared c =
     let all : c.loop-place.place ≡ length c.args.table.now = omega (arith, c.loop-place-test.false, c.loop-place.auto.place-end, c.used.ensures.size) in
     let whole : take c.loop-place.place c.args.table.now ≡ c.args.table.now = ap (λ n. take n c.args.table.now) all ∙ take-length c.args.table.now in
     loaded_shared c.args.blocks c.args.table.now c.used.ensures.size (subst (λ (t : Table). AreApartOn c.args.blocks t) whole c.loop-place.invariant.apart) c.loop-place.free
-    (returns-clause-rising c) (returns-clause-free c)
+    (search rules) (returns-clause-free c)
