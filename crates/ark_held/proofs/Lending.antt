@@ -2,6 +2,7 @@
 use Rattle.std.proofs.Common.{◌≡◌, ℕ, ◌+◌, ◌<◌, Bool, true, false, not, nat_lt, List, [], ◌∷◌, refl, sym, ◌∙◌, ap, arith, bytes_eq}
 use Rattle.std.specs.Prelude.{Option, Some, None, ◌||◌, option_map, unwrap_or}
 use Rattle.std.specs.List.{list_any, AllByRecursion}
+use Rattle.std.proofs.lemmas.Bool.{false≢true}
 use Rattle.std.proofs.lemmas.Bool.Decides.{nat_tests}
 use Rattle.ark_base.specs.declared.kind.Outcome.{Outcome}
 use Rattle.ark_caps.specs.Labels.{value_at}
@@ -16,7 +17,7 @@ use Rattle.ark_machine.specs.Objects
 use Rattle.ark_machine.specs.Objects.{Object, Job, transfer, flush, phase, Place, named as in_buffer, taken, Paced}
 use Rattle.ark_machine.specs.Machine.{Machine, Held}
 use Rattle.ark_machine.specs.Buffers.{is_lent, has_buffer, job_has, place_has}
-use Rattle.ark_machine.specs.Control.{has_log, is_open_on}
+use Rattle.ark_machine.specs.Control.{has_log, is_label, is_open_on, is_watched}
 use Rattle.ark_held.specs.Words.{Labels}
 use Rattle.ark_held.specs.Totals.{bit, total, uses, lent_count, open_count}
 use Rattle.ark_held.specs.Kept.{PaceKept, ChainKept}
@@ -26,7 +27,7 @@ use Rattle.ark_held.specs.Cards.{IsPaced, IsWatched, IsJob, IsEnded}
 use Rattle.ark_held.specs.Network.{IsFramePlace, IsReceiving, IsReceived, IsSending, IsSent}
 use Rattle.ark_held.specs.Held.{IsObjectOf, AllMatch}
 use Rattle.ark_held.specs.Keeps.{JobWithin, PlaceWithin, PacedWithin, LabelWithin, OpenedWithin, Within, any_label}
-use Rattle.ark_held.proofs.Lists.{by_test, name_other, not_some, some_same}
+use Rattle.ark_held.proofs.Lists.{by_test, name_other, other_name, not_some, some_same}
 use Rattle.ark_held.proofs.Creating.{but}
 
 -- Whether a buffer is lent.
@@ -72,7 +73,7 @@ lent_is m l b is = any_is (λ h. has_buffer l h.object) (λ h. uses l h.object) 
 pub log_is : (m : Machine) (l : List ℕ) (b : Bool) → bit b ≡ open_count m l → has_log m l ≡ b
 log_is m l b is = any_bit (λ h. is_open_on l h.object) m.held ∙ ap (λ n. nat_lt 0 n) (sym is) ∙ bit_some b
 
--- Nothing has a buffer under a label that is not there.
+-- Nothing has a buffer under a label that is no buffer's.
 
 each_zero : {X Y : Type 0} (P : X → Y → Type 0) (f : Y → ℕ) → ((x : X) (y : Y) → P x y → f y ≡ 0) → (xs : List X) (ys : List Y) → Each P xs ys → total f ys ≡ 0
 each_zero P f none [] [] e = refl
@@ -80,22 +81,23 @@ each_zero P f none (x ∷ xs) (y ∷ ys) e = let one = none x y e.0 in let rest 
 each_zero P f none [] (y ∷ ys) e = absurd e
 each_zero P f none (x ∷ xs) [] e = absurd e
 
-module _ (x : Around) (l : List ℕ) (absent : value_at x.labels l ≡ None) where
-  name_none : (b : List ℕ) (kind : CapKind) (key : ℕ) → Names x b kind key → bit (bytes_eq l b) ≡ 0
-  name_none b kind key n = ap bit (name_other l b (λ e. not_some (value_at x.labels b) n.cap (ap (λ k. value_at x.labels k) (sym e) ∙ absent) n.there))
+-- what is under the label is not of this kind
+name_none : (x : Around) (l : List ℕ) (kind : CapKind) → ((c : Capability) → value_at x.labels l ≡ Some c → c.kind ≡ kind → ⊥) → (b : List ℕ) (key : ℕ) → Names x b kind key → bit (bytes_eq l b) ≡ 0
+name_none x l kind other b key n = ap bit (name_other l b (λ e. other n.cap (ap (λ k. value_at x.labels k) e ∙ n.there) n.its_kind))
 
+module _ (x : Around) (l : List ℕ) (other : (c : Capability) → value_at x.labels l ≡ Some c → c.kind ≡ cap_kind.Buf → ⊥) where
   job_none : (log : Option ℕ) (d : Descriptor) (j : Job) → IsJob x log d j → bit (job_has l j) ≡ 0
-  job_none log d (transfer t) is = name_none t.buffer cap_kind.Buf d.tag is.buffer.named
+  job_none log d (transfer t) is = name_none x l cap_kind.Buf other t.buffer d.tag is.buffer.named
   job_none log d flush is = refl
   job_none log d (phase p) is = refl
 
   ended_none : (c : Completion) (u : Job × Outcome) → IsEnded x c u → bit (job_has l u.0) ≡ 0
-  ended_none c (transfer t, o) is = name_none t.buffer cap_kind.Buf c.tag is.2.named
+  ended_none c (transfer t, o) is = name_none x l cap_kind.Buf other t.buffer c.tag is.2.named
   ended_none c (flush, o) is = refl
   ended_none c (phase p, o) is = refl
 
   place_none : (tag : ℕ) (given : Option Piece) (p : Place) → IsFramePlace x tag given p → bit (place_has l p) ≡ 0
-  place_none tag given (in_buffer b) is = name_none b cap_kind.Buf tag is.named
+  place_none tag given (in_buffer b) is = name_none x l cap_kind.Buf other b tag is.named
   place_none tag given (taken b) is = refl
 
   received_none : (c : Completion) (u : Place × ℕ) → IsReceived x c u → bit (place_has l u.0) ≡ 0
@@ -107,7 +109,7 @@ module _ (x : Around) (l : List ℕ) (absent : value_at x.labels l ≡ None) whe
   sent_none : (c : Completion) (u : Place × Outcome) → IsSent x c u → bit (place_has l u.0) ≡ 0
   sent_none c (p, o) is = place_none c.tag c.buf p is.1
 
-  none_uses : (k : List ℕ) (c : Capability) (o : Object) → IsObjectOf x k c o → uses l o ≡ 0
+  pub none_uses : (k : List ℕ) (c : Capability) (o : Object) → IsObjectOf x k c o → uses l o ≡ 0
   none_uses k c (Objects.vsic v) f =
       let a = each_zero (IsJob x f.card.log) (λ j. bit (job_has l j)) (job_none f.card.log) f.card.ring.posted v.queue.posted f.posted in
       let b = each_zero (IsEnded x) (λ u. bit (job_has l u.0)) ended_none f.card.ring.unreaped v.queue.unreaped f.unreaped in
@@ -126,18 +128,22 @@ module _ (x : Around) (l : List ℕ) (absent : value_at x.labels l ≡ None) whe
   none_uses k c (Objects.buffer z) f = refl
   none_uses k c (Objects.socket z) f = refl
 
-  pub none_lent : (ps : Labels) (hs : List Held) → AllMatch x ps hs → total (λ h. uses l h.object) hs ≡ 0
-  none_lent [] [] all = refl
-  none_lent (p ∷ ps) (h ∷ hs) all = let a = none_uses p.0 p.1 h.object all.0.object in let b = none_lent ps hs all.1 in omega (arith, a, b)
-  none_lent [] (h ∷ hs) all = absurd all
-  none_lent (p ∷ ps) [] all = absurd all
+  none_used : (ps : Labels) (hs : List Held) → AllMatch x ps hs → total (λ h. uses l h.object) hs ≡ 0
+  none_used [] [] all = refl
+  none_used (p ∷ ps) (h ∷ hs) all = let a = none_uses p.0 p.1 h.object all.0.object in let b = none_used ps hs all.1 in omega (arith, a, b)
+  none_used [] (h ∷ hs) all = absurd all
+  none_used (p ∷ ps) [] all = absurd all
+
+-- and none under one that is not there
+pub none_lent : (x : Around) (l : List ℕ) → value_at x.labels l ≡ None → (ps : Labels) (hs : List Held) → AllMatch x ps hs → total (λ h. uses l h.object) hs ≡ 0
+none_lent x l absent ps hs all = none_used x l (λ c is kind. not_some (value_at x.labels l) c absent is) ps hs all
 
 -- Nor is a log open on a card there.
 
 module _ (x : Around) (l : List ℕ) (absent : value_at x.labels l ≡ None) where
   opened_none : (grant : ℕ) (k : Option ChainKept) (o : Option Opened) → Both (IsOpened x grant) k o → bit (unwrap_or (option_map (λ z. bytes_eq l z.card) o) false) ≡ 0
   opened_none grant None None is = refl
-  opened_none grant (Some k) (Some o) is = name_none x l absent o.card cap_kind.Vsic k.card is.card
+  opened_none grant (Some k) (Some o) is = name_none x l cap_kind.Vsic (λ c is kind. not_some (value_at x.labels l) c absent is) o.card k.card is.card
   opened_none grant None (Some o) is = absurd is
   opened_none grant (Some k) None is = absurd is
 
@@ -168,9 +174,21 @@ narrow : {X : Type 0} (P Q : X → Type 0) (f : X → ℕ) → ((x : X) → f x 
 narrow P Q f step [] none all = tt
 narrow P Q f step (x ∷ xs) none all = (step x (omega (arith, none)) all.0, narrow P Q f step xs (omega (arith, none)) all.1)
 
-module _ (x : Around) (l : List ℕ) (cap : Capability) (there : value_at x.labels l ≡ Some cap) (its_kind : cap.kind ≡ cap_kind.Buf) (rests : Piece → Type 0) where
-  name_apart : (b : List ℕ) (c : Capability) (kind : CapKind) → value_at x.labels b ≡ Some c → c.kind ≡ kind → (kind ≡ cap_kind.Buf → ⊥) → but l b ≡ true
-  name_apart b c kind at is other = ap not (name_other l b (λ e. other (sym is ∙ ap (λ (z : Capability). z.kind) (some_same (value_at x.labels b) c cap at (ap (λ k. value_at x.labels k) (sym e) ∙ there)) ∙ its_kind)))
+or_first : (a b : Bool) → (a || b) ≡ false → a ≡ false
+or_first true b e = e
+or_first false b e = refl
+
+or_second : (a b : Bool) → (a || b) ≡ false → b ≡ false
+or_second true b e = absurd (false≢true (sym e))
+or_second false b e = e
+
+-- What names no label of this kind, or not this one of it, has all else within the others.
+
+module _ (x : Around) (l : List ℕ) (cap : Capability) (there : value_at x.labels l ≡ Some cap) (unpaced : cap.kind ≡ cap_kind.Rate → ⊥) (no_net : cap.kind ≡ cap_kind.Vnic → ⊥) (rests : Piece → Type 0) where
+  name_apart : (b : List ℕ) (c : Capability) (kind : CapKind) → value_at x.labels b ≡ Some c → c.kind ≡ kind → (cap.kind ≡ kind → bytes_eq l b ≡ false) → but l b ≡ true
+  name_apart b c kind at is other =
+      ap not (name_other l b (λ e. other_name l b
+      (other (sym (ap (λ (z : Capability). z.kind) (some_same (value_at x.labels b) c cap at (ap (λ k. value_at x.labels k) (sym e) ∙ there))) ∙ is)) e))
 
   job_narrow : (j : Job) → bit (job_has l j) ≡ 0 → JobWithin any_label rests j → JobWithin (but l) rests j
   job_narrow (transfer t) none w = bit_zero (bytes_eq l t.buffer) none
@@ -183,49 +201,66 @@ module _ (x : Around) (l : List ℕ) (cap : Capability) (there : value_at x.labe
 
   paced_narrow : (k : Option PaceKept) (p : Option Paced) → Both (IsPaced x) k p → PacedWithin (but l) rests p
   paced_narrow None None is = tt
-  paced_narrow (Some k) (Some p) is = name_apart p.rate is.rate.cap cap_kind.Rate is.rate.there is.rate.its_kind (λ e. cc (e))
+  paced_narrow (Some k) (Some p) is = name_apart p.rate is.rate.cap cap_kind.Rate is.rate.there is.rate.its_kind (λ e. absurd (unpaced e))
   paced_narrow None (Some p) is = absurd is
   paced_narrow (Some k) None is = absurd is
 
-  door_narrow : (k : Option ℕ) (d : Option (List ℕ)) → Both (IsWatched x) k d → LabelWithin (but l) rests d
-  door_narrow None None is = tt
-  door_narrow (Some k) (Some d) is = name_apart d is.cap cap_kind.Door is.there is.its_kind (λ e. cc (e))
-  door_narrow None (Some d) is = absurd is
-  door_narrow (Some k) None is = absurd is
+  door_narrow : (k : Option ℕ) (d : Option (List ℕ)) → Both (IsWatched x) k d → (cap.kind ≡ cap_kind.Door → is_label l d ≡ false) → LabelWithin (but l) rests d
+  door_narrow None None is unwatched = tt
+  door_narrow (Some k) (Some d) is unwatched = name_apart d is.cap cap_kind.Door is.there is.its_kind unwatched
+  door_narrow None (Some d) is unwatched = absurd is
+  door_narrow (Some k) None is unwatched = absurd is
 
   card_narrow : (k : Option ℕ) (v : Option (List ℕ)) → Both (λ g v. IsGranted x v cap_kind.Vnic g) k v → LabelWithin (but l) rests v
   card_narrow None None is = tt
-  card_narrow (Some k) (Some v) is = name_apart v is.cap cap_kind.Vnic is.there is.its_kind (λ e. cc (e))
+  card_narrow (Some k) (Some v) is = name_apart v is.cap cap_kind.Vnic is.there is.its_kind (λ e. absurd (no_net e))
   card_narrow None (Some v) is = absurd is
   card_narrow (Some k) None is = absurd is
 
-  opened_narrow : (grant : ℕ) (k : Option ChainKept) (o : Option Opened) → Both (IsOpened x grant) k o → OpenedWithin any_label rests o → OpenedWithin (but l) rests o
-  opened_narrow grant None None is w = tt
-  opened_narrow grant (Some k) (Some o) is w = (name_apart o.card is.card.cap cap_kind.Vsic is.card.there is.card.its_kind (λ e. cc (e)), w.1)
-  opened_narrow grant None (Some o) is w = absurd is
-  opened_narrow grant (Some k) None is w = absurd is
+  opened_narrow : (grant : ℕ) (k : Option ChainKept) (o : Option Opened) → Both (IsOpened x grant) k o → (cap.kind ≡ cap_kind.Vsic → unwrap_or (option_map (λ z. bytes_eq l z.card) o) false ≡ false) → OpenedWithin any_label rests o → OpenedWithin (but l) rests o
+  opened_narrow grant None None is closed w = tt
+  opened_narrow grant (Some k) (Some o) is closed w = (name_apart o.card is.card.cap cap_kind.Vsic is.card.there is.card.its_kind closed, w.1)
+  opened_narrow grant None (Some o) is closed w = absurd is
+  opened_narrow grant (Some k) None is closed w = absurd is
 
-  pub narrowed : (k : List ℕ) (c : Capability) (o : Object) → IsObjectOf x k c o → uses l o ≡ 0 → Within any_label rests o → Within (but l) rests o
-  narrowed k c (Objects.raw z) f none w = tt
-  narrowed k c (Objects.log g) f none w = opened_narrow c.grant (x.tables.chains c.grant) g.opened f.opened w
-  narrowed k c (Objects.vsic v) f none w = (
+  pub narrowed_from : (k : List ℕ) (c : Capability) (o : Object) → IsObjectOf x k c o → uses l o ≡ 0 → (cap.kind ≡ cap_kind.Door → is_watched l o ≡ false) → (cap.kind ≡ cap_kind.Vsic → is_open_on l o ≡ false) → Within any_label rests o → Within (but l) rests o
+  narrowed_from k c (Objects.raw z) f none seen closed w = tt
+  narrowed_from k c (Objects.log g) f none seen closed w = opened_narrow c.grant (x.tables.chains c.grant) g.opened f.opened closed w
+  narrowed_from k c (Objects.vsic v) f none seen closed w = (
     narrow (JobWithin any_label rests) (JobWithin (but l) rests) (λ j. bit (job_has l j)) job_narrow v.queue.posted (omega (arith, none)) w.0,
     narrow (λ u. JobWithin any_label rests u.0) (λ u. JobWithin (but l) rests u.0) (λ u. bit (job_has l u.0)) (λ u. job_narrow u.0) v.queue.unreaped (omega (arith, none)) w.1,
     paced_narrow f.card.pace v.pace f.pace,
-    door_narrow f.card.door v.door f.door,
+    door_narrow f.card.door v.door f.door seen,
   )
-  narrowed k c (Objects.vnic v) f none w = (
+  narrowed_from k c (Objects.vnic v) f none seen closed w = (
     narrow (PlaceWithin any_label rests) (PlaceWithin (but l) rests) (λ p. bit (place_has l p)) place_narrow v.rx.posted (omega (arith, none)) w.0,
     narrow (λ u. PlaceWithin any_label rests u.0) (λ u. PlaceWithin (but l) rests u.0) (λ u. bit (place_has l u.0)) (λ u. place_narrow u.0) v.rx.unreaped (omega (arith, none)) w.1,
     narrow (λ p. PlaceWithin any_label rests p.0) (λ p. PlaceWithin (but l) rests p.0) (λ p. bit (place_has l p.0)) (λ p. place_narrow p.0) v.tx.posted (omega (arith, none)) w.2,
     narrow (λ u. PlaceWithin any_label rests u.0) (λ u. PlaceWithin (but l) rests u.0) (λ u. bit (place_has l u.0)) (λ u. place_narrow u.0) v.tx.unreaped (omega (arith, none)) w.3,
     paced_narrow f.net.rx_pace v.rx_pace f.rx_pace,
     paced_narrow f.net.tx_pace v.tx_pace f.tx_pace,
-    door_narrow f.net.rx_door v.rx_door f.rx_door,
-    door_narrow f.net.tx_door v.tx_door f.tx_door,
+    door_narrow f.net.rx_door v.rx_door f.rx_door (λ e. or_first (is_label l v.rx_door) (is_label l v.tx_door) (seen e)),
+    door_narrow f.net.tx_door v.tx_door f.tx_door (λ e. or_second (is_label l v.rx_door) (is_label l v.tx_door) (seen e)),
   )
-  narrowed k c (Objects.filter z card) f none w = card_narrow f.live.vnic card f.card
-  narrowed k c (Objects.door z) f none w = tt
-  narrowed k c (Objects.rate z y) f none w = tt
-  narrowed k c (Objects.buffer z) f none w = w
-  narrowed k c (Objects.socket z) f none w = name_apart z.card f.card.cap cap_kind.Vnic f.card.there f.card.its_kind (λ e. cc (e))
+  narrowed_from k c (Objects.filter z card) f none seen closed w = card_narrow f.live.vnic card f.card
+  narrowed_from k c (Objects.door z) f none seen closed w = tt
+  narrowed_from k c (Objects.rate z y) f none seen closed w = tt
+  narrowed_from k c (Objects.buffer z) f none seen closed w = w
+  narrowed_from k c (Objects.socket z) f none seen closed w = name_apart z.card f.card.cap cap_kind.Vnic f.card.there f.card.its_kind (λ e. absurd (no_net e))
+
+-- of a buffer's label
+pub narrowed : (x : Around) (l : List ℕ) (cap : Capability) → value_at x.labels l ≡ Some cap → cap.kind ≡ cap_kind.Buf → (rests : Piece → Type 0) (k : List ℕ) (c : Capability) (o : Object) → IsObjectOf x k c o → uses l o ≡ 0
+    → Within any_label rests o → Within (but l) rests o
+narrowed x l cap there is rests k c o f none w = narrowed_from x l cap there (λ e. cc (is, e)) (λ e. cc (is, e)) rests k c o f none (λ e. cc (is, e)) (λ e. cc (is, e)) w
+
+-- of a label of another kind
+pub narrowed_other : (x : Around) (l : List ℕ) (cap : Capability) → value_at x.labels l ≡ Some cap → (cap.kind ≡ cap_kind.Rate → ⊥) → (cap.kind ≡ cap_kind.Vnic → ⊥) → (cap.kind ≡ cap_kind.Buf → ⊥) → (rests : Piece → Type 0) (k : List ℕ) (c : Capability) (o : Object) → IsObjectOf x k c o
+    → (cap.kind ≡ cap_kind.Door → is_watched l o ≡ false) → (cap.kind ≡ cap_kind.Vsic → is_open_on l o ≡ false) → Within any_label rests o → Within (but l) rests o
+narrowed_other x l cap there unpaced no_net no_buffer rests k c o f seen closed w =
+    narrowed_from x l cap there unpaced no_net rests k c o f
+    (none_uses x l (λ d at kind. no_buffer (ap (λ (z : Capability). z.kind) (some_same (value_at x.labels l) cap d there at) ∙ kind)) k c o f) seen closed w
+
+-- An object names no area by its label.
+pub narrowed_area : (x : Around) (l : List ℕ) (cap : Capability) → value_at x.labels l ≡ Some cap → cap.kind ≡ cap_kind.Vsa → (rests : Piece → Type 0) (k : List ℕ) (c : Capability) (o : Object) → IsObjectOf x k c o
+    → Within any_label rests o → Within (but l) rests o
+narrowed_area x l cap there is rests k c o f w = narrowed_other x l cap there (λ e. cc (is, e)) (λ e. cc (is, e)) (λ e. cc (is, e)) rests k c o f (λ e. cc (is, e)) (λ e. cc (is, e)) w

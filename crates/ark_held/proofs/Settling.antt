@@ -52,9 +52,10 @@ settled_same f raws _ = refl
 abbrev settle : Held → Held
 settle g = holding (settled g.object) g
 
-same_total : (f : Object → ℕ) → ((o : Object) → f (settled o) ≡ f o) → (hs : List Held) → total (λ g. f g.object) (map settle hs) ≡ total (λ g. f g.object) hs
-same_total f same [] = refl
-same_total f same (g ∷ gs) = omega (arith, same g.object, same_total f same gs)
+-- a step that leaves a count of each object leaves their sum
+pub same_total : (step : Object → Object) (f : Object → ℕ) → ((o : Object) → f (step o) ≡ f o) → (hs : List Held) → total (λ g. f g.object) (map (λ g. holding (step g.object) g) hs) ≡ total (λ g. f g.object) hs
+same_total step f same [] = refl
+same_total step f same (g ∷ gs) = omega (arith, same g.object, same_total step f same gs)
 
 module _ (x : Around) (h : Holds x)
     (alone : (l : List ℕ) (t : Slot) → slot_at x l ≡ Some t → (k : ℕ) → k < length t.blocks → (c : List ℕ) → MayStand x.history (get_or t.blocks k 0) c → c ≡ block (current x.history.base x.history.journal) (get_or t.blocks k 0)) where
@@ -83,9 +84,9 @@ module _ (x : Around) (h : Holds x)
     chains = λ l c same is its. refl;
     slots = λ l same. refl;
     history = λ l t same is. same_history x.history t.blocks;
-    lent = λ l same. same_total (uses l) (settled_same (uses l) (λ r q. refl)) x.machine.held;
-    opened = λ l same. same_total (λ o. bit (is_open_on l o)) (settled_same (λ o. bit (is_open_on l o)) (λ r q. refl)) x.machine.held;
-    socketed = λ l same. same_total (λ o. bit (is_socket_on l o)) (settled_same (λ o. bit (is_socket_on l o)) (λ r q. refl)) x.machine.held;
+    lent = λ l same. same_total settled (uses l) (settled_same (uses l) (λ r q. refl)) x.machine.held;
+    opened = λ l same. same_total settled (λ o. bit (is_open_on l o)) (settled_same (λ o. bit (is_open_on l o)) (λ r q. refl)) x.machine.held;
+    socketed = λ l same. same_total settled (λ o. bit (is_socket_on l o)) (settled_same (λ o. bit (is_socket_on l o)) (λ r q. refl)) x.machine.held;
   }
 
   -- each object may change
@@ -147,4 +148,4 @@ module _ (x : Around) (h : Holds x)
   pub settles : Holds y
   settles = turned x y h settle (λ l. false) any_piece changes (λ g. refl) (λ g. refl) (λ p g same inn m. absurd (false≢true same))
       (λ p g same inn at m. fits_settled p.0 p.1 g.object at m.object) refl refl refl refl refl (λ k. refl)
-      (λ j. same_total (object_covers j) (settled_same (object_covers j) (λ r q. refl)) x.machine.held ∙ h.taken j)
+      (λ j. same_total settled (object_covers j) (settled_same (object_covers j) (λ r q. refl)) x.machine.held ∙ h.taken j)

@@ -1,6 +1,6 @@
 -- Rings of cards that stay sound.
 use Rattle.std.proofs.Common.{◌≡◌, inl, inr, ℕ, Bool, List, [], ◌∷◌, ◌++◌, length, refl, sym, ◌∙◌, ap, subst}
-use Rattle.std.specs.Prelude.{Option, Some, IfSome, slice_get, drop, Result, Ok, Err, IsOk, OnOk}
+use Rattle.std.specs.Prelude.{Option, Some, None, is_some, IfSome, slice_get, drop, Result, Ok, Err, IsOk, OnOk}
 use Rattle.std.proofs.lemmas.Bool.{cases_eq, false≢true}
 use Rattle.ark_objects.specs.Held.{at, Changes}
 use Rattle.ark_vic.specs.Queue.{Queue}
@@ -20,6 +20,13 @@ pub sound_set : (frames : ℕ) (before after : List (Option StorageCard)) (key :
     → ((taken : List Bool) → length taken ≡ frames → IsSoundRing taken one.vsic.ring) → AreSound frames before → AreSound frames after
 sound_set frames before after key one changes its all taken long k c there = elim (cases_eq k key) [
   | inl e ↦ subst (λ (z : StorageCard). IsSoundRing taken z.vsic.ring) (some_same (at after key) one c changes.changed (ap (λ (i : ℕ). at after i) (sym e) ∙ there)) (its taken long)
+  | inr other ↦ all taken long k c (sym (changes.others k other) ∙ there)
+]
+
+-- a key has no card any more
+pub sound_less : (frames : ℕ) (before after : List (Option StorageCard)) (key : ℕ) → Changes before after key None → AreSound frames before → AreSound frames after
+sound_less frames before after key changes all taken long k c there = elim (cases_eq k key) [
+  | inl e ↦ absurd (false≢true (ap is_some (sym changes.changed ∙ ap (λ (i : ℕ). at after i) (sym e) ∙ there)))
   | inr other ↦ all taken long k c (sym (changes.others k other) ∙ there)
 ]
 

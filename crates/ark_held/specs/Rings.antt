@@ -1,11 +1,15 @@
 -- The storage cards of an application, by key, and their descriptors.
-use Rattle.std.specs.Prelude.{◌≡◌, ◌<◌, ℕ, Bool, List, [], ◌∷◌, ◌++◌, length, drop, Option, Some, None, option_map, IfSome, Contains}
+use Rattle.std.specs.Prelude.{◌≡◌, ◌<◌, ℕ, Bool, false, List, [], ◌∷◌, ◌++◌, length, drop, nat_eq, Option, Some, None, option_map, option_and_then, IfSome, Contains}
+use Rattle.std.specs.List.{list_any}
 use Rattle.ark_objects.specs.Held.{at, Changes}
+use Rattle.ark_caps.specs.declared.capability.CapKind.{CapKind}
+use Rattle.ark_caps.specs.declared.capability.CapKind.TheVariants as cap_kind
 use Rattle.ark_vic.specs.Queue.{Queue, members}
 use Rattle.ark_vic.specs.declared.descriptor.Descriptor.{Descriptor}
-use Rattle.ark_vsic.specs.Card.{Card, head_of}
+use Rattle.ark_vsic.specs.Card.{Card, bound_without, head_of}
 use Rattle.ark_vsic.specs.Moves.{CanMove}
 use Rattle.ark_held.specs.Kept.{CardKept}
+use Rattle.ark_held.specs.Words.{Labels}
 use Rattle.ark_held.specs.declared.card.StorageCard.{StorageCard}
 
 -- what a table keeps of a card
@@ -57,3 +61,26 @@ pub record HasRoomFor (cards : List (Option StorageCard)) (key : ℕ) : Type 0 w
 -- the card of a key, if there is one, is changed so
 abbrev pub ChangesCard : List (Option StorageCard) → List (Option StorageCard) → ℕ → (StorageCard → StorageCard) → Type 0
 ChangesCard old new key f = (one : StorageCard) → at old key ≡ Some one → Changes old new key (Some (f one))
+
+-- without the area of a grant among those that are bound
+abbrev pub unbound : ℕ → StorageCard → StorageCard
+unbound grant c = record c { vsic = record c.vsic { bound = bound_without grant c.vsic.bound } }
+
+-- the card of a key is gone, and no other has the area of a grant bound any more
+pub record LosesCard (old new : List (Option StorageCard)) (key grant : ℕ) : Type 0 where
+  pub rest : List (Option StorageCard)
+  pub gone : Changes old rest key None
+  pub cards : (k : ℕ) → at new k ≡ option_map (unbound grant) (at rest k)
+
+abbrev pub is_key : ℕ → Option ℕ → Bool
+is_key key None = false
+is_key key (Some k) = nat_eq k key
+
+-- whether the door of a key watches the object of this kind and key
+abbrev pub is_seen_by : List (Option StorageCard) → ℕ → CapKind → ℕ → Bool
+is_seen_by cards door cap_kind.Vsic key = is_key door (option_and_then (λ c. c.door) (at cards key))
+is_seen_by cards door _ key = false
+
+-- whether it watches one of those under these labels
+abbrev pub sees_any : List (Option StorageCard) → ℕ → Labels → Bool
+sees_any cards door labels = list_any (λ p. is_seen_by cards door p.1.kind p.1.key) labels

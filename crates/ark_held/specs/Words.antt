@@ -1,5 +1,5 @@
 -- What is found under a label, and why nothing can be added there.
-use Rattle.std.specs.Prelude.{ℕ, Bool, true, false, ◌||◌, List, [], ◌∷◌, ◌++◌, length, nat_eq, nat_le, Option, Some, None, Result, Ok, Err}
+use Rattle.std.specs.Prelude.{ℕ, Bool, true, false, ◌||◌, ◌&&◌, List, [], ◌∷◌, ◌++◌, length, nat_eq, nat_le, if◌then◌else◌, Option, Some, None, is_none, Result, Ok, Err}
 use Rattle.std.specs.Result.{result_map_both}
 use Rattle.std.specs.Borrow.{Bor}
 use Rattle.std.specs.Map.{lookup}
@@ -23,7 +23,7 @@ AreaList = List (ℕ × Area)
 
 -- the area of a slot
 abbrev pub area_in : Slot → Area
-area_in t = record { kind = t.kind; spans = t.blocks }
+area_in t = record { kind = t.kind; slot = t.index; spans = t.blocks }
 
 -- the blocks of a raw area; those of a log or queue are its own
 abbrev pub raw_blocks : Kind → List ℕ → Result (List ℕ) Refusal
@@ -74,3 +74,30 @@ added_to areas grant area (Some old) = areas
 -- with an area more at the end, unless there is one of this grant
 abbrev pub with_area : AreaList → ℕ → Area → AreaList
 with_area areas grant area = added_to areas grant area (lookup (nat_eq grant) areas)
+
+-- no grant has two areas
+abbrev pub are_once : AreaList → Bool
+are_once [] = true
+are_once (x ∷ xs) = is_none (lookup (nat_eq x.0) xs) && are_once xs
+
+-- without the area of this grant
+abbrev pub without_area : AreaList → ℕ → AreaList
+without_area [] grant = []
+without_area (x ∷ xs) grant = if nat_eq x.0 grant then xs else x ∷ without_area xs grant
+
+-- the number of a grant with the slot of its area, or why there is none
+abbrev pub grant_slot : ℕ → Option Area → Result (ℕ × ℕ) Refusal
+grant_slot grant None = Err r.WrongKind
+grant_slot grant (Some a) = Ok (grant, a.slot)
+
+abbrev pub slot_of_kind : AreaList → CapKind → ℕ → Result (ℕ × ℕ) Refusal
+slot_of_kind areas cap_kind.Vsa grant = grant_slot grant (lookup (nat_eq grant) areas)
+slot_of_kind areas _ grant = Err r.WrongKind
+
+abbrev pub slot_of_cap : AreaList → List ℕ → Option Capability → Result (ℕ × ℕ) Refusal
+slot_of_cap areas l None = Err (r.NoGrant l)
+slot_of_cap areas l (Some c) = slot_of_kind areas c.kind c.grant
+
+-- the grant and the slot of the area under a label, or why there is none
+abbrev pub slot_under : Labels → AreaList → List ℕ → Result (ℕ × ℕ) Refusal
+slot_under labels areas l = slot_of_cap areas l (value_at labels l)

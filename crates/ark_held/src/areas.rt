@@ -1,6 +1,7 @@
-ghost use Rattle.std.specs.Prelude.{◌≡◌, ◌<◌, [], length, nat_eq, option_copied, IfOk};
+ghost use Rattle.std.specs.Prelude.{◌≡◌, ◌<◌, [], None, length, nat_eq, option_copied, IfOk};
+ghost use Rattle.std.specs.List.{position};
 ghost use Rattle.std.specs.Map.{lookup};
-ghost use Rattle.ark_held.specs.Words.{with_area};
+ghost use Rattle.ark_held.specs.Words.{with_area, without_area};
 
 use ark_base::{Kind, Memory};
 use ark_extents::Spans;
@@ -10,10 +11,11 @@ use std::marker::Model;
 /// The most areas that an application holds.
 pub const AREAS: usize = 8;
 
-/// An area of blocks: what it is for, and its blocks.
+/// An area of blocks: what it is for, the slot of the device's table that names it, and its blocks.
 #[derive(Clone, Copy, Debug)]
 pub struct Area {
     pub kind: Kind,
+    pub slot: u16,
     pub spans: Spans,
 }
 
@@ -27,14 +29,16 @@ pub struct Areas {
 }
 
 impl Model for Areas {
-    ghost use Rattle.std.specs.Prelude.{◌≤◌, List, ℕ, length, vec_capacity};
+    ghost use Rattle.std.specs.Prelude.{◌≡◌, ◌≤◌, true, List, ℕ, length, vec_capacity};
+    ghost use Rattle.ark_held.specs.Words.{are_once};
     ghost use Rattle.ark_held.specs.declared.areas.Area.{Area};
 
     ghost Value = { List (ℕ × Area) };
 
     ghost view = { λ a. a.areas.items };
 
-    ghost invariant = { λ a. (length a.areas.items ≤ 8) × (8 ≤ vec_capacity a.areas) };
+    ghost invariant = { λ a. (length a.areas.items ≤ 8) × (8 ≤ vec_capacity a.areas)
+        × (are_once a.areas.items ≡ true) };
 }
 
 // The first area of this grant.
@@ -47,6 +51,13 @@ fn find(areas: &[(u64, Area)], grant: u64) -> Option<&Area>
         }
     }
     None
+}
+
+// The place of the first area of this grant.
+fn place_of(areas: &[(u64, Area)], grant: u64) -> Option<usize>
+    ensures place { result ≡ position (λ a. nat_eq a.0 grant) areas.now }
+{
+    areas.iter().position(|area| area.0 == grant)
 }
 
 impl Areas {
@@ -85,6 +96,16 @@ impl Areas {
         match self.areas.push((grant, area)) {
             Ok(()) => {}
             Err(_) => unreachable!(),
+        }
+    }
+
+    /// Takes the area of this grant out, if there is one; those behind it move up.
+    pub fn remove(&mut self, grant: u64)
+        ensures rest { self.new ≡ without_area self.old grant }
+        ensures gone { lookup (nat_eq grant) self.new ≡ None }
+    {
+        if let Some(place) = place_of(&self.areas, grant) {
+            self.areas.remove(place);
         }
     }
 }

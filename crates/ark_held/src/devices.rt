@@ -1,8 +1,8 @@
-ghost use Rattle.std.specs.Prelude.{◌≡◌, ◌<◌, ◌+◌, Bool, List, [], None, Some, IfOk, IfSome, IsSome, length, slice_get};
+ghost use Rattle.std.specs.Prelude.{◌≡◌, ◌<◌, ◌+◌, ℕ, Bool, List, [], None, Some, IfOk, IfSome, IsSome, length, option_map, slice_get};
 ghost use Rattle.ark_objects.specs.Held.{Changes, at, held};
 ghost use Rattle.ark_vic.specs.Bells.{counts_of};
 ghost use Rattle.ark_vsic.specs.Moves.{CanMove};
-ghost use Rattle.ark_held.specs.Rings.{AreSound, ChangesCard, HasRoomFor, new_card, no_ring, with_posted, with_reaped};
+ghost use Rattle.ark_held.specs.Rings.{AreSound, ChangesCard, HasRoomFor, new_card, no_ring, unbound, with_posted, with_reaped};
 
 use crate::card::StorageCard;
 use ark_base::Memory;
@@ -109,5 +109,42 @@ impl Devices {
         ensures frames { self.new.frames ≡ self.old.frames }
     {
         self.cards.at_mut(key).vsic.ring_mut().reap()
+    }
+
+    // The card of a key, if there is one, has the area of this grant bound no more.
+    fn unbind_card(&mut self, key: u32, grant: u64)
+        ensures changes { Changes self.old.cards self.new.cards key
+            (option_map (unbound grant) (at self.old.cards key)) }
+        ensures held { held self.new.cards ≡ held self.old.cards }
+        ensures doors { self.new.doors ≡ self.old.doors }
+        ensures frames { self.new.frames ≡ self.old.frames }
+    {
+        if self.cards.at(key).is_some() {
+            self.cards.at_mut(key).vsic.unbind(grant);
+        }
+    }
+
+    /// No card has the area of this grant bound any more.
+    pub fn unbind(&mut self, grant: u64)
+        ensures cards { (key : ℕ) →
+            at self.new.cards key ≡ option_map (unbound grant) (at self.old.cards key) }
+        ensures held { held self.new.cards ≡ held self.old.cards }
+        ensures doors { self.new.doors ≡ self.old.doors }
+        ensures frames { self.new.frames ≡ self.old.frames }
+    {
+        for key in 0..self.cards.end() {
+            self.unbind_card(key, grant);
+        }
+    }
+
+    /// Takes the card of a key out, with what stands in its ring.
+    pub fn remove_card(&mut self, key: u32)
+        requires there { IsSome (at self.old.cards key) }
+        ensures gone { Changes self.old.cards self.new.cards key None }
+        ensures fewer { held self.new.cards + 1 ≡ held self.old.cards }
+        ensures doors { self.new.doors ≡ self.old.doors }
+        ensures frames { self.new.frames ≡ self.old.frames }
+    {
+        let _ = self.cards.take(key);
     }
 }

@@ -1,15 +1,18 @@
 -- The blocks that are granted, and those that are free, lie on the device.
-use Rattle.std.proofs.Common.{◌≡◌, ℕ, zero, suc, ◌<◌, ◌≤◌, ◌-◌, List, [], ◌∷◌, length, take, drop, set, get_or, sym, subst, arith, All}
+use Rattle.std.proofs.Common.{◌≡◌, ⊎_elim, ℕ, zero, suc, ◌<◌, ◌≤◌, ◌-◌, Bool, true, false, cond, List, [], ◌∷◌, ◌++◌, length, take, drop, set, get_or, sym, subst, arith, All, Contains}
 use Rattle.std.specs.Prelude.{Option, Some, None, nat_eq}
 use Rattle.std.specs.Map.{lookup}
-use Rattle.std.proofs.lemmas.List.Elements.{All-append, All-drop, All-get_or, All-set, All-take}
+use Rattle.std.proofs.lemmas.List.Elements.{All-append, All-drop, All-get_or, All-set, All-take, Contains-get_or}
 use Rattle.std.proofs.lemmas.List.FromFn.{length-range_with_len, get_or-range_with_len}
-use Rattle.ark_extents.specs.Free.{free_at_first}
+use Rattle.ark_extents.specs.Free.{free_at_first, Gains}
+use Rattle.ark_table.specs.Standing.{Table}
 use Rattle.ark_held.specs.Inside.{AreasInside}
-use Rattle.ark_held.specs.Words.{AreaList, added_to, with_area}
+use Rattle.ark_held.specs.Words.{AreaList, added_to, with_area, without_area}
 use Rattle.ark_held.specs.declared.app.App.{App}
 use Rattle.ark_held.specs.declared.areas.Area.{Area}
-use Rattle.ark_host.specs.Inside.{IsInside}
+use Rattle.ark_host.specs.Inside.{IsInside, IsShared}
+use Rattle.ark_host.specs.Tabled.{table_of}
+use Rattle.ark_host.proofs.Shared.{fresh_shared, failed_shared}
 use Rattle.ark_host.specs.declared.host.Host.{Host}
 
 module _ (size : ℕ) where
@@ -26,33 +29,85 @@ module _ (size : ℕ) where
       let at = get_or-range_with_len 129 (size - 129) k d near in
       omega (arith, at, near)
 
+  below_of : (blocks : List ℕ) (n : ℕ) → Below blocks → Contains blocks n → n < size
+  below_of blocks n all has = let at = all has.0 n has.1 in subst (λ m. m < size) has.2 at
+
+  fewer_inside : (areas : AreaList) (g : ℕ) → AreasInside size areas → AreasInside size (without_area areas g)
+  fewer_inside [] g inside = inside
+  fewer_inside (x ∷ xs) g inside = by (nat_eq x.0 g) (fewer_inside xs g (λ k d lt. inside (suc k) d (omega (arith, lt))))
+    where
+      by : (b : Bool) → AreasInside size (without_area xs g) → AreasInside size (cond b xs (x ∷ without_area xs g))
+      by true rest = λ k d lt. inside (suc k) d (omega (arith, lt))
+      by false rest = first rest
+        where
+          first : AreasInside size (without_area xs g) → AreasInside size (x ∷ without_area xs g)
+          first rest zero d lt = inside 0 x (omega arith)
+          first rest (suc k) d lt = rest k d (omega (arith, lt))
+
   -- of a fresh host
-  pub fresh_inside : (apps : List App) (free : List ℕ) → 130 ≤ size → size ≤ 1048576 → apps ≡ [] → free ≡ free_at_first size → (130 ≤ size) × (size ≤ 1048576) × AppsInside apps × Below free
-  fresh_inside apps free low high none all = (
+  pub fresh_inside : (apps : List App) (free : List ℕ) → 130 ≤ size → size ≤ 1048576 → apps ≡ [] → free ≡ free_at_first size → (table : Table) (failed : Bool) → table ≡ table_of [] → (130 ≤ size) × (size ≤ 1048576) × AppsInside apps × Below free × IsShared size table free failed
+  fresh_inside apps free low high none all table failed empty = (
     low,
     high,
     subst (λ (xs : List App). AppsInside xs) (sym none) (λ k d lt. absurd (omega (arith, lt))),
     subst (λ (xs : List ℕ). Below xs) (sym all) fresh_below,
+    fresh_shared size table free failed empty all,
   )
 
   one_inside : (g : ℕ) (area : Area) → Below area.spans → AreasInside size ((g, area) ∷ [])
   one_inside g area below zero d lt = below
   one_inside g area below (suc k) d lt = absurd (omega (arith, lt))
 
-  with_inside : (areas : AreaList) (g : ℕ) (area : Area) (o : Option Area) → AreasInside size areas → Below area.spans → AreasInside size (added_to areas g area o)
+  pub with_inside : (areas : AreaList) (g : ℕ) (area : Area) (o : Option Area) → AreasInside size areas → Below area.spans → AreasInside size (added_to areas g area o)
   with_inside areas g area None inside below = All-append (λ x. All (λ n. n < size) x.1.spans) areas ((g, area) ∷ []) inside (one_inside g area below)
   with_inside areas g area (Some old) inside below = inside
 
+  -- of one more application
+  pub app_inside : (apps now : List App) (app : App) → now ≡ apps ++ app ∷ [] → AppsInside apps → AreasInside size app.areas → AppsInside now
+  app_inside apps now app is inside its = subst (λ (xs : List App). AppsInside xs) (sym is) (All-append (λ x. AreasInside size x.areas) apps (app ∷ []) inside one)
+    where
+      one : AppsInside (app ∷ [])
+      one zero d lt = its
+      one (suc k) d lt = absurd (omega (arith, lt))
+
   -- of a host that granted the first of its free blocks
   pub granted_inside : (host : Host) (place : ℕ) (app app1 : App) (g blocks : ℕ) (area : Area) (rest : List ℕ) → place < length host.apps.items → get_or host.apps.items place app ≡ app → app1.areas ≡ with_area app.areas g area
-      → area.spans ≡ take blocks host.free → rest ≡ drop blocks host.free → IsInside size host → (130 ≤ size) × (size ≤ 1048576) × AppsInside (set host.apps.items place app1) × Below rest
-  granted_inside host place app app1 g blocks area rest lt at areas taken left inside =
+      → area.spans ≡ take blocks host.free → rest ≡ drop blocks host.free → IsInside size host → (table : Table) (failed : Bool) → IsShared size table rest failed
+      → (130 ≤ size) × (size ≤ 1048576) × AppsInside (set host.apps.items place app1) × Below rest × IsShared size table rest failed
+  granted_inside host place app app1 g blocks area rest lt at areas taken left inside table failed shared =
       let old : AreasInside size app.areas = subst (λ (x : App). AreasInside size x.areas) at
       (All-get_or (λ x. AreasInside size x.areas) host.apps.items place app lt inside.2) in
       let new : AreasInside size app1.areas = subst (λ (x : AreaList). AreasInside size x) (sym areas)
-      (with_inside app.areas g area (lookup (nat_eq g) app.areas) old (subst (λ (xs : List ℕ). Below xs) (sym taken) (All-take (λ n. n < size) blocks host.free inside.3))) in
-      (inside.0, inside.1, All-set (λ x. AreasInside size x.areas) host.apps.items place app1 new inside.2, subst (λ (xs : List ℕ). Below xs) (sym left) (All-drop (λ n. n < size) blocks host.free inside.3))
+      (with_inside app.areas g area (lookup (nat_eq g) app.areas) old (subst (λ (xs : List ℕ). Below xs) (sym taken) (All-take (λ n. n < size) blocks host.free inside.3))) in (
+        inside.0,
+        inside.1,
+        All-set (λ x. AreasInside size x.areas) host.apps.items place app1 new inside.2,
+        subst (λ (xs : List ℕ). Below xs) (sym left) (All-drop (λ n. n < size) blocks host.free inside.3),
+        shared,
+      )
 
   -- of a host that took its free blocks in vain
-  pub taken_inside : (host : Host) (blocks : ℕ) (rest : List ℕ) → rest ≡ drop blocks host.free → IsInside size host → (130 ≤ size) × (size ≤ 1048576) × AppsInside host.apps.items × Below rest
-  taken_inside host blocks rest left inside = (inside.0, inside.1, inside.2, subst (λ (xs : List ℕ). Below xs) (sym left) (All-drop (λ n. n < size) blocks host.free inside.3))
+  pub taken_inside : (host : Host) (blocks : ℕ) (rest : List ℕ) → rest ≡ drop blocks host.free → IsInside size host → (table : Table) → table ≡ host.table
+      → (130 ≤ size) × (size ≤ 1048576) × AppsInside host.apps.items × Below rest × IsShared size table rest true
+  taken_inside host blocks rest left inside table same = (
+    inside.0,
+    inside.1,
+    inside.2,
+    subst (λ (xs : List ℕ). Below xs) (sym left) (All-drop (λ n. n < size) blocks host.free inside.3),
+    subst (λ (t : Table). IsShared size t rest true) (sym same) (failed_shared size host.table host.free host.failed inside.4 rest),
+  )
+
+  -- of a host that gave an area up
+  pub gone_inside : (host : Host) (place : ℕ) (app app1 : App) (g : ℕ) (free : List ℕ) (table : Table) (failed : Bool) → place < length host.apps.items → get_or host.apps.items place app ≡ app → app1.areas ≡ without_area app.areas g
+      → Below free → IsShared size table free failed → IsInside size host → (130 ≤ size) × (size ≤ 1048576) × AppsInside (set host.apps.items place app1) × Below free × IsShared size table free failed
+  gone_inside host place app app1 g free table failed lt at areas below shared inside =
+      let old : AreasInside size app.areas = subst (λ (x : App). AreasInside size x.areas) at
+      (All-get_or (λ x. AreasInside size x.areas) host.apps.items place app lt inside.2) in
+      let new : AreasInside size app1.areas = subst (λ (x : AreaList). AreasInside size x) (sym areas) (fewer_inside app.areas g old) in
+      (inside.0, inside.1, All-set (λ x. AreasInside size x.areas) host.apps.items place app1 new inside.2, below, shared)
+
+  -- the blocks that are given back lie there
+  pub given_below : (old new spans : List ℕ) → Below old → Below spans → Gains old new spans → Below new
+  given_below old new spans first more gains k d lt =
+      let n = get_or new k d in
+      ⊎_elim (λ was. below_of old n first was) (λ its. below_of spans n more its) ((gains n).0 (Contains-get_or new k d lt))

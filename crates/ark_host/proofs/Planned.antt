@@ -16,7 +16,7 @@ use Rattle.ark_machine.specs.Follow.{WritesAt, IsSync, Makes, Follow, is_repeate
 use Rattle.ark_held.specs.Beside.{AreBeside}
 use Rattle.ark_held.proofs.Settling.{has_synced}
 
-abbrev Plan : Type 0
+abbrev pub Plan : Type 0
 Plan = List calls.Call
 
 -- how each call ended
@@ -63,7 +63,7 @@ made_sync (c ∷ plan) ok (e ∷ es) (inr made) = sync_of c false e es made.0 (s
 
 -- Which blocks the calls write.
 
-abbrev WritesNone : List ℕ → Plan → Type 0
+abbrev pub WritesNone : List ℕ → Plan → Type 0
 WritesNone blocks [] = Unit {0}
 WritesNone blocks (calls.Writes n content ∷ plan) = (Contains blocks n → ⊥) × WritesNone blocks plan
 WritesNone blocks (calls.Reads n ∷ plan) = WritesNone blocks plan
@@ -79,7 +79,7 @@ later_none blocks (calls.Reads n) plan none = none
 later_none blocks (calls.Writes n content) plan none = none.1
 later_none blocks calls.Syncs plan none = none
 
-made_beside : (blocks : List ℕ) (plan : Plan) (ok : Bool) (es : List Event) → WritesNone blocks plan → Made plan ok es → AreBeside blocks es
+pub made_beside : (blocks : List ℕ) (plan : Plan) (ok : Bool) (es : List Event) → WritesNone blocks plan → Made plan ok es → AreBeside blocks es
 made_beside blocks [] ok [] none made = tt
 made_beside blocks [] ok (e ∷ es) none made = absurd made
 made_beside blocks (c ∷ plan) ok [] none made = absurd made
@@ -106,14 +106,14 @@ grant_syncs i a (n ∷ added) (e ∷ es) (inr made) = absurd (false≢true (sym 
 -- The line's calls are these.
 
 module _ (s : System) (a : List ℕ) (line : Line) where
-  writes_at : (place : Option ℕ) (n : ℕ) (content wanted : List ℕ) (ok : Bool) (e : Event) → Comes (calls.Writes n content) ok e → place ≡ Some n → content ≡ wanted → WritesAt place wanted e
+  pub writes_at : (place : Option ℕ) (n : ℕ) (content wanted : List ℕ) (ok : Bool) (e : Event) → Comes (calls.Writes n content) ok e → place ≡ Some n → content ≡ wanted → WritesAt place wanted e
   writes_at place n content wanted ok e is at same = subst (λ (x : Event). WritesAt place wanted x) (sym is.2) (at, same, is.1)
 
-  syncs_at : (ok : Bool) (e : Event) → Comes calls.Syncs ok e → IsSync e
+  pub syncs_at : (ok : Bool) (e : Event) → Comes calls.Syncs ok e → IsSync e
   syncs_at ok e is = subst (λ (x : Event). IsSync x) (sym is) tt
 
   -- one call, and those behind it
-  step : (c : Call) (cs : List Call) (call : calls.Call) (plan : Plan) (ok : Bool) (e : Event) (es : List Event) → is_repeated c ≡ false → ((b : Bool) → Comes call b e → Makes s a line c e) → (Made plan ok es → Follow s a line cs es) → Made (call ∷ plan) ok (e ∷ es) → Follow s a line (c ∷ cs) (e ∷ es)
+  pub step : (c : Call) (cs : List Call) (call : calls.Call) (plan : Plan) (ok : Bool) (e : Event) (es : List Event) → is_repeated c ≡ false → ((b : Bool) → Comes call b e → Makes s a line c e) → (Made plan ok es → Follow s a line cs es) → Made (call ∷ plan) ok (e ∷ es) → Follow s a line (c ∷ cs) (e ∷ es)
   step c cs call plan ok e es once makes rest (inl made) = goes_on {c = c} {cs = cs} {e = e} {es = es} (makes true made.0) (came_ok call true e made.0).0 once (rest made.1)
   step c cs call plan ok e es once makes rest (inr made) = subst (λ (x : List Event). Follow s a line (c ∷ cs) (e ∷ x)) (sym made.2) (fails {c = c} {cs = cs} {e = e} (makes false made.0) (came_ok call false e made.0).0)
 

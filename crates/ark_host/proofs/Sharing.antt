@@ -11,7 +11,7 @@ use Rattle.ark_host.proofs.Freeing.{eq_same}
 granted_in : (ss : List Slot) (t : Slot) (n : ℕ) → In ss t → has_block t.blocks n ≡ true → is_granted ss n ≡ true
 granted_in ss t n among has = any_in (λ s. has_block s.blocks n) ss t among has
 
-same_slot : (ss : List Slot) (t u : Slot) (n : ℕ) → SlotsApart ss → In ss t → In ss u → has_block t.blocks n ≡ true → has_block u.blocks n ≡ true → t ≡ u
+pub same_slot : (ss : List Slot) (t u : Slot) (n : ℕ) → SlotsApart ss → In ss t → In ss u → has_block t.blocks n ≡ true → has_block u.blocks n ≡ true → t ≡ u
 same_slot [] t u n apart a b x y = absurd a
 same_slot (s ∷ ss) t u n apart (inl a) (inl b) x y = sym a ∙ b
 same_slot (s ∷ ss) t u n apart (inl a) (inr b) x y = absurd (false≢true (sym (apart.0.1 n (ap (λ (z : Slot). has_block z.blocks n) a ∙ x)) ∙ granted_in ss u n b y))

@@ -2,16 +2,21 @@
 use Rattle.std.proofs.Common.{◌≡◌, inl, inr, ℕ, ◌<◌, List, [], ◌∷◌, ◌++◌, refl, sym, subst, arith, Contains}
 use Rattle.std.specs.Prelude.{Option, Some, None}
 use Rattle.std.proofs.lemmas.Bool.{cases_lt}
+use Rattle.ark_base.specs.declared.kind.Kind.{Kind}
+use Rattle.ark_base.specs.declared.kind.Kind.TheVariants as kind
 use Rattle.ark_extents.proofs.RunLemmas.{blocks_of-runs_of}
-use Rattle.ark_media.specs.Journal.{Event, Read, Write, Sync, Out, History, device_events}
+use Rattle.ark_media.specs.Journal.{Event, Read, Write, Sync, Out, History, block, device_events}
 use Rattle.ark_table.specs.Slots.{Slot, area_of}
-use Rattle.ark_table.specs.Standing.{IsWritten, Spare, creates}
+use Rattle.ark_table.specs.Standing.{IsWritten, Spare, creates, removes}
 use Rattle.ark_table.proofs.Standing.{stays, stays_unsettled, written_left}
+use Rattle.ark_machine.specs.Objects.{Object}
 use Rattle.ark_machine.specs.Plane.{Change, makes, grows, drops}
 use Rattle.ark_media.specs.Standing.{after}
 use Rattle.ark_held.specs.Beside.{AreBeside}
-use Rattle.ark_held.proofs.Besides.{not_silent}
-use Rattle.ark_host.specs.Tabled.{table_of, TableStands, unsettled_blocks}
+use Rattle.ark_held.specs.Keeps.{SameAt}
+use Rattle.ark_held.proofs.Besides.{not_silent, same_beside}
+use Rattle.ark_held.proofs.Members.{contains_in}
+use Rattle.ark_host.specs.Tabled.{table_of, LeavesAs, LeavesObject, TableStands, unsettled_blocks}
 
 -- a block that no event writes
 pub not_written : (blocks : List ℕ) (es : List Event) (n : ℕ) → AreBeside blocks es → Contains blocks n → IsWritten n es → ⊥
@@ -50,10 +55,30 @@ spare_of blocks es table beside n written = (
 pub spare_front : (blocks : List ℕ) (front back : List Event) → Spare blocks (front ++ back) → Spare blocks front
 spare_front blocks front back spare n written = spare n (written_left n front back written)
 
+-- events that spare blocks are beside them
+spare_beside : (blocks : List ℕ) (es : List Event) → Spare blocks es → AreBeside blocks es
+spare_beside blocks [] spare = tt
+spare_beside blocks (Write m content took ok ∷ es) spare = ((spare m (inl refl)).1, spare_beside blocks es (λ n later. spare n (inr later)))
+spare_beside blocks (Read m ok ∷ es) spare = spare_beside blocks es spare
+spare_beside blocks (Sync ok ∷ es) spare = spare_beside blocks es spare
+spare_beside blocks (Out bytes ∷ es) spare = spare_beside blocks es spare
+
+-- what a stop leaves of a slot's blocks stays
+as_stays : (h now : History) (blocks : List ℕ) (k : Kind) (o : Option Object) → SameAt h now blocks → LeavesAs h blocks k o → LeavesAs now blocks k o
+as_stays h now blocks kind.Raw o same left = λ k lt c may. left k lt c ((same k lt).1 c may)
+as_stays h now blocks kind.Log o same left = λ contents shown. left contents (record { size = shown.size; each = λ k lt. (same k lt).1 (block contents k) (shown.each k lt) })
+as_stays h now blocks kind.Queue o same left = λ contents shown. left contents (record { size = shown.size; each = λ k lt. (same k lt).1 (block contents k) (shown.each k lt) })
+
+pub left_stays : (h : History) (t : Slot) (o : Option Object) (es : List Event) → LeavesObject h t o → AreBeside t.blocks es → LeavesObject (after h es) t o
+left_stays h t o es leaves beside = record { inside = leaves.inside; left = as_stays h (after h es) t.blocks t.kind o (same_beside h es t.blocks leaves.inside beside) leaves.left }
+
 -- the table stays, and so does a change that a stop decides
 pub table_stays : (h : History) (slots : List Slot) (u : Option Change) (es : List Event) → TableStands h slots u → Spare (unsettled_blocks u) es → TableStands (after h es) slots u
 table_stays h slots None es stands spare = stays h (table_of slots) es stands spare
 table_stays h slots (Some (makes t)) es stands spare =
     stays_unsettled h (table_of slots) (creates t.index (area_of t)) es stands (subst (λ (bs : List ℕ). Spare bs es) (sym (blocks_of-runs_of t.blocks)) spare)
 table_stays h slots (Some (grows t more)) es stands spare = absurd stands
-table_stays h slots (Some (drops t o)) es stands spare = absurd stands
+table_stays h slots (Some (drops t o)) es stands spare = (
+  stays_unsettled h (table_of (t ∷ slots)) (removes t.index) es stands.0 (λ n written. ((spare n written).0, λ has. contains_in [] n has)),
+  left_stays h t o es stands.1 (spare_beside t.blocks es spare),
+)

@@ -46,7 +46,7 @@ early_plane : (e : Refusal) (p : Plane) (m : Machine) (a l : List ℕ) (n : ℕ)
 early_plane r.DeviceFault p m a l n k early = absurd early
 early_plane _ p m a l n k early = refl
 
-early_enough : (e : Refusal) → IsEarly e → wants_memory (said.Refused e) ≡ false
+pub early_enough : (e : Refusal) → IsEarly e → wants_memory (said.Refused e) ≡ false
 early_enough r.NoMemory early = absurd early
 early_enough _ early = refl
 
@@ -126,7 +126,7 @@ module _ (host now : Host) (told : Told) (a l : List ℕ) (n : ℕ) (k : Kind) (
     fronts = fronts false made;
   }
 
-  pub steps_granted : plan true → (app1 : App) → app1.labels ≡ app.labels ++ (l, new_area_cap host.grants) ∷ [] → app1.areas ≡ with_area app.areas host.grants (record { kind = k; spans = spans }) → app1.store.region ≡ app.store.region → app1.store.buffers ≡ app.store.buffers → app1.devices ≡ app.devices → app1.name ≡ app.name
+  pub steps_granted : plan true → (app1 : App) → app1.labels ≡ app.labels ++ (l, new_area_cap host.grants) ∷ [] → app1.areas ≡ with_area app.areas host.grants (record { kind = k; slot = i; spans = spans }) → app1.store.region ≡ app.store.region → app1.store.buffers ≡ app.store.buffers → app1.devices ≡ app.devices → app1.name ≡ app.name
       → now.apps.items ≡ set host.apps.items place app1 → now.free ≡ drop n host.free → now.table ≡ with_slot host.table i (Some (record { app = a; label = l; kind = k; runs = runs_of spans })) → now.failed ≡ host.failed → now.grants ≡ host.grants + 1 → now.clock ≡ host.clock
       → Steps host now told (Ok (w.vsa a l n k)) es said.Ok []
   steps_granted made app1 labels held region buffers devices name items free tables failed grants clock = record {

@@ -16,13 +16,13 @@ use Rattle.ark_held.specs.Totals.{bit}
 use Rattle.ark_held.proofs.Members.{In, contains_in, in_contains}
 use Rattle.ark_host.specs.Tabled.{table_of, slot_count}
 
-same_some : {X : Type 0} (x y : X) → Some x ≡ Some y → x ≡ y
+pub same_some : {X : Type 0} (x y : X) → Some x ≡ Some y → x ≡ y
 same_some x y e = ap (λ o. unwrap_or o x) e
 
-none_some : {X : Type 0} (x : X) → ◌≡◌ {A = Option X} None (Some x) → ⊥
+pub none_some : {X : Type 0} (x : X) → ◌≡◌ {A = Option X} None (Some x) → ⊥
 none_some x e = false≢true (ap is_some e)
 
-none_in : (k : ℕ) → area_at (table_of []) k ≡ None
+pub none_in : (k : ℕ) → area_at (table_of []) k ≡ None
 none_in k = elim (cases_lt k 128) [
   | inl lt ↦ get_or-replicate {A = Option Area} 128 k None None lt
   | inr past ↦ get_or_past (replicate 128 None) k None past
@@ -157,7 +157,7 @@ slots_set (None ∷ table) i (suc k) a free lt = slots_set table (i + 1) k a fre
 slots_set (Some b ∷ table) i zero a free lt = absurd (none_some b (sym free))
 slots_set (Some b ∷ table) i (suc k) a free lt = let rest = slots_set table (i + 1) k a free (omega (arith, lt)) in omega (arith, rest)
 
-slots_most : (table : Table) (i : ℕ) → length (slots_in i table) ≤ length table
+pub slots_most : (table : Table) (i : ℕ) → length (slots_in i table) ≤ length table
 slots_most [] i = omega arith
 slots_most (None ∷ table) i = let rest = slots_most table (i + 1) in omega (arith, rest)
 slots_most (Some a ∷ table) i = let rest = slots_most table (i + 1) in omega (arith, rest)
@@ -212,7 +212,7 @@ count_more a (s ∷ slots) t = omega (arith, count_more a slots t)
 
 -- One slot more, behind the others.
 
-set_swap : {X : Type 0} (xs : List X) (i j : ℕ) (a b : X) → (i ≡ j → ⊥) → set (set xs i a) j b ≡ set (set xs j b) i a
+pub set_swap : {X : Type 0} (xs : List X) (i j : ℕ) (a b : X) → (i ≡ j → ⊥) → set (set xs i a) j b ≡ set (set xs j b) i a
 set_swap [] i j a b differ = refl
 set_swap (x ∷ xs) zero zero a b differ = absurd (differ refl)
 set_swap (x ∷ xs) zero (suc j) a b differ = refl

@@ -64,6 +64,14 @@ impl<T> Objects<T> {
         self.slots.len() >= ROOM
     }
 
+    /// The keys end here: no object has this one or a greater one.
+    pub fn end(&self) -> u32
+        ensures few { result ≤ 4096 }
+        ensures past { (key : ℕ) → result ≤ key → at self.now key ≡ None }
+    {
+        self.slots.capacity() as u32
+    }
+
     /// Keeps an object, and tells its key.
     pub fn put(&mut self, object: T) -> u32
         requires { held self.old < 64 }

@@ -106,12 +106,15 @@ module _ (app : App) (l : List ℕ) (key : ℕ) (is : Ok key ≡ card_key app.la
     pub log_same : has_log y.machine l ≡ is_some one.log
     log_same = log_is y.machine l (is_some v.fits.card.log) v.fits.log ∙ ap (λ (k : CardKept). is_some k.log) entry_same
 
-    pub full_same : is_ring_full y.machine l ≡ nat_le one.vsic.ring.size (members one.vsic.ring)
-    full_same =
+    pub count_same : held_in v.vsic.queue ≡ members one.vsic.ring
+    count_same =
         let posted = each_length (IsJob (around y app) v.fits.card.log) v.fits.card.ring.posted v.vsic.queue.posted v.fits.posted in
         let unreaped = each_length (IsEnded (around y app)) v.fits.card.ring.unreaped v.vsic.queue.unreaped v.fits.unreaped in
         let count : held_in v.vsic.queue ≡ members v.fits.card.ring = omega (arith, posted, unreaped) in
-        rw (v.there, v.object) (ap (λ n. nat_le n (held_in v.vsic.queue)) v.fits.size ∙ ap (λ n. nat_le v.fits.card.ring.size n) count ∙ ap (λ (k : CardKept). nat_le k.ring.size (members k.ring)) entry_same)
+        count ∙ ap (λ (k : CardKept). members k.ring) entry_same
+
+    pub full_same : is_ring_full y.machine l ≡ nat_le one.vsic.ring.size (members one.vsic.ring)
+    full_same = rw (v.there, v.object) (ap (λ n. nat_le n (held_in v.vsic.queue)) (v.fits.size ∙ ap (λ (k : CardKept). k.ring.size) entry_same) ∙ ap (λ n. nat_le one.vsic.ring.size n) count_same)
 
     -- what a change leaves of the card's own content
     module _ (now : Around) (keeps : Keeps (but l) any_label any_piece (around y app) now) where

@@ -1,9 +1,19 @@
 ghost use Rattle.std.specs.Prelude.{◌≡◌};
-ghost use Rattle.ark_own.specs.Keys.{card_and_door, card_key, door_given, door_key};
+ghost use Rattle.ark_own.specs.Keys.{cap_at, card_and_door, card_key, door_given, door_key};
 
 use ark_base::{Label, Refusal};
-use ark_caps::CapKind;
+use ark_caps::{CapKind, Capability};
 use ark_held::App;
+
+/// What a label stands for.
+pub fn cap_of(app: &App, label: &Label) -> Result<Capability, Refusal>
+    ensures cap { result ≡ cap_at app.now.labels label.now }
+{
+    match app.labels.get(label) {
+        Some(cap) => Ok(cap),
+        None => Err(Refusal::NoGrant(*label)),
+    }
+}
 
 /// The key of the door under a label.
 pub fn key_of_door(app: &App, label: &Label) -> Result<u32, Refusal>

@@ -48,6 +48,86 @@ vsa a h 1 raw => ok
 vsa a i 1 raw => refused 7 limit
 vsa a h 1 raw => refused 4 name taken";
 
+/// What is given up is free again, its lowest blocks first, and its slot and label are; what others hold stays. A buffer is not given up so.
+pub(crate) const GIVEN_UP: &str = "\
+run,--new,135,d => ready 135 0
+app a => ok
+vsa a s 2 raw => ok
+vsa a t 4 raw => ok
+poke a s 1 0a => ok
+poke a t 3 0b => ok
+drop a s => ok
+drop a s => refused 5 no grant s
+peek a s 1 => refused 5 no grant s
+vsa a u 3 raw => refused 10 no space
+vsa a u 2 raw => ok
+peek a u 1 => ok -
+peek a t 3 => ok 0b
+
+run,--new,200,d => ready 200 0
+app a => ok
+app b => ok
+vsa a s 1 raw => ok
+vsa b s 1 raw => ok
+poke b s 0 0b => ok
+drop b t => refused 5 no grant t
+drop c s => refused 3 no application
+drop a s => ok
+peek b s 0 => ok 0b
+drop b s => ok
+drop b s => refused 5 no grant s
+
+run,--new,200,d => ready 200 0
+app a => ok
+vsa a a 1 raw => ok
+vsa a b 1 raw => ok
+vsa a c 1 raw => ok
+vsa a d 1 raw => ok
+vsa a e 1 raw => ok
+vsa a f 1 raw => ok
+vsa a g 1 raw => ok
+vsa a h 1 raw => ok
+poke a c 0 0c => ok
+poke a e 0 0e => ok
+vsa a i 1 raw => refused 7 limit
+drop a d => ok
+vsa a i 1 raw => ok
+peek a c 0 => ok 0c
+peek a e 0 => ok 0e
+peek a i 0 => ok -
+drop a i => ok
+drop a a => ok
+vsa a d 2 raw => ok
+peek a c 0 => ok 0c
+peek a d 1 => ok -
+
+run,--new,200,d => ready 200 0
+app a 4 => ok
+buf a b 9 => ok
+drop a b => refused 6 wrong kind
+vsa a s 1 raw => ok
+drop a s => ok
+drop a => refused 1 syntax
+drop a s t => refused 1 syntax
+free a b => ok
+
+run,--new,135,d => ready 135 0
+app a => ok
+vsa a l 4 log => ok
+vsa a q 2 queue => ok
+vsa a r 1 raw => refused 10 no space
+drop a l => ok
+drop a l => refused 5 no grant l
+vsa a r 4 raw => ok
+peek a r 3 => ok -
+poke a r 0 0c => ok
+drop a q => ok
+vsa a l 2 log => ok
+drop a r => ok
+vsa a q 4 queue => ok
+peek a q 0 => refused 6 wrong kind
+drop a q => ok";
+
 /// A block is read as it was written, without the zeros at its end.
 pub(crate) const BLOCKS: &str = "\
 run,--new,200,d => ready 200 0

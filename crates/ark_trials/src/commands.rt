@@ -18,9 +18,6 @@ app a
  => fault usage
 app a
 
-run,d => fault usage
-app a
-
 run,--new,200 => fault usage
 app a
 

@@ -116,6 +116,25 @@ const ONE_LINE_ENDS: &str = "\
 5 0 16 => ready 200 0/ok/: 3 4 0
 4 0 0,5 0 6 => ready 200 0/fault : 2 4 0";
 
+/// A script that gives an area up and grants its block again.
+const GONE: &[u8] = b"\
+app a
+vsa a s 1 raw
+poke a s 0 07
+drop a s
+vsa a t 1 raw
+";
+
+/// The same of it. Behind the put of the poke come the write of the slot, its sync and the put, and the calls of the second grant.
+const GONE_ENDS: &str = "\
+13 0 0 => ready 200 0/ok/ok/ok/refused 21 device fault/refused 22 table failed/: 0 14 7
+13 1 0 => ready 200 0/ok/ok/ok/refused 21 device fault/refused 22 table failed/: 0 14 7
+14 0 0 => ready 200 0/ok/ok/ok/refused 21 device fault/refused 22 table failed/: 0 15 7
+15 0 0 => ready 200 0/ok/ok/ok/: 3 14 7
+16 0 0 => ready 200 0/ok/ok/ok/ok/refused 21 device fault/: 0 16 7
+16 1 0 => ready 200 0/ok/ok/ok/ok/refused 21 device fault/: 0 16 0
+21 0 0 => ready 200 0/ok/ok/ok/ok/ok/fault source/: 2 20 0";
+
 // The numbers that stand in a text with a space between two. What is no number is the greatest.
 fn numbers(text: &str) -> [u32; 3] {
     let mut numbers = [u32::MAX; 3];
@@ -170,6 +189,7 @@ fn other_end<'a>(alloc: Global, script: &[u8], table: &'a str) -> Result<Option<
 fn ends_as_each_call_fails(rt: HostRuntime) -> Result<(), Failure> {
     let alloc = rt.alloc();
     assert_eq!(rt; other_end(alloc, AREA, AREA_ENDS)?, None);
+    assert_eq!(rt; other_end(alloc, GONE, GONE_ENDS)?, None);
     assert_eq!(rt; other_end(alloc, b"app a\napp a\n", NAMES_ENDS)?, None);
     assert_eq!(rt; other_end(alloc, b"app a\n", ONE_LINE_ENDS)?, None);
     Ok(())

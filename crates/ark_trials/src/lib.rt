@@ -13,6 +13,8 @@ mod formatted;
 #[cfg(test)]
 mod lines;
 #[cfg(test)]
+mod reopened;
+#[cfg(test)]
 mod runs;
 #[cfg(test)]
 mod stops;

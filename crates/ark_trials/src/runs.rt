@@ -24,17 +24,28 @@ pub(crate) struct Finished {
     pub(crate) world: MemoryWorld,
 }
 
-/// A run of these words on this script, with ample room and these failures.
+/// A run of these words on a device that is there and on this script, with ample room and these failures.
+pub(crate) fn run_on(
+    alloc: Global,
+    device: &[u8],
+    words: &str,
+    script: &[u8],
+    plan: &[Fail],
+) -> Result<Finished, Failure> {
+    let words = words_of(alloc, words)?;
+    let mut world = MemoryWorld::new(alloc, device, 4096, script, plan, 400, 8000)?;
+    let status = arrakis(alloc, &words, &mut world);
+    Ok(Finished { status, world })
+}
+
+/// The same where no device is there.
 pub(crate) fn run_words(
     alloc: Global,
     words: &str,
     script: &[u8],
     plan: &[Fail],
 ) -> Result<Finished, Failure> {
-    let words = words_of(alloc, words)?;
-    let mut world = MemoryWorld::new(alloc, b"", 4096, script, plan, 400, 8000)?;
-    let status = arrakis(alloc, &words, &mut world);
-    Ok(Finished { status, world })
+    run_on(alloc, b"", words, script, plan)
 }
 
 /// `run --new 200 d` on this script.

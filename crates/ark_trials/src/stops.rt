@@ -1,6 +1,6 @@
 //! What a stop leaves of a run's device, against images that are put together write by write.
 
-use crate::runs::run;
+use crate::runs::{run, run_on};
 use ark_memory::{Event, Fail, MemoryWorld};
 use std::alloc::Global;
 use std::test::Fail as Failure;
@@ -114,5 +114,40 @@ fn leaves_nothing_else(rt: HostRuntime) -> Result<(), Failure> {
     let failed = run(rt.alloc(), SCRIPT, &plan)?;
     assert!(rt; failed.world.may_leave(2, &fresh));
     assert!(rt; failed.world.may_leave(2, &formatted));
+    Ok(())
+}
+
+// What a later run puts out on the device that is left at a front, where these writes since the last sync were kept.
+fn replies_at(front: u32, kept: &[bool; 4]) -> &'static str {
+    if front < 10 || (front == 10 && !kept[0]) {
+        return "ready 200 0\nok\nrefused 5 no grant site\nrefused 5 no grant site\n";
+    }
+    let first = front >= 13 && kept[0];
+    let second = front >= 15 && kept[1];
+    let third = front >= 17 && kept[2];
+    match (first, second, third) {
+        (false, false, false) => "ready 200 1\nok\nok -\nok -\n",
+        (true, false, false) => "ready 200 1\nok\nok 01\nok -\n",
+        (_, false, true) => "ready 200 1\nok\nok 03\nok -\n",
+        (false, true, false) => "ready 200 1\nok\nok -\nok 02\n",
+        (true, true, false) => "ready 200 1\nok\nok 01\nok 02\n",
+        (_, true, true) => "ready 200 1\nok\nok 03\nok 02\n",
+    }
+}
+
+// From before the slot is written on, a later run finds the slot and the blocks of each device that a stop may leave.
+#[test]
+fn opens_after_each_stop(rt: HostRuntime) -> Result<(), Failure> {
+    let done = run(rt.alloc(), SCRIPT, &[])?;
+    for front in 9..=18u32 {
+        // none, all, and each alone
+        for choice in [0, 7, 1, 2, 4u32] {
+            let kept = [choice & 1 != 0, choice & 2 != 0, choice & 4 != 0, false];
+            let image = image_at(rt.alloc(), &done.world, front, &kept)?;
+            let script = b"app a\npeek a site 0\npeek a site 1\n";
+            let later = run_on(rt.alloc(), &image, "run,d", script, &[])?;
+            assert_eq!(rt; later.world.out(), replies_at(front, &kept).as_bytes());
+        }
+    }
     Ok(())
 }

@@ -1,11 +1,12 @@
 //! Tables of runs. A run is a block of rows, and an empty row stands between two. Its first row has the words of the command
 //! with the first reply behind them, and each other row a line of the script with its reply, if it has one.
 
-use crate::areas::{BLOCKS, GRANTS};
+use crate::areas::{BLOCKS, GIVEN_UP, GRANTS};
 use crate::commands::{COMMANDS, OTHER_WORDS};
 use crate::lines::{EMPTY_LINES, LINES};
-use crate::runs::{Finished, run_words};
-use crate::words::{CARDS_AND_DOORS, EVERY_WORD, FRAMES, TICKS, WORDS_TO_COME};
+use crate::reopened::REOPENED;
+use crate::runs::{Finished, run_on};
+use crate::words::{CARDS_AND_DOORS, DEVICES_GIVEN_UP, EVERY_WORD, FRAMES, TICKS, WORDS_TO_COME};
 use ark_base::Status;
 use std::alloc::Global;
 use std::test::Fail;
@@ -36,12 +37,12 @@ fn script_of(alloc: Global, rows: &str, last: LastLine) -> Result<String, Fail> 
     Ok(script)
 }
 
-// The run of a block.
-fn played(alloc: Global, block: &str, last: LastLine) -> Result<Finished, Fail> {
+// The run of a block, on a device that is there.
+fn played(alloc: Global, device: &[u8], block: &str, last: LastLine) -> Result<Finished, Fail> {
     let (head, rows) = block.split_once('\n').unwrap_or((block, ""));
     let (words, _) = head.split_once(BESIDE).unwrap_or((head, ""));
     let script = script_of(alloc, rows, last)?;
-    run_words(alloc, words, script.as_bytes(), &[])
+    run_on(alloc, device, words, script.as_bytes(), &[])
 }
 
 // The first row of a block whose reply did not come out, or the whole block where more came out.
@@ -67,7 +68,7 @@ fn other_row(
     status: Status,
 ) -> Result<Option<&str>, Fail> {
     for block in table.split("\n\n") {
-        let done = played(alloc, block, last)?;
+        let done = played(alloc, b"", block, last)?;
         // Words that are no command make, attach and fetch nothing: the closing line is all that comes.
         let is_alone = done.world.events() == 1;
         if done.status != status || (status == Status::Usage) != is_alone {
@@ -91,8 +92,10 @@ fn answers_as_the_tables_say(rt: HostRuntime) -> Result<(), Fail> {
         WORDS_TO_COME,
         EVERY_WORD,
         CARDS_AND_DOORS,
+        DEVICES_GIVEN_UP,
         GRANTS,
         BLOCKS,
+        GIVEN_UP,
     ] {
         let whole = other_row(alloc, table, LastLine::Whole, Status::Done)?;
         assert_eq!(rt; whole, None);
@@ -103,5 +106,30 @@ fn answers_as_the_tables_say(rt: HostRuntime) -> Result<(), Fail> {
     assert_eq!(rt; empty, None);
     let refused = other_row(alloc, OTHER_WORDS, LastLine::Whole, Status::Usage)?;
     assert_eq!(rt; refused, None);
+    Ok(())
+}
+
+// The first row of a table whose reply is another one, where each run is on the device that the one before left; a whole block
+// whose status is not 0.
+fn other_row_after(alloc: Global, table: &str) -> Result<Option<&str>, Fail> {
+    let mut device = Vec::new(alloc);
+    for block in table.split("\n\n") {
+        let done = played(alloc, &device, block, LastLine::Whole)?;
+        if done.status != Status::Done {
+            return Ok(Some(block));
+        }
+        if let Some(row) = unanswered(block, done.world.out()) {
+            return Ok(Some(row));
+        }
+        device.clear();
+        device.extend_from_slice(done.world.image())?;
+    }
+    Ok(None)
+}
+
+#[test]
+fn finds_what_an_earlier_run_left(rt: HostRuntime) -> Result<(), Fail> {
+    let other = other_row_after(rt.alloc(), REOPENED)?;
+    assert_eq!(rt; other, None);
     Ok(())
 }

@@ -67,9 +67,6 @@ run,--new,200,d => ready 200 0
 recv a k => refused 2 unknown word
 
 run,--new,200,d => ready 200 0
-drop a s => refused 2 unknown word
-
-run,--new,200,d => ready 200 0
 grow a s 1 => refused 2 unknown word
 
 run,--new,200,d => ready 200 0
@@ -116,7 +113,11 @@ vsa b s 1 raw => ok
 poke b s 0 0b => ok
 peek a s 1 => ok 0aff
 peek b s 0 => ok 0b
-vsa b t 300 raw => refused 10 no space";
+vsa b t 300 raw => refused 10 no space
+drop a s => ok
+peek a s 1 => refused 5 no grant s
+vsa b t 2 raw => ok
+peek b t 1 => ok -";
 
 /// Storage cards and doors: each refusal, and the nearest line that is accepted.
 pub(crate) const CARDS_AND_DOORS: &str = "\
@@ -180,3 +181,54 @@ app b 4 => ok
 vsic b v 2 => ok
 flush b v1 => refused 5 no grant v1
 flush a v8 => ok";
+
+/// Cards and doors that are given up, unless they are in use.
+pub(crate) const DEVICES_GIVEN_UP: &str = "\
+run,--new,200,d => ready 200 0
+app a 4 => ok
+vsic a v 2 => ok
+door a d => ok
+watch a v d io => ok
+drop a d => refused 16 busy
+drop b d => refused 3 no application
+drop a e => refused 5 no grant e
+watch a v - io => ok
+drop a d => ok
+drop a d => refused 5 no grant d
+look a d => refused 5 no grant d
+watch a v d io => refused 5 no grant d
+door a d => ok
+look a d => ok 0 0 0
+watch a v d io => ok
+drop a v => ok
+dev a v => refused 5 no grant v
+drop a d => ok
+vsic a v 4 => ok
+flush a v => ok
+drop a v => refused 16 busy
+dev a v => done ok
+drop a v => refused 16 busy
+drop a v => refused 16 busy
+dev a v => idle
+
+run,--new,200,d => ready 200 0
+app a 4 => ok
+vsic a v1 2 => ok
+vsic a v2 2 => ok
+vsic a v3 2 => ok
+vsic a v4 2 => ok
+vsic a v5 2 => ok
+vsic a v6 2 => ok
+vsic a v7 2 => ok
+vsic a v8 2 => ok
+flush a v4 => ok
+flush a v6 => ok
+vsic a v9 2 => refused 7 limit
+drop a v5 => ok
+vsic a v9 8 => ok
+vsic a v5 2 => refused 7 limit
+flush a v9 => ok
+dev a v6 => done ok
+dev a v4 => done ok
+drop a v1 => ok
+drop a v9 => refused 16 busy";

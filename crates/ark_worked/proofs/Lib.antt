@@ -9,6 +9,7 @@ pub mod Dropping
 pub mod FailedGrant
 pub mod FailedMarker
 pub mod Frames
+pub mod GivenUp
 pub mod Images
 pub mod Labels
 pub mod Lawful

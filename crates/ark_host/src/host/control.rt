@@ -42,6 +42,10 @@ impl Host {
                 let said = self.vsa(name, label, *blocks, *kind, disk);
                 say(out, said);
             }
+            Step::Drop(name, label) => {
+                let said = self.drop_object(name, label, disk);
+                say(out, said);
+            }
             Step::Tick(ticks) => {
                 let said = self.tick(*ticks);
                 say(out, said);

@@ -25,6 +25,16 @@ returns-in-Vsa-clause-answers g c =
           c.say-in-Vsa.ensures.said c.say-in-Vsa.ensures.none vsa.does);
     }
 
+pub returns-in-Drop-clause-answers : goal.returns-in-Drop-clause-answers
+returns-in-Drop-clause-answers g c =
+    let drop = c.drop_object-said.ensures.answers in
+    record {
+      events = drop.events;
+      goes_on = drop.goes_on;
+      does = rw c.in-Drop.is (said_steps c.args.self.now c.drop_object-said.new.self (g.D.Disk.told c.drop_object-said.new.disk) _ drop.events _ _ _
+          c.say-in-Drop.ensures.said c.say-in-Drop.ensures.none drop.does);
+    }
+
 pub returns-in-Tick-clause-answers : goal.returns-in-Tick-clause-answers
 returns-in-Tick-clause-answers g c =
     let told = g.D.Disk.told c.args.disk.now in
@@ -44,7 +54,7 @@ returns-in_default-clause-answers g c =
       goes_on = g.met.D.Disk.goes_none c.args.disk.now;
       does = quiet_steps c.args.self.now c.args.self.now told _ _ _ _ c.say-in_default.ensures.said c.say-in_default.ensures.none
           (λ s h st. unbuilt_answered c.args.self.now told.blocks h s c.args.step.now
-          (unbuilt_control c.args.step.now c.requires.group c.in_default.not-App c.in_default.not-Vsa c.in_default.not-Tick) st);
+          (unbuilt_control c.args.step.now c.requires.group c.in_default.not-App c.in_default.not-Vsa c.in_default.not-Drop c.in_default.not-Tick) st);
     }
 
 pub vsa-said-requires-clause-some : goal.vsa-said-requires-clause-some

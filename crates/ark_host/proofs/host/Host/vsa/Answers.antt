@@ -13,6 +13,7 @@ use Rattle.ark_host.proofs.Placing.{app_there}
 use Rattle.ark_host.proofs.Stepping.{steps_refused, refused_scattered, steps_lost, steps_granted, granting_of}
 use Rattle.ark_host.proofs.Granting.{few_from}
 use Rattle.ark_host.proofs.InDevice.{granted_inside, taken_inside}
+use Rattle.ark_host.proofs.Shared.{granted_shared}
 use Rattle.ark_host.proofs.host.Host.vsa.Goals as goal
 
 pub overflow_cast-blocks : goal.overflow_cast-blocks
@@ -61,9 +62,14 @@ returns-in-Ok-create-clause-answers g c =
 
 pub returns-in-Ok-create-clause-inside : goal.returns-in-Ok-create-clause-inside
 returns-in-Ok-create-clause-inside g c =
+    let ok = c.in-Ok.ensures.admitted in
+    let compact = few_from (length (runs_of (take c.args.blocks c.args.self.now.free))) (λ many. false≢true (ap is_ok (sym (c.take.ensures.scattered.1 (ok.space, many)) ∙ c.in-Ok-take.is))) in
     let lt = (position-Some (λ x. bytes_eq c.args.name.now x.name) c.args.self.now.apps.items c.in-Ok.admitted.0 c.index_mut.result.now c.in-Ok.ensures.admitted.place).0 in
-    granted_inside (g.D.Disk.told c.args.disk.now).blocks c.args.self.now c.in-Ok.admitted.0 c.index_mut.result.now c.add_area.new.self c.args.self.now.grants c.args.blocks (record { kind = c.args.kind; spans = c.in-Ok-take.spans }) c.take.new.self
-    lt (sym c.index_mut.ensures.value) c.add_area.ensures.areas c.in-Ok-take.ensures.taken c.in-Ok-take.ensures.rest c.requires.inside
+    granted_inside (g.D.Disk.told c.args.disk.now).blocks c.args.self.now c.in-Ok.admitted.0 c.index_mut.result.now c.add_area.new.self c.args.self.now.grants c.args.blocks (record { kind = c.args.kind; slot = c.in-Ok.admitted.1; spans = c.in-Ok-take.spans }) c.take.new.self
+    lt (sym c.index_mut.ensures.value) c.add_area.ensures.areas c.in-Ok-take.ensures.taken c.in-Ok-take.ensures.rest c.requires.inside c.create.new.self c.args.self.now.failed
+    (granted_shared (g.D.Disk.told c.args.disk.now).blocks c.args.self.now.table c.args.self.now.free c.args.self.now.failed c.requires.inside.4 c.args.blocks c.in-Ok.admitted.1 c.args.name.now c.args.label.now c.args.kind ok.slot ok.settled compact
+    c.in-Ok-take.spans c.take.new.self c.create.new.self c.in-Ok-take.ensures.taken c.in-Ok-take.ensures.rest
+    (c.in-Ok-create.ensures.granted ∙ ap (λ (x : Area). with_slot c.args.self.now.table c.in-Ok.admitted.1 (Some x)) c.slot_of.ensures.slot))
 
 pub returns-in-Err-create-clause-answers : goal.returns-in-Err-create-clause-answers
 returns-in-Err-create-clause-answers g c =
@@ -85,4 +91,4 @@ returns-in-Err-create-clause-answers g c =
     }
 
 pub returns-in-Err-create-clause-inside : goal.returns-in-Err-create-clause-inside
-returns-in-Err-create-clause-inside g c = taken_inside (g.D.Disk.told c.args.disk.now).blocks c.args.self.now c.args.blocks c.take.new.self c.in-Ok-take.ensures.rest c.requires.inside
+returns-in-Err-create-clause-inside g c = taken_inside (g.D.Disk.told c.args.disk.now).blocks c.args.self.now c.args.blocks c.take.new.self c.in-Ok-take.ensures.rest c.requires.inside c.create.new.self c.in-Err-create.ensures.kept

@@ -1,0 +1,13 @@
+use Rattle.std.proofs.Common.{◌+◌, arith, ap, ◌∙◌}
+use Rattle.ark_objects.specs.Held.{held}
+use Rattle.ark_held.proofs.Without.{room_stays}
+use Rattle.ark_held.proofs.app.App.remove_area.Goals as goal
+
+pub invariant_of-self : goal.invariant_of-self
+invariant_of-self c =
+    let app = c.args.self.now in
+    let stays = room_stays app.labels app.areas c.args.label.now c.args.grant c.requires.there.0 (held app.store.buffers + held app.devices.cards + held app.devices.doors) c.remove-2.new.self c.remove.new.self c.remove-2.result
+    c.requires.there.1 app.room c.remove-2.ensures.value c.remove-2.ensures.one c.remove.ensures.rest in
+    let cards = c.unbind.ensures.held in
+    let doors = ap held c.unbind.ensures.doors in
+    record { room = omega (arith, stays, cards, doors); memory = c.unbind.ensures.frames ∙ app.memory }

@@ -1,0 +1,82 @@
+ghost use Rattle.std.specs.Prelude.{◌≡◌, Some, false, []};
+ghost use Rattle.ark_caps.specs.Labels.{value_at};
+ghost use Rattle.ark_caps.specs.declared.capability.CapKind.TheVariants as cap_kind;
+ghost use Rattle.ark_media.specs.Calls.{Told};
+ghost use Rattle.ark_script.specs.Text.{IsSaid, wants_memory};
+ghost use Rattle.ark_machine.specs.Control as control;
+ghost use Rattle.ark_held.specs.Does.{Acts};
+ghost use Rattle.ark_held.specs.Held.{is_shared};
+
+use crate::keys::cap_of;
+use ark_base::{Label, Refusal};
+use ark_caps::{CapKind, Capability};
+use ark_held::App;
+use ark_script::Said;
+
+// The word `drop`, of a storage card.
+fn drop_card(app: &mut App, label: &Label, cap: Capability) -> Said
+    requires labelled { value_at app.old.labels label.now ≡ Some cap }
+    requires card { cap.kind ≡ cap_kind.Vsic }
+    ensures acts { (t : Told) →
+        Acts t app.old app.new (λ m g. control.drop m label.now g) [] result [] }
+    ensures areas { app.new.areas ≡ app.old.areas }
+    ensures said { IsSaid result }
+    ensures enough { wants_memory result ≡ false }
+{
+    // A card's label has its card.
+    let Some(card) = app.devices.cards.at(cap.key) else {
+        return Said::Refused(Refusal::WrongKind);
+    };
+    if card.log.is_some() {
+        return Said::Refused(Refusal::Busy);
+    }
+    if card.vsic.ring().posted() > 0 {
+        return Said::Refused(Refusal::Busy);
+    }
+    if card.vsic.ring().unreaped() > 0 {
+        return Said::Refused(Refusal::Busy);
+    }
+    app.remove_card(label, cap.key, cap.grant);
+    Said::Ok
+}
+
+// The word `drop`, of a door.
+fn drop_door(app: &mut App, label: &Label, cap: Capability) -> Said
+    requires labelled { value_at app.old.labels label.now ≡ Some cap }
+    requires door { cap.kind ≡ cap_kind.Door }
+    ensures acts { (t : Told) →
+        Acts t app.old app.new (λ m g. control.drop m label.now g) [] result [] }
+    ensures areas { app.new.areas ≡ app.old.areas }
+    ensures said { IsSaid result }
+    ensures enough { wants_memory result ≡ false }
+{
+    // A door's label has its door.
+    if app.devices.doors.at(cap.key).is_none() {
+        return Said::Refused(Refusal::WrongKind);
+    }
+    if app.watches(cap.key) {
+        return Said::Refused(Refusal::Busy);
+    }
+    app.remove_door(label, cap.key, cap.grant);
+    Said::Ok
+}
+
+/// The word `drop`, of what the plane does not know of: a card or a door goes, unless it is in use, and a buffer does not.
+pub fn drop_device(app: &mut App, label: &Label) -> Said
+    requires other { is_shared (value_at app.old.labels label.now) ≡ false }
+    ensures acts { (t : Told) →
+        Acts t app.old app.new (λ m g. control.drop m label.now g) [] result [] }
+    ensures areas { app.new.areas ≡ app.old.areas }
+    ensures said { IsSaid result }
+    ensures enough { wants_memory result ≡ false }
+{
+    let cap = match cap_of(app, label) {
+        Err(refusal) => return Said::Refused(refusal),
+        Ok(cap) => cap,
+    };
+    match cap.kind {
+        CapKind::Vsic => drop_card(app, label, cap),
+        CapKind::Door => drop_door(app, label, cap),
+        _ => Said::Refused(Refusal::WrongKind),
+    }
+}
