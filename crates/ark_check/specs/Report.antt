@@ -23,10 +23,14 @@ contents Raw view = []
 contents Log view = found_words (found_of Log view)
 contents Queue view = found_words (found_of Queue view)
 
-abbrev pub slot_line : List (List ℕ) → Slot → List ℕ
-slot_line image s =
+-- the number of a slot, whose area it has, its kind, and how many blocks it has in how many runs
+abbrev pub slot_words : Slot → List ℕ
+slot_words s =
     codes "slot " ++ decimal s.index ++ codes " " ++ s.app ++ codes " " ++ s.label ++ codes " " ++ kind_word s.kind
-    ++ codes " " ++ decimal (length s.blocks) ++ codes " " ++ decimal (length (runs_of s.blocks)) ++ contents s.kind (view_image s.blocks image)
+    ++ codes " " ++ decimal (length s.blocks) ++ codes " " ++ decimal (length (runs_of s.blocks))
+
+abbrev pub slot_line : List (List ℕ) → Slot → List ℕ
+slot_line image s = slot_words s ++ contents s.kind (view_image s.blocks image)
 
 abbrev pub device_line : ℕ → ℕ → List ℕ
 device_line blocks slots = codes "device " ++ decimal blocks ++ codes " " ++ decimal slots
