@@ -1,9 +1,9 @@
 -- What is so of the area of a slot that keeps the rules by itself, and what is found in it.
-use Rattle.std.proofs.Common.{◌≡◌, ◌∙◌, ◌<◌, ◌≤◌, ◌⊎◌, ⊎_elim, ℕ, List, [], Bool, true, ◌&&◌, length, get_or, Some, None, refl, sym, ap, subst, arith}
-use Rattle.std.specs.Prelude.{All, Contains, Option, Result, option_map}
+use Rattle.std.proofs.Common.{◌≡◌, ◌∙◌, ◌<◌, ◌≤◌, inl, inr, ℕ, List, [], true, length, get_or, Some, None, refl, sym, ap, subst, arith}
+use Rattle.std.specs.Prelude.{All, Contains, Option, Result, is_some, option_map}
 use Rattle.std.specs.List.{list_all}
-use Rattle.std.proofs.lemmas.Bool.{and_parts, leb-true}
-use Rattle.std.proofs.lemmas.List.{ext_get_or, length-map, get_or-map}
+use Rattle.std.proofs.lemmas.Bool.{and_parts, leb-true, cases_lt, false≢true}
+use Rattle.std.proofs.lemmas.List.{ext_get_or, length-map, get_or-map, get_or_past}
 use Rattle.std.proofs.lemmas.List.Elements.{All-from_get_or, Contains-get_or}
 use Rattle.ark_base.specs.declared.kind.Kind.{Kind}
 use Rattle.ark_base.specs.declared.kind.Kind.TheVariants.{Raw, Log, Queue}
@@ -15,11 +15,14 @@ use Rattle.ark_extents.specs.Blocks.{runs_of, blocks_of}
 use Rattle.ark_extents.specs.Runs.{are_spans}
 use Rattle.ark_extents.specs.Views.{view_image, view_events, view_history, view_told, ArePlaced}
 use Rattle.ark_extents.specs.ViewLaws.{view_blocks}
+use Rattle.ark_extents.proofs.Counting.{length-below, distinct_blocks}
 use Rattle.ark_extents.proofs.RunLemmas.{blocks_of-runs_of}
 use Rattle.ark_extents.proofs.ViewImages.{view_current, distinct_placed}
 use Rattle.ark_table.specs.declared.slot.Slot.{Slot}
-use Rattle.ark_table.specs.Area.{is_area, is_data, least_blocks, block_total}
+use Rattle.ark_table.specs.Area.{Area, is_area, is_data, least_blocks, block_total}
+use Rattle.ark_table.specs.Loading.{AreRight, IsRightIf}
 use Rattle.ark_table.specs.Stated.{stated}
+use Rattle.ark_table.specs.Table.{area_at}
 use Rattle.ark_table.proofs.Moments.{area_inside}
 use Rattle.ark_table.proofs.Spelling.{count_is}
 use Rattle.ark_entry.specs.Found.{damaged, found_of}
@@ -35,7 +38,23 @@ use Rattle.ark_check.specs.Reading.{contents_words}
 pub area_within : (size : ℕ) (s : Slot) → is_area size (stated s) ≡ true → All (λ n. n < size) s.spans
 area_within size s right = All-from_get_or (λ n. n < size) s.spans 0
     (λ k lt. (area_inside size (stated s) right (get_or s.spans k 0)
-      (subst (λ (l : List ℕ). Contains l (get_or s.spans k 0)) (sym (blocks_of-runs_of s.spans)) (Contains-get_or s.spans k 0 lt))).1)
+    (subst (λ (l : List ℕ). Contains l (get_or s.spans k 0)) (sym (blocks_of-runs_of s.spans)) (Contains-get_or s.spans k 0 lt))).1)
+
+-- and is as large
+pub area_short : (size : ℕ) (s : Slot) → is_area size (stated s) ≡ true → length s.spans ≤ size
+area_short size s right =
+    let one = and_parts (is_name s.app) _ right in
+    let two = and_parts (is_name s.label) _ one.1 in
+    let three = and_parts (are_spans (runs_of s.spans)) _ two.1 in
+    subst (λ (l : List ℕ). length l ≤ size) (blocks_of-runs_of s.spans)
+    (length-below size (blocks_of (runs_of s.spans)) (distinct_blocks (runs_of s.spans) three.0) (λ n has. (area_inside size (stated s) right n has).1))
+
+-- a slot in use of a table whose slots keep the rules
+pub right_at : (size : ℕ) (table : List (Option Area)) (k : ℕ) (a : Area) → area_at table k ≡ Some a → AreRight size table → is_area size a ≡ true
+right_at size table k a is right = elim (cases_lt k (length table)) [
+  | inl lt ↦ subst (IsRightIf size) is (right k None lt)
+  | inr past ↦ absurd (false≢true (ap is_some (sym (get_or_past table k None past) ∙ is)))
+]
 
 -- a log or queue has two blocks at least
 pub area_least : (size : ℕ) (s : Slot) → is_area size (stated s) ≡ true → least_blocks s.kind ≤ length s.spans
@@ -62,9 +81,9 @@ view_shows blocks placed h inside =
     let long : length (current (view_image blocks h.base) (view_events blocks h.journal)) ≡ length blocks = length-current (view_image blocks h.base) (view_events blocks h.journal) ∙ length-map blocks (λ n. block h.base n) in
     ext_get_or [] _ _ (long ∙ sym (length-map blocks (λ n. block (current h.base h.journal) n)))
     (λ k lt.
-      let here : k < length blocks = subst (λ m. k < m) long lt in
-      view_current h.base blocks (distinct_placed blocks placed) (λ i li. inside i 0 li) h.journal k here
-      ∙ sym (get_or-map (λ n. block (current h.base h.journal) n) blocks k 0 [] here))
+    let here : k < length blocks = subst (λ m. k < m) long lt in
+    view_current h.base blocks (distinct_placed blocks placed) (λ i li. inside i 0 li) h.journal k here
+    ∙ sym (get_or-map (λ n. block (current h.base h.journal) n) blocks k 0 [] here))
 
 -- its blocks have 512 bytes where those of the image have
 pub view_whole : (blocks : List ℕ) (image : List (List ℕ)) → AllBlocks image → All (λ n. n < length image) blocks → AllBlocks (view_image blocks image)

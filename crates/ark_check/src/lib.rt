@@ -2,5 +2,8 @@
 #![tactic(auto)]
 
 mod contents;
+mod line;
+mod report;
 
 pub use contents::{Contents, read_contents};
+pub use report::put_report;

@@ -1,4 +1,4 @@
-use Rattle.std.proofs.Common.{rules, ◌≡◌, ◌∙◌, ℕ, List, ◌∷◌, [], Bool, true, false, Ok, Err, sym, ap, subst, refl}
+use Rattle.std.proofs.Common.{rules, ◌≡◌, ◌∙◌, ◌∷◌, true, false, Ok, Err, ap, subst, refl}
 use Rattle.std.specs.Prelude.{map}
 use Rattle.std.proofs.lemmas.Bool.{false≢true}
 use denote.Enum.Bare.{sameb}
@@ -10,7 +10,7 @@ use Rattle.ark_extents.specs.Views.{view_image}
 use Rattle.ark_chain.specs.declared.surveying.SurveyFault.{SurveyFault}
 use Rattle.ark_chain.specs.Survey.{block_at, is_damage, IsAnswer}
 use Rattle.ark_check.proofs.Areas.{area_within, area_two, view_surveyed, words_found, words_damaged}
-use Rattle.ark_check.proofs.Readings.{goes_reading, none_read}
+use Rattle.ark_check.proofs.Readings.{goes_reading}
 use Rattle.ark_check.proofs.contents.read_contents.Goals as goal
 
 -- a kind that was compared with raw
@@ -33,7 +33,7 @@ returns-in-Ok-clause-found g c h told whole =
     let v = c.survey.new.disk in
     words_found c.args.slot.now.kind (ordered c.args.slot.now.kind c.if-eq.ensures) c.in-Ok.seen c.survey.new.lengths.items _
     (view_surveyed c.args.slot.now.kind (Ok c.in-Ok.seen) c.survey.new.lengths.items v.spans c.args.slot.now.spans (g.D.Disk.told v.disk.now) _ (c.in-Ok.ensures.went.went.goes_on.0 ∙ c.new-area.ensures.spans)
-      (ap g.D.Disk.told (search rules)) v.placed v.inside (g.met.D.Disk.size_is v.disk.now) c.in-Ok.ensures.found h told whole)
+    (ap g.D.Disk.told (search rules)) v.placed v.inside (g.met.D.Disk.size_is v.disk.now) c.in-Ok.ensures.found h told whole)
 
 pub returns-in-Err-Damaged-clause-went : goal.returns-in-Err-Damaged-clause-went
 returns-in-Err-Damaged-clause-went g c =
@@ -46,7 +46,7 @@ returns-in-Err-Damaged-clause-found g c h told whole =
     words_damaged c.args.slot.now.kind (ordered c.args.slot.now.kind c.if-eq.ensures) c.in-Err-Damaged.number _
     (subst (λ (fault : SurveyFault). IsAnswer c.args.slot.now.kind (Err fault) c.survey.new.lengths.items (view_image c.args.slot.now.spans (current h.base h.journal))) c.in-Err-Damaged.field-0-is
     (view_surveyed c.args.slot.now.kind (Err c.in-Err-Damaged.field-0) c.survey.new.lengths.items v.spans c.args.slot.now.spans (g.D.Disk.told v.disk.now) _ (c.in-Err-Damaged.ensures.went.went.goes_on.0 ∙ c.new-area.ensures.spans)
-      (ap g.D.Disk.told (search rules)) v.placed v.inside (g.met.D.Disk.size_is v.disk.now) c.in-Err-Damaged.ensures.found h told whole))
+    (ap g.D.Disk.told (search rules)) v.placed v.inside (g.met.D.Disk.size_is v.disk.now) c.in-Err-Damaged.ensures.found h told whole))
 
 pub returns-in-Err-DeviceFault-clause-went : goal.returns-in-Err-DeviceFault-clause-went
 returns-in-Err-DeviceFault-clause-went g c =
