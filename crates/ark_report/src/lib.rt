@@ -1,2 +1,2 @@
-//! What `check` reports of an image, and the script and the summary of `work`: definitions for contracts.
+//! The summary of the command `work`, by the rows of all words: a definition for contracts.
 #![tactic(auto)]

@@ -16,7 +16,7 @@ use Rattle.ark_worked.proofs.Scripts as scripts
 use Rattle.ark_base.specs.declared.status.Status.TheVariants.{Damaged}
 use Rattle.ark_base.specs.Status.{code_of}
 use Rattle.ark_cli.specs.Ending.{closing_words}
-use Rattle.ark_report.specs.Report.{report}
+use Rattle.ark_check.specs.Report.{report}
 
 area : ℕ → List ℕ → List ℕ → Slot
 area i label blocks = record { index = i; app = codes "a"; label = label; kind = Raw; blocks = blocks }

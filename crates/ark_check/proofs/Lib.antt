@@ -1,0 +1,4 @@
+pub mod Areas
+pub mod Readings
+pub mod Pieces
+pub mod Lines
