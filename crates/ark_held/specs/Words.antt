@@ -1,5 +1,5 @@
 -- What is found under a label, and why nothing can be added there.
-use Rattle.std.specs.Prelude.{ℕ, Bool, true, false, ◌||◌, List, [], ◌∷◌, ◌++◌, length, nat_eq, nat_le, Option, Some, None, Result, Ok, Err}
+use Rattle.std.specs.Prelude.{ℕ, Bool, true, false, ◌||◌, List, [], ◌∷◌, ◌++◌, length, nat_eq, nat_le, if◌then◌else◌, Option, Some, None, Result, Ok, Err}
 use Rattle.std.specs.Result.{result_map_both}
 use Rattle.std.specs.Borrow.{Bor}
 use Rattle.std.specs.Map.{lookup}
@@ -23,7 +23,7 @@ AreaList = List (ℕ × Area)
 
 -- the area of a slot
 abbrev pub area_in : Slot → Area
-area_in t = record { kind = t.kind; spans = t.blocks }
+area_in t = record { kind = t.kind; slot = t.index; spans = t.blocks }
 
 -- the blocks of a raw area; those of a log or queue are its own
 abbrev pub raw_blocks : Kind → List ℕ → Result (List ℕ) Refusal
@@ -74,3 +74,30 @@ added_to areas grant area (Some old) = areas
 -- with an area more at the end, unless there is one of this grant
 abbrev pub with_area : AreaList → ℕ → Area → AreaList
 with_area areas grant area = added_to areas grant area (lookup (nat_eq grant) areas)
+
+-- a raw area with its grant
+abbrev pub grant_if_raw : Kind → ℕ → Area → Result (ℕ × Area) Refusal
+grant_if_raw kind.Raw grant a = Ok (grant, a)
+grant_if_raw kind.Log grant a = Err r.WrongKind
+grant_if_raw kind.Queue grant a = Err r.WrongKind
+
+abbrev pub found_grant : ℕ → Option Area → Result (ℕ × Area) Refusal
+found_grant grant None = Err r.WrongKind
+found_grant grant (Some a) = grant_if_raw a.kind grant a
+
+abbrev pub grant_of : AreaList → CapKind → ℕ → Result (ℕ × Area) Refusal
+grant_of areas cap_kind.Vsa grant = found_grant grant (lookup (nat_eq grant) areas)
+grant_of areas _ grant = Err r.WrongKind
+
+abbrev pub grant_under : AreaList → List ℕ → Option Capability → Result (ℕ × Area) Refusal
+grant_under areas l None = Err (r.NoGrant l)
+grant_under areas l (Some c) = grant_of areas c.kind c.grant
+
+-- the raw area under a label with its grant, or why there is none
+abbrev pub grant_at : Labels → AreaList → List ℕ → Result (ℕ × Area) Refusal
+grant_at labels areas l = grant_under areas l (value_at labels l)
+
+-- with these blocks in place of those of the first area of this grant
+abbrev pub with_spans : AreaList → ℕ → List ℕ → AreaList
+with_spans [] grant spans = []
+with_spans (x ∷ xs) grant spans = if nat_eq grant x.0 then (x.0, record x.1 { spans = spans }) ∷ xs else x ∷ with_spans xs grant spans

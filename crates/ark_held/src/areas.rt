@@ -1,6 +1,7 @@
 ghost use Rattle.std.specs.Prelude.{◌≡◌, ◌<◌, [], length, nat_eq, option_copied, IfOk};
+ghost use Rattle.std.specs.List.{position};
 ghost use Rattle.std.specs.Map.{lookup};
-ghost use Rattle.ark_held.specs.Words.{with_area};
+ghost use Rattle.ark_held.specs.Words.{with_area, with_spans};
 
 use ark_base::{Kind, Memory};
 use ark_extents::Spans;
@@ -10,10 +11,11 @@ use std::marker::Model;
 /// The most areas that an application holds.
 pub const AREAS: usize = 8;
 
-/// An area of blocks: what it is for, and its blocks.
+/// An area of blocks: what it is for, the slot of the device's table that names it, and its blocks.
 #[derive(Clone, Copy, Debug)]
 pub struct Area {
     pub kind: Kind,
+    pub slot: u16,
     pub spans: Spans,
 }
 
@@ -47,6 +49,13 @@ fn find(areas: &[(u64, Area)], grant: u64) -> Option<&Area>
         }
     }
     None
+}
+
+// The place of the first area of this grant.
+fn place_of(areas: &[(u64, Area)], grant: u64) -> Option<usize>
+    ensures place { result ≡ position (λ a. nat_eq a.0 grant) areas.now }
+{
+    areas.iter().position(|area| area.0 == grant)
 }
 
 impl Areas {
@@ -85,6 +94,15 @@ impl Areas {
         match self.areas.push((grant, area)) {
             Ok(()) => {}
             Err(_) => unreachable!(),
+        }
+    }
+
+    /// Puts these blocks in place of those of the first area of this grant, if there is one.
+    pub fn set_spans(&mut self, grant: u64, spans: Spans)
+        ensures set { self.new ≡ with_spans self.old grant spans }
+    {
+        if let Some(place) = place_of(&self.areas, grant) {
+            self.areas[place].1.spans = spans;
         }
     }
 }

@@ -104,11 +104,11 @@ some_fewest kind.Raw = omega arith
 some_fewest kind.Log = omega arith
 some_fewest kind.Queue = omega arith
 
-synced_made : (b : Bool) (m : Machine) → (synced b m).made ≡ m.made
+pub synced_made : (b : Bool) (m : Machine) → (synced b m).made ≡ m.made
 synced_made true m = refl
 synced_made false m = refl
 
-synced_now : (b : Bool) (m : Machine) → (synced b m).now ≡ m.now
+pub synced_now : (b : Bool) (m : Machine) → (synced b m).now ≡ m.now
 synced_now true m = refl
 synced_now false m = refl
 
@@ -366,7 +366,7 @@ module _ (host : Host) (size : ℕ) (past : History) (s : System) (a l : List �
       new_one kind.Log its = (its, (λ e. cc (e)), sym count, refl, zeros_listed (after past es) slot.blocks kind.Log n has_some zero_now zero_left)
       new_one kind.Queue its = (its, (λ e. cc (e)), sym count, refl, zeros_listed (after past es) slot.blocks kind.Queue n has_some zero_now zero_left)
 
-      module _ (now : Host) (app1 : App) (labels : app1.labels ≡ app.labels ++ (l, new_area_cap host.grants) ∷ []) (held : app1.areas ≡ with_area app.areas host.grants (record { kind = k; spans = spans })) (region : app1.store.region ≡ app.store.region) (buffers : app1.store.buffers ≡ app.store.buffers) (devices : app1.devices ≡ app.devices) (name : app1.name ≡ app.name)
+      module _ (now : Host) (app1 : App) (labels : app1.labels ≡ app.labels ++ (l, new_area_cap host.grants) ∷ []) (held : app1.areas ≡ with_area app.areas host.grants (record { kind = k; slot = i; spans = spans })) (region : app1.store.region ≡ app.store.region) (buffers : app1.store.buffers ≡ app.store.buffers) (devices : app1.devices ≡ app.devices) (name : app1.name ≡ app.name)
           (items : now.apps.items ≡ set host.apps.items place app1) (free : now.free ≡ drop n host.free) (tables : now.table ≡ with_slot host.table i (Some (record { app = a; label = l; kind = k; runs = runs_of spans }))) (failed : now.failed ≡ host.failed)
           (grants : now.grants ≡ host.grants + 1) (clock : now.clock ≡ host.clock) where
         abbrev plane : Plane
@@ -392,7 +392,9 @@ module _ (host : Host) (size : ℕ) (past : History) (s : System) (a l : List �
         later = with_set s plane a one
 
         more_areas : app1.areas ≡ app.areas ++ (host.grants, area_in slot) ∷ []
-        more_areas = held ∙ ap (λ (bs : List ℕ). with_area app.areas host.grants (record { kind = k; spans = bs })) (sym slot_blocks) ∙ added_last host.grants (area_in slot) app.areas (h.unused host.grants (omega arith))
+        more_areas =
+            held ∙ ap (λ j. with_area app.areas host.grants (record { kind = k; slot = j; spans = spans })) (sym slot_index)
+            ∙ ap (λ (bs : List ℕ). with_area app.areas host.grants (record { kind = k; slot = slot.index; spans = bs })) (sym slot_blocks) ∙ added_last host.grants (area_in slot) app.areas (h.unused host.grants (omega arith))
 
         new_number : (k : ℕ) → slice_get h.numbers k ≡ Some host.grants → ⊥
         new_number k is = let lt = h.below k host.grants is in absurd (omega (arith, lt))

@@ -126,7 +126,7 @@ module _ (host now : Host) (told : Told) (a l : List ℕ) (n : ℕ) (k : Kind) (
     fronts = fronts false made;
   }
 
-  pub steps_granted : plan true → (app1 : App) → app1.labels ≡ app.labels ++ (l, new_area_cap host.grants) ∷ [] → app1.areas ≡ with_area app.areas host.grants (record { kind = k; spans = spans }) → app1.store.region ≡ app.store.region → app1.store.buffers ≡ app.store.buffers → app1.devices ≡ app.devices → app1.name ≡ app.name
+  pub steps_granted : plan true → (app1 : App) → app1.labels ≡ app.labels ++ (l, new_area_cap host.grants) ∷ [] → app1.areas ≡ with_area app.areas host.grants (record { kind = k; slot = i; spans = spans }) → app1.store.region ≡ app.store.region → app1.store.buffers ≡ app.store.buffers → app1.devices ≡ app.devices → app1.name ≡ app.name
       → now.apps.items ≡ set host.apps.items place app1 → now.free ≡ drop n host.free → now.table ≡ with_slot host.table i (Some (record { app = a; label = l; kind = k; runs = runs_of spans })) → now.failed ≡ host.failed → now.grants ≡ host.grants + 1 → now.clock ≡ host.clock
       → Steps host now told (Ok (w.vsa a l n k)) es said.Ok []
   steps_granted made app1 labels held region buffers devices name items free tables failed grants clock = record {

@@ -59,7 +59,7 @@ fit_in size (s ∷ slots) t fit (inr h) = fit_in size slots t fit.1 h
 -- Each area of the table is that of a slot, and each slot's area stands in it.
 
 module _ (size : ℕ) where
-  low : (t : Slot) → SlotFits size t → (t.index - 1 < 128) × (1 ≤ t.index)
+  pub low : (t : Slot) → SlotFits size t → (t.index - 1 < 128) × (1 ≤ t.index)
   low t f = let high = f.index_high in let low = f.index_low in (omega (arith, high, low), low)
 
   near : (slots : List Slot) (t : Slot) → SlotFits size t → t.index - 1 < length (table_of slots)
@@ -212,7 +212,7 @@ count_more a (s ∷ slots) t = omega (arith, count_more a slots t)
 
 -- One slot more, behind the others.
 
-set_swap : {X : Type 0} (xs : List X) (i j : ℕ) (a b : X) → (i ≡ j → ⊥) → set (set xs i a) j b ≡ set (set xs j b) i a
+pub set_swap : {X : Type 0} (xs : List X) (i j : ℕ) (a b : X) → (i ≡ j → ⊥) → set (set xs i a) j b ≡ set (set xs j b) i a
 set_swap [] i j a b differ = refl
 set_swap (x ∷ xs) zero zero a b differ = absurd (differ refl)
 set_swap (x ∷ xs) zero (suc j) a b differ = refl

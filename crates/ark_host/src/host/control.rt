@@ -42,6 +42,10 @@ impl Host {
                 let said = self.vsa(name, label, *blocks, *kind, disk);
                 say(out, said);
             }
+            Step::Grow(name, label, blocks) => {
+                let said = self.grow(name, label, *blocks, disk);
+                say(out, said);
+            }
             Step::Tick(ticks) => {
                 let said = self.tick(*ticks);
                 say(out, said);

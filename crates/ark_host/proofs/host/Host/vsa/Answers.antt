@@ -62,7 +62,7 @@ returns-in-Ok-create-clause-answers g c =
 pub returns-in-Ok-create-clause-inside : goal.returns-in-Ok-create-clause-inside
 returns-in-Ok-create-clause-inside g c =
     let lt = (position-Some (λ x. bytes_eq c.args.name.now x.name) c.args.self.now.apps.items c.in-Ok.admitted.0 c.index_mut.result.now c.in-Ok.ensures.admitted.place).0 in
-    granted_inside (g.D.Disk.told c.args.disk.now).blocks c.args.self.now c.in-Ok.admitted.0 c.index_mut.result.now c.add_area.new.self c.args.self.now.grants c.args.blocks (record { kind = c.args.kind; spans = c.in-Ok-take.spans }) c.take.new.self
+    granted_inside (g.D.Disk.told c.args.disk.now).blocks c.args.self.now c.in-Ok.admitted.0 c.index_mut.result.now c.add_area.new.self c.args.self.now.grants c.args.blocks (record { kind = c.args.kind; slot = c.in-Ok.admitted.1; spans = c.in-Ok-take.spans }) c.take.new.self
     lt (sym c.index_mut.ensures.value) c.add_area.ensures.areas c.in-Ok-take.ensures.taken c.in-Ok-take.ensures.rest c.requires.inside
 
 pub returns-in-Err-create-clause-answers : goal.returns-in-Err-create-clause-answers
