@@ -1,12 +1,11 @@
 -- Other blocks of the area of one grant.
-use Rattle.std.proofs.Common.{◌≡◌, ℕ, zero, suc, ◌<◌, ◌≤◌, Bool, true, false, cond, List, [], ◌∷◌, length, set, get_or, nat_eq, refl, sym, ◌∙◌, ap, subst, arith}
+use Rattle.std.proofs.Common.{◌≡◌, ℕ, zero, suc, ◌<◌, ◌≤◌, true, false, cond, List, [], ◌∷◌, length, set, get_or, nat_eq, refl, sym, ◌∙◌, ap, subst, arith}
 use Rattle.std.specs.Prelude.{Option, Some, None, option_map, find, position, nat_lt, slice_get}
 use Rattle.std.specs.List.{position_or_len}
 use Rattle.std.proofs.lemmas.Option.{slice_get_past}
 use Rattle.std.proofs.lemmas.List.Folds.{find_at}
 use Rattle.std.proofs.lemmas.List.Quantifiers.{position-Some}
 use Rattle.std.specs.Map.{lookup}
-use Rattle.std.proofs.lemmas.Bool.{false≢true}
 use Rattle.std.proofs.lemmas.Bool.Decides.{nat_tests}
 use Rattle.ark_held.specs.declared.areas.Area.{Area}
 use Rattle.ark_held.specs.Words.{AreaList, with_spans}
@@ -64,7 +63,7 @@ module _ (g : ℕ) (spans : List ℕ) where
       let same : g ≡ k = grind (arith, nat_tests, q) in
       let had : lookup (nat_eq k) xs ≡ Some b = subst (λ (j : ℕ). lookup (nat_eq j) xs ≡ Some b) same there in
       let now : Some (record b { spans = spans }) ≡ Some a =
-          sym (subst (λ (j : ℕ). lookup (nat_eq j) (with_spans xs g spans) ≡ Some (record b { spans = spans })) same (spans_found xs ∙ ap (λ (o : Option Area). option_map (λ (z : Area). record z { spans = spans }) o) there)) ∙ is in
+      sym (subst (λ (j : ℕ). lookup (nat_eq j) (with_spans xs g spans) ≡ Some (record b { spans = spans })) same (spans_found xs ∙ ap (λ (o : Option Area). option_map (λ (z : Area). record z { spans = spans }) o) there)) ∙ is in
       let it : record b { spans = spans } ≡ a = some_same (Some a) (record b { spans = spans }) a (sym now) refl in
       subst (λ (o : Option Area). IsSpread o a) (sym had) (subst (λ (z : Area). IsSpread (Some b) z) it (refl, more)))
       (λ no q. spread_same xs k a (sym (spans_others k q xs) ∙ is)) refl

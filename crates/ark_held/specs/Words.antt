@@ -97,6 +97,10 @@ grant_under areas l (Some c) = grant_of areas c.kind c.grant
 abbrev pub grant_at : Labels → AreaList → List ℕ → Result (ℕ × Area) Refusal
 grant_at labels areas l = grant_under areas l (value_at labels l)
 
+-- what a reference to it shows with its grant
+abbrev pub granted : Result (ℕ × Bor Area) Refusal → Result (ℕ × Area) Refusal
+granted found = result_map_both (λ p. (p.0, p.1.now)) (λ e. e) found
+
 -- with these blocks in place of those of the first area of this grant
 abbrev pub with_spans : AreaList → ℕ → List ℕ → AreaList
 with_spans [] grant spans = []

@@ -1,5 +1,5 @@
 -- The row of `grow`, as a host comes to it: its refusals, and what it is with the device events of a grant.
-use Rattle.std.proofs.Common.{◌≡◌, ℕ, zero, suc, ◌<◌, ◌≤◌, true, false, List, [], ◌++◌, length, take, nat_lt, refl, sym, ◌∙◌, ap, arith}
+use Rattle.std.proofs.Common.{◌≡◌, ℕ, zero, suc, ◌<◌, ◌≤◌, true, false, List, [], ◌++◌, length, take, nat_lt, refl, ◌∙◌, ap}
 use Rattle.std.specs.Prelude.{Some, None, Ok}
 use Rattle.ark_base.specs.declared.refusal.Refusal.{Refusal}
 use Rattle.ark_base.specs.declared.refusal.Refusal.TheVariants as r
@@ -15,7 +15,7 @@ use Rattle.ark_machine.specs.Machine.{Held, at, with_object}
 use Rattle.ark_machine.specs.Areas as areas
 use Rattle.ark_machine.specs.Row.{Row, says, answer, has_fault, synced_by}
 use Rattle.ark_machine.specs.Step.{step}
-use Rattle.ark_machine.specs.Plane.{grows, free_blocks, lowest, max_runs, slot_of, blocks_at}
+use Rattle.ark_machine.specs.Plane.{grows, free_blocks, lowest, max_runs, slot_of}
 use Rattle.ark_machine.specs.System.{System, machine_of}
 use Rattle.ark_machine.specs.Recovers.{begun, begun_with}
 use Rattle.ark_machine.specs.Follow.{ends_of}

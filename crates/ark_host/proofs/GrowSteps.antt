@@ -1,6 +1,6 @@
 -- The word `grow` over a host: its refusals, an area that has grown, and one that failed to.
 use Rattle.std.proofs.Common.{◌≡◌, ◌⊎◌, inl, inr, ℕ, ◌^◌, ◌<◌, ◌≤◌, Bool, true, false, List, [], ◌++◌, length, take, drop, set, get_or, nat_le, refl, sym, ◌∙◌, ap, subst, arith, bytes_eq}
-use Rattle.std.specs.Prelude.{Option, Some, None, Result, Ok, Err, position, is_some, nat_eq}
+use Rattle.std.specs.Prelude.{Option, Some, None, Result, Ok, Err, position, is_some, is_none, IsSome, nat_eq}
 use Rattle.std.proofs.lemmas.Bool.{false≢true}
 use Rattle.std.proofs.lemmas.Bool.Decides.{nat_tests}
 use Rattle.std.specs.Map.{lookup}
@@ -94,11 +94,20 @@ absent : (i : ℕ) (o : Option Area) (b : Area) → (i ≡ 0) ⊎ (o ≡ None) �
 absent i o b (inl none) used low = omega (arith, none, low)
 absent i o b (inr free) used low = false≢true (ap is_some (sym free ∙ used))
 
+-- blocks that were put behind others, or that could not be
+pub not_joined : (o : Option (List ℕ)) → is_none o ≡ true → IsSome o → ⊥
+not_joined None none some = false≢true some
+not_joined (Some bs) none some = false≢true none
+
+pub joined : (o : Option (List ℕ)) → is_none o ≡ false → IsSome o
+joined None none = absurd (false≢true (sym none))
+joined (Some bs) none = refl
+
 some_area : (p q : Area) → Some p ≡ Some q → p ≡ q
 some_area p q e = cc (e)
 
 too_many : (k : ℕ) → (k ≤ 16 → ⊥) → 16 < k
-too_many k no = by_test (nat_le k 16) (λ b. nat_le k 16 ≡ b → 16 < k) (λ yes q. absurd (no (grind (arith, nat_tests, q)))) (λ other q. grind (arith, nat_tests, q)) refl
+too_many k more = by_test (nat_le k 16) (λ b. nat_le k 16 ≡ b → 16 < k) (λ yes q. absurd (more (grind (arith, nat_tests, q)))) (λ other q. grind (arith, nat_tests, q)) refl
 
 module _ (host : Host) (a l : List ℕ) (n : ℕ) where
   pub grow_refused : (now : Host) (told : Told) (e : Refusal) → IsGrowRefused host a l n e → IsEarly e → now.apps.items ≡ host.apps.items → now.free ≡ host.free → now.table ≡ host.table → now.failed ≡ host.failed → now.grants ≡ host.grants → now.clock ≡ host.clock
@@ -118,7 +127,7 @@ module _ (host : Host) (a l : List ℕ) (n : ℕ) where
     pub grant_refused : (e : Refusal) → Err e ≡ grant_at app.labels app.areas l → IsGrowRefused host a l n e
     grant_refused e is size h s st = by e (lacks host size h s a l app st (its size h s st) e (sym is))
       where
-        by : (z : Refusal) → Lacks _ l z → Says host size h s a l n st z
+        by : (z : Refusal) → Lacks (around s h a (its size h s st).numbers app (machine_of s a)) l z → Says host size h s a l n st z
         by (r.NoGrant k) m = subst (λ (z : List ℕ). Says host size h s a l n st (r.NoGrant z)) (sym m.0) (grow_missing host size h s a l n st (its size h s st).holds.made m.1)
         by r.WrongKind m = grow_kind host size h s a l n st (its size h s st).holds.made m.held m.there m.other
         by _ m = absurd m
@@ -156,25 +165,25 @@ module _ (host : Host) (a l : List ℕ) (n : ℕ) where
 
           -- its blocks and the free ones stand in too many runs: they share none
           pub join_refused : (area : Area) → slot_in host.table kept.slot ≡ Some area → (ShareNoBlock (blocks_of area.runs) (take n host.free) × (length (runs_of (blocks_of area.runs ++ take n host.free)) ≤ 16) → ⊥) → IsGrowRefused host a l n r.Scattered
-          join_refused area used no size h s st =
+          join_refused area used apart_and_few size h s st =
               let own = its size h s st in
               let f = granted_at host size h s a l app st own grant kept is in
               let same : blocks_of area.runs ≡ f.area.slot.blocks = ap (λ (z : Area). blocks_of z.runs) (some_area area (area_of f.area.slot) (sym used ∙ in_use host size h s a l app st own grant kept f)) ∙ blocks_of-runs_of f.area.slot.blocks in
               let apart = apart_free host size h s a l app st own grant kept f n fine in
               grow_scattered host size h s a l n st own.holds.made f.area.held f.area.raw f.area.there f.area.object fine enough f.area.slot f.area.placed
               (too_many (length (runs_of (f.area.slot.blocks ++ take n host.free)))
-              (λ few. no (subst (λ (bs : List ℕ). ShareNoBlock bs (take n host.free)) (sym same) apart, subst (λ (bs : List ℕ). length (runs_of (bs ++ take n host.free)) ≤ 16) (sym same) few)))
+              (λ few. apart_and_few (subst (λ (bs : List ℕ). ShareNoBlock bs (take n host.free)) (sym same) apart, subst (λ (bs : List ℕ). length (runs_of (bs ++ take n host.free)) ≤ 16) (sym same) few)))
 
           -- so do those of the area as its application keeps it
           pub own_refused : (ShareNoBlock kept.spans (take n host.free) × (length (runs_of (kept.spans ++ take n host.free)) ≤ 16) → ⊥) → IsGrowRefused host a l n r.Scattered
-          own_refused no size h s st =
+          own_refused apart_and_few size h s st =
               let own = its size h s st in
               let f = granted_at host size h s a l app st own grant kept is in
               let same : f.area.slot.blocks ≡ kept.spans = ap (λ (z : Kept). z.spans) f.its_area in
               let apart = apart_free host size h s a l app st own grant kept f n fine in
               grow_scattered host size h s a l n st own.holds.made f.area.held f.area.raw f.area.there f.area.object fine enough f.area.slot f.area.placed
               (too_many (length (runs_of (f.area.slot.blocks ++ take n host.free)))
-              (λ few. no (subst (λ (bs : List ℕ). ShareNoBlock bs (take n host.free)) same apart, subst (λ (bs : List ℕ). length (runs_of (bs ++ take n host.free)) ≤ 16) same few)))
+              (λ few. apart_and_few (subst (λ (bs : List ℕ). ShareNoBlock bs (take n host.free)) same apart, subst (λ (bs : List ℕ). length (runs_of (bs ++ take n host.free)) ≤ 16) same few)))
 
 -- The device was called.
 

@@ -1,5 +1,5 @@
 -- An area that has grown, or that failed to: what the host stands for after the device calls.
-use Rattle.std.proofs.Common.{◌≡◌, inl, inr, ⊎_elim, ℕ, ◌+◌, ◌-◌, ◌^◌, ◌<◌, ◌≤◌, Bool, true, false, not, cond, ◌&&◌, ◌==◌, List, [], ◌∷◌, ◌++◌, length, map, take, drop, replicate, get_or, set, refl, sym, ◌∙◌, ap, subst, arith, bytes_eq, append-nil, get_or-set_same, Contains}
+use Rattle.std.proofs.Common.{◌≡◌, inl, inr, ℕ, ◌+◌, ◌-◌, ◌^◌, ◌<◌, ◌≤◌, Bool, true, false, not, cond, ◌==◌, List, [], ◌∷◌, ◌++◌, length, map, take, drop, replicate, get_or, set, refl, sym, ◌∙◌, ap, subst, arith, bytes_eq, append-nil, get_or-set_same, Contains}
 use Rattle.std.specs.Prelude.{Option, Some, None, Ok, slice_get, find, is_some, option_map, nat_eq}
 use Rattle.std.specs.Map.{lookup}
 use Rattle.std.proofs.lemmas.Bool.{false≢true, and_parts, cases_lt}
@@ -11,7 +11,6 @@ use Rattle.std.proofs.lemmas.List.Elements.{Contains-get_or, Contains-append_cas
 use Rattle.std.proofs.lemmas.Slice.Eq.{bytes_eq-Decides}
 use Rattle.ark_base.specs.Name.{is_name}
 use Rattle.ark_base.specs.declared.kind.Kind.{Kind}
-use Rattle.ark_base.specs.declared.kind.Kind.TheVariants as kind
 use Rattle.ark_base.specs.declared.refusal.Refusal.TheVariants as r
 use Rattle.ark_media.specs.Journal.{Event, History, block, current, zero_block}
 use Rattle.ark_media.specs.Calls.{Makes as Made}
@@ -23,7 +22,6 @@ use Rattle.ark_extents.proofs.RunLemmas.{blocks_of-runs_of}
 use Rattle.ark_table.specs.Area.{Area, area_bytes, area_in, is_area, least_blocks}
 use Rattle.ark_table.specs.Slots.{Slot, area_of, IsRight}
 use Rattle.ark_table.specs.Table.{Together, area_at, IsSlotBlock}
-use Rattle.ark_table.specs.Plans.{grant_calls}
 use Rattle.ark_table.specs.Standing.{Table, slot_in, with_slot, grown_area, grow_calls, IsTableOf, IsUnderWay, GoesThrough, CanGrow, grows as adds}
 use Rattle.ark_table.proofs.Spelling.{keeps_rules, spelled_is_read}
 use Rattle.ark_table.proofs.Moments.{grown as goes_grown}
@@ -32,14 +30,14 @@ use Rattle.ark_script.specs.Line.{Line}
 use Rattle.ark_script.specs.declared.said.Said.TheVariants as said
 use Rattle.ark_machine.specs.Objects
 use Rattle.ark_machine.specs.Objects.{Object, Raw}
-use Rattle.ark_machine.specs.Machine.{Machine, Held, at, with_object, each_object, holding}
+use Rattle.ark_machine.specs.Machine.{Machine, Held, with_object, each_object, holding}
 use Rattle.ark_machine.specs.Areas as areas
 use Rattle.ark_machine.specs.Row.{settled, synced, synced_by}
-use Rattle.ark_machine.specs.Plane.{Plane, Change, grows, is_slot_of, slot_of, lowest, is_granted, max_runs}
+use Rattle.ark_machine.specs.Plane.{Plane, Change, grows, slot_of, lowest, is_granted, max_runs}
 use Rattle.ark_machine.specs.Granting.{with_more, plane_after, changed, failed_change}
 use Rattle.ark_machine.specs.Grants.{SlotFits, SlotsAgree}
 use Rattle.ark_machine.specs.System.{System, machine_of}
-use Rattle.ark_machine.specs.Follow.{Follow, ends_of, own_index, grown_content, slots_for, slot_content}
+use Rattle.ark_machine.specs.Follow.{Follow, ends_of, own_index, grown_content}
 use Rattle.ark_machine.specs.Recovers.{begun}
 use Rattle.ark_machine.proofs.Grants.{grows_apart, lowest_free}
 use Rattle.ark_held.specs.Areas.{IsRaw}
@@ -47,7 +45,7 @@ use Rattle.ark_held.specs.Around.{Around}
 use Rattle.ark_held.specs.Beside.{AreBeside}
 use Rattle.ark_held.specs.Held.{Holds}
 use Rattle.ark_held.specs.Keeps.{SameAt}
-use Rattle.ark_held.specs.Words.{AreaList, grant_at, with_spans}
+use Rattle.ark_held.specs.Words.{AreaList, with_spans}
 use Rattle.ark_held.proofs.Lists.{name_same, other_name}
 use Rattle.ark_held.proofs.Members.{contains_in, in_contains}
 use Rattle.ark_held.proofs.Besides.{same_beside, same_history}
@@ -59,7 +57,6 @@ use Rattle.ark_held.proofs.Granted.{not_but}
 use Rattle.ark_held.proofs.Doing.{same_tables}
 use Rattle.ark_held.specs.declared.app.App.{App}
 use Rattle.ark_held.specs.declared.areas.Area.{Area as Kept}
-use Rattle.ark_own.specs.Finds.{IsThere}
 use Rattle.ark_host.specs.declared.host.Host.{Host}
 use Rattle.ark_host.specs.declared.host.grow.Growth.{Growth}
 use Rattle.ark_host.specs.Tabled.{table_of, with_longer, TableStands, StandsBeside, slot_count}
@@ -403,7 +400,7 @@ module _ (host : Host) (size : ℕ) (past : History) (s : System) (a l : List �
             ∙ get_or-replicate n (k - length t.blocks) zero_block [] (omega (arith, near, count))
             ∙ sym (zero_now (get_or more (k - length t.blocks) 0) (Contains-get_or more (k - length t.blocks) 0 near))
             ∙ ap (λ m. block (current past.base (after past es).journal) m) (sym (get_or-append_right t.blocks more k 0 past_own))
-          )
+            )
       ]
 
       -- and a stop leaves no other
@@ -419,7 +416,7 @@ module _ (host : Host) (size : ℕ) (past : History) (s : System) (a l : List �
             let among = Contains-get_or more (k - length t.blocks) 0 near in
             zero_left (get_or more (k - length t.blocks) 0) c among (subst (λ m. MayStand (after past es) m c) here left)
             ∙ sym (zero_now (get_or more (k - length t.blocks) 0) among) ∙ ap (λ m. block (current past.base (after past es).journal) m) (sym here)
-          )
+            )
       ]
 
       new_size : length new_content ≡ length (t.blocks ++ more)
@@ -462,7 +459,7 @@ module _ (host : Host) (size : ℕ) (past : History) (s : System) (a l : List �
         its_spans =
             areas_are ∙ ap (λ i. with_spans app.areas i g.spans) (sym f.its_grant)
             ∙ ap (λ (bs : List ℕ). with_spans app.areas f.cap.grant bs)
-                (ok.spans ∙ ap (λ (bs : List ℕ). bs ++ g.more) (ap (λ (z : Kept). z.spans) (sym f.its_area)) ∙ ap (λ (bs : List ℕ). t.blocks ++ bs) (sym new_blocks))
+            (ok.spans ∙ ap (λ (bs : List ℕ). bs ++ g.more) (ap (λ (z : Kept). z.spans) (sym f.its_area)) ∙ ap (λ (bs : List ℕ). t.blocks ++ bs) (sym new_blocks))
 
         -- a slot that is another one stays
         stays : (b k : List ℕ) → ((u : Slot) → slot_of s.plane b k ≡ Some u → u ≡ t → ⊥) → slot_of plane b k ≡ slot_of s.plane b k

@@ -1,5 +1,5 @@
 -- The blocks that are granted, and those that are free, lie on the device.
-use Rattle.std.proofs.Common.{◌≡◌, ℕ, zero, suc, ◌<◌, ◌≤◌, ◌-◌, List, [], ◌∷◌, ◌++◌, length, take, drop, set, get_or, cond, refl, sym, subst, arith, All}
+use Rattle.std.proofs.Common.{◌≡◌, ℕ, zero, suc, ◌<◌, ◌≤◌, ◌-◌, List, [], ◌∷◌, ◌++◌, length, take, drop, set, get_or, cond, refl, sym, ap, subst, arith, All}
 use Rattle.std.specs.Prelude.{Option, Some, None, Ok, nat_eq}
 use Rattle.ark_base.specs.declared.kind.Kind.{Kind}
 use Rattle.ark_base.specs.declared.kind.Kind.TheVariants as kind
@@ -99,7 +99,7 @@ module _ (size : ℕ) where
       same y z e = cc (e)
 
   by_raw : (k : Kind) (g h : ℕ) (a b : Area) → grant_if_raw k g a ≡ Ok (h, b) → Below a.spans → Below b.spans
-  by_raw kind.Raw g h a b is below = subst (λ (z : Area). Below z.spans) (cc (is)) below
+  by_raw kind.Raw g h a b is below = let pair : (g, a) ≡ (h, b) = cc (is) in let same : a ≡ b = ap (λ (p : ℕ × Area). p.1) pair in subst (λ (z : Area). Below z.spans) same below
   by_raw kind.Log g h a b is below = absurd (cc (is))
   by_raw kind.Queue g h a b is below = absurd (cc (is))
 

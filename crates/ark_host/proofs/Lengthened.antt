@@ -1,6 +1,6 @@
 -- Slots of which one got more blocks.
-use Rattle.std.proofs.Common.{◌≡◌, ◌⊎◌, inl, inr, ℕ, zero, suc, ◌-◌, Bool, true, false, cond, not, ◌||◌, ◌==◌, List, [], ◌∷◌, ◌++◌, map, set, refl, sym, ◌∙◌, ap, subst, arith, bytes_eq, Contains}
-use Rattle.std.specs.Prelude.{Option, Some, None, find, option_map, slice_get}
+use Rattle.std.proofs.Common.{◌≡◌, ◌⊎◌, inl, inr, ℕ, zero, suc, ◌-◌, Bool, true, false, cond, ◌||◌, ◌==◌, List, [], ◌∷◌, ◌++◌, map, set, refl, sym, ◌∙◌, ap, subst, arith, bytes_eq, Contains}
+use Rattle.std.specs.Prelude.{Some, find, option_map, slice_get}
 use Rattle.std.proofs.lemmas.Bool.{false≢true}
 use Rattle.std.proofs.lemmas.Bool.Decides.{nat_tests}
 use Rattle.std.proofs.lemmas.List.Folds.{list_any-append}
@@ -13,7 +13,7 @@ use Rattle.ark_machine.specs.Granting.{with_more}
 use Rattle.ark_machine.specs.Grants.{has_block, has_index, SlotFits, SlotsFit, SlotsApart}
 use Rattle.ark_machine.proofs.Grants.{or_false}
 use Rattle.ark_held.specs.Totals.{bit}
-use Rattle.ark_held.proofs.Members.{In, contains_in, in_contains, get_has}
+use Rattle.ark_held.proofs.Members.{In, get_has}
 use Rattle.ark_host.specs.Tabled.{table_of, slot_count}
 use Rattle.ark_host.proofs.Machines.{by_test}
 use Rattle.ark_host.proofs.Freeing.{eq_same}

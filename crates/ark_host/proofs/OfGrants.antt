@@ -1,9 +1,7 @@
 -- The raw area of a grant under a label: what is found, and what the host's table has of it.
-use Rattle.std.proofs.Common.{◌≡◌, ℕ, suc, ◌+◌, ◌-◌, ◌≤◌, Bool, true, false, cond, ◌==◌, List, [], ◌∷◌, ◌++◌, length, take, get_or, nat_eq, refl, sym, ◌∙◌, ap, subst, arith, bytes_eq, Contains}
+use Rattle.std.proofs.Common.{◌≡◌, ℕ, suc, ◌+◌, ◌≤◌, false, cond, ◌==◌, List, [], ◌∷◌, ◌++◌, length, take, refl, sym, ◌∙◌, ap, subst, arith, Contains}
 use Rattle.std.specs.Prelude.{Option, Some, None, Result, Ok, Err}
-use Rattle.std.specs.Map.{lookup}
 use Rattle.std.proofs.lemmas.Bool.{false≢true}
-use Rattle.std.proofs.lemmas.Bool.Decides.{nat_tests}
 use Rattle.ark_base.specs.declared.block.Span.{Span}
 use Rattle.ark_base.specs.declared.kind.Kind.{Kind}
 use Rattle.ark_base.specs.declared.kind.Kind.TheVariants as kind
@@ -15,13 +13,12 @@ use Rattle.ark_caps.specs.Labels.{value_at}
 use Rattle.ark_caps.specs.declared.capability.Capability.{Capability}
 use Rattle.ark_caps.specs.declared.capability.CapKind.{CapKind}
 use Rattle.ark_caps.specs.declared.capability.CapKind.TheVariants as cap_kind
-use Rattle.ark_table.specs.Area.{Area}
-use Rattle.ark_table.specs.Slots.{Slot, area_of}
+use Rattle.ark_table.specs.Slots.{area_of}
 use Rattle.ark_table.specs.Standing.{Table, slot_in}
 use Rattle.ark_machine.specs.Objects
 use Rattle.ark_machine.specs.Objects.{Object, as_raw}
 use Rattle.ark_machine.specs.Machine.{Held, at}
-use Rattle.ark_machine.specs.Plane.{lowest, free_blocks}
+use Rattle.ark_machine.specs.Plane.{lowest}
 use Rattle.ark_machine.specs.System.{System, machine_of}
 use Rattle.ark_machine.proofs.Grants.{lowest_free}
 use Rattle.ark_held.specs.Around.{Around}
@@ -140,4 +137,4 @@ module _ (host : Host) (size : ℕ) (past : History) (s : System) (a l : List �
     apart_lowest n m own new = false≢true (sym (lowest_free s.plane n m (has (lowest s.plane n) m new)) ∙ its_own s f.area.slot m held.0 own)
 
     pub apart_free : (n : ℕ) → host.failed ≡ false → ShareNoBlock f.area.slot.blocks (take n host.free)
-    apart_free n no = subst (λ (bs : List ℕ). ShareNoBlock f.area.slot.blocks (take n bs)) (st.plane.free no) (apart_lowest n)
+    apart_free n fine = subst (λ (bs : List ℕ). ShareNoBlock f.area.slot.blocks (take n bs)) (st.plane.free fine) (apart_lowest n)

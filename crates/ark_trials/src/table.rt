@@ -3,6 +3,7 @@
 
 use crate::areas::{BLOCKS, GRANTS};
 use crate::commands::{COMMANDS, OTHER_WORDS};
+use crate::growing::GROWN;
 use crate::lines::{EMPTY_LINES, LINES};
 use crate::runs::{Finished, run_words};
 use crate::words::{CARDS_AND_DOORS, EVERY_WORD, FRAMES, TICKS, WORDS_TO_COME};
@@ -93,6 +94,7 @@ fn answers_as_the_tables_say(rt: HostRuntime) -> Result<(), Fail> {
         CARDS_AND_DOORS,
         GRANTS,
         BLOCKS,
+        GROWN,
     ] {
         let whole = other_row(alloc, table, LastLine::Whole, Status::Done)?;
         assert_eq!(rt; whole, None);

@@ -15,6 +15,7 @@ use ark_script::Said;
 
 // What an area may get: the place of its application, the number of its grant, and the blocks to be added, by themselves and
 // behind its own.
+#[derive(Clone, Copy)]
 struct Growth {
     place: usize,
     grant: u64,
@@ -40,7 +41,7 @@ impl Host {
             return Err(Refusal::NoApplication);
         };
         let (grant, area) = match self.apps[place].raw_area(label) {
-            Ok(found) => found,
+            Ok((grant, area)) => (grant, *area),
             Err(refusal) => return Err(refusal),
         };
         if self.failed {
