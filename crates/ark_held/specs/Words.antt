@@ -25,57 +25,7 @@ AreaList = List (ℕ × Area)
 abbrev pub area_in : Slot → Area
 area_in t = record { kind = t.kind; slot = t.index; spans = t.blocks }
 
--- the blocks of a raw area; those of a log or queue are its own
-abbrev pub raw_blocks : Kind → List ℕ → Result (List ℕ) Refusal
-raw_blocks kind.Raw blocks = Ok blocks
-raw_blocks kind.Log blocks = Err r.WrongKind
-raw_blocks kind.Queue blocks = Err r.WrongKind
-
-abbrev pub found_blocks : Option Area → Result (List ℕ) Refusal
-found_blocks None = Err r.WrongKind
-found_blocks (Some a) = raw_blocks a.kind a.spans
-
--- what a reference to blocks shows, or why there are none
-abbrev pub seen : Result (Bor (List ℕ)) Refusal → Result (List ℕ) Refusal
-seen found = result_map_both (λ s. s.now) (λ e. e) found
-
-abbrev pub area_of : AreaList → CapKind → ℕ → Result (List ℕ) Refusal
-area_of areas cap_kind.Vsa grant = found_blocks (lookup (nat_eq grant) areas)
-area_of areas _ grant = Err r.WrongKind
-
-abbrev pub area_under : AreaList → List ℕ → Option Capability → Result (List ℕ) Refusal
-area_under areas l None = Err (r.NoGrant l)
-area_under areas l (Some c) = area_of areas c.kind c.grant
-
--- the blocks of the raw area under a label, or why there are none
-abbrev pub area_at : Labels → AreaList → List ℕ → Result (List ℕ) Refusal
-area_at labels areas l = area_under areas l (value_at labels l)
-
-abbrev pub limit_if : Bool → Option Refusal
-limit_if true = Some r.Limit
-limit_if false = None
-
-abbrev pub room_under : Labels → AreaList → Option Capability → Option Refusal
-room_under labels areas (Some c) = Some r.NameTaken
-room_under labels areas None = limit_if (nat_le 64 (length labels) || nat_le 8 (length areas))
-
--- why no area can be added under a label, if so
-abbrev pub no_room : Labels → AreaList → List ℕ → Option Refusal
-no_room labels areas l = room_under labels areas (value_at labels l)
-
--- the capability of an area
-abbrev pub new_area_cap : ℕ → Capability
-new_area_cap grant = record { kind = cap_kind.Vsa; grant = grant; key = 0 }
-
-abbrev pub added_to : AreaList → ℕ → Area → Option Area → AreaList
-added_to areas grant area None = areas ++ (grant, area) ∷ []
-added_to areas grant area (Some old) = areas
-
--- with an area more at the end, unless there is one of this grant
-abbrev pub with_area : AreaList → ℕ → Area → AreaList
-with_area areas grant area = added_to areas grant area (lookup (nat_eq grant) areas)
-
--- a raw area with its grant
+-- a raw area with its grant; the blocks of a log or queue are its own
 abbrev pub grant_if_raw : Kind → ℕ → Area → Result (ℕ × Area) Refusal
 grant_if_raw kind.Raw grant a = Ok (grant, a)
 grant_if_raw kind.Log grant a = Err r.WrongKind
@@ -100,6 +50,30 @@ grant_at labels areas l = grant_under areas l (value_at labels l)
 -- what a reference to it shows with its grant
 abbrev pub granted : Result (ℕ × Bor Area) Refusal → Result (ℕ × Area) Refusal
 granted found = result_map_both (λ p. (p.0, p.1.now)) (λ e. e) found
+
+abbrev pub limit_if : Bool → Option Refusal
+limit_if true = Some r.Limit
+limit_if false = None
+
+abbrev pub room_under : Labels → AreaList → Option Capability → Option Refusal
+room_under labels areas (Some c) = Some r.NameTaken
+room_under labels areas None = limit_if (nat_le 64 (length labels) || nat_le 8 (length areas))
+
+-- why no area can be added under a label, if so
+abbrev pub no_room : Labels → AreaList → List ℕ → Option Refusal
+no_room labels areas l = room_under labels areas (value_at labels l)
+
+-- the capability of an area
+abbrev pub new_area_cap : ℕ → Capability
+new_area_cap grant = record { kind = cap_kind.Vsa; grant = grant; key = 0 }
+
+abbrev pub added_to : AreaList → ℕ → Area → Option Area → AreaList
+added_to areas grant area None = areas ++ (grant, area) ∷ []
+added_to areas grant area (Some old) = areas
+
+-- with an area more at the end, unless there is one of this grant
+abbrev pub with_area : AreaList → ℕ → Area → AreaList
+with_area areas grant area = added_to areas grant area (lookup (nat_eq grant) areas)
 
 -- with these blocks in place of those of the first area of this grant
 abbrev pub with_spans : AreaList → ℕ → List ℕ → AreaList

@@ -34,6 +34,8 @@ use Rattle.ark_machine.specs.Fronts.{AtEachFront}
 use Rattle.ark_held.specs.Words.{Labels, AreaList, grant_if_raw, found_grant, grant_of, grant_under, grant_at, with_spans}
 use Rattle.ark_held.specs.declared.app.App.{App}
 use Rattle.ark_held.specs.declared.areas.Area.{Area as Kept}
+use Rattle.ark_held.proofs.Lists.{some_same}
+use Rattle.ark_own.proofs.OfGrants.{IsGrantOf, Lacks}
 use Rattle.ark_host.specs.declared.host.Host.{Host}
 use Rattle.ark_host.specs.declared.host.grow.Growth.{Growth}
 use Rattle.ark_host.specs.Stands.{Stands, Stood, RowDone, LineDone, Steps, IsHeld, IsEarly, around}
@@ -42,9 +44,10 @@ use Rattle.ark_host.proofs.Machines.{by_test}
 use Rattle.ark_host.proofs.Standing.{refused, same_apps, slot_fits}
 use Rattle.ark_host.proofs.Apps.{not_made, held_there}
 use Rattle.ark_host.proofs.Lifting.{quiet_steps}
+use Rattle.ark_host.proofs.Stepping.{early_enough}
 use Rattle.ark_host.proofs.Contents.{logs_open}
 use Rattle.ark_host.proofs.Recovering.{grown_fronts}
-use Rattle.ark_host.proofs.OfGrants.{IsGrantOf, Lacks, lacks, granted_at, held, in_use, apart_free, more_runs}
+use Rattle.ark_host.proofs.OfGrants.{lacks, granted_at, held, in_use, apart_free, more_runs}
 use Rattle.ark_host.proofs.GrowRows.{Says, grow_unmade, grow_missing, grow_kind, grow_failed, grow_no_space, grow_scattered}
 use Rattle.ark_host.proofs.Grown.{mine, its_area, agree, begins, goes, beside, grow_lost, grow_done}
 
@@ -57,10 +60,6 @@ grow_answered host size past s a l n es reply shown has t = record { said = t.sa
 early_plane : (e : Refusal) (p : Plane) (m : Machine) (a l : List ℕ) (n : ℕ) → IsEarly e → plane_after p m (w.grow a l n) (said.Refused e) ≡ p
 early_plane r.DeviceFault p m a l n early = absurd early
 early_plane _ p m a l n early = refl
-
-early_enough : (e : Refusal) → IsEarly e → wants_memory (said.Refused e) ≡ false
-early_enough r.NoMemory early = absurd early
-early_enough _ early = refl
 
 -- what an application says of its areas comes before any device call
 
@@ -102,9 +101,6 @@ not_joined (Some bs) none some = false≢true none
 pub joined : (o : Option (List ℕ)) → is_none o ≡ false → IsSome o
 joined None none = absurd (false≢true (sym none))
 joined (Some bs) none = refl
-
-some_area : (p q : Area) → Some p ≡ Some q → p ≡ q
-some_area p q e = cc (e)
 
 too_many : (k : ℕ) → (k ≤ 16 → ⊥) → 16 < k
 too_many k more = by_test (nat_le k 16) (λ b. nat_le k 16 ≡ b → 16 < k) (λ yes q. absurd (more (grind (arith, nat_tests, q)))) (λ other q. grind (arith, nat_tests, q)) refl
@@ -168,7 +164,7 @@ module _ (host : Host) (a l : List ℕ) (n : ℕ) where
           join_refused area used apart_and_few size h s st =
               let own = its size h s st in
               let f = granted_at host size h s a l app st own grant kept is in
-              let same : blocks_of area.runs ≡ f.area.slot.blocks = ap (λ (z : Area). blocks_of z.runs) (some_area area (area_of f.area.slot) (sym used ∙ in_use host size h s a l app st own grant kept f)) ∙ blocks_of-runs_of f.area.slot.blocks in
+              let same : blocks_of area.runs ≡ f.area.slot.blocks = ap (λ (z : Area). blocks_of z.runs) (some_same (slot_in host.table kept.slot) area (area_of f.area.slot) used (in_use host size h s a l app st own grant kept f)) ∙ blocks_of-runs_of f.area.slot.blocks in
               let apart = apart_free host size h s a l app st own grant kept f n fine in
               grow_scattered host size h s a l n st own.holds.made f.area.held f.area.raw f.area.there f.area.object fine enough f.area.slot f.area.placed
               (too_many (length (runs_of (f.area.slot.blocks ++ take n host.free)))

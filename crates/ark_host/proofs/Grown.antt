@@ -46,7 +46,7 @@ use Rattle.ark_held.specs.Beside.{AreBeside}
 use Rattle.ark_held.specs.Held.{Holds}
 use Rattle.ark_held.specs.Keeps.{SameAt}
 use Rattle.ark_held.specs.Words.{AreaList, with_spans}
-use Rattle.ark_held.proofs.Lists.{name_same, other_name}
+use Rattle.ark_held.proofs.Lists.{name_same, other_name, some_same}
 use Rattle.ark_held.proofs.Members.{contains_in, in_contains}
 use Rattle.ark_held.proofs.Besides.{same_beside, same_history}
 use Rattle.ark_held.proofs.Passing as passing
@@ -57,6 +57,7 @@ use Rattle.ark_held.proofs.Granted.{not_but}
 use Rattle.ark_held.proofs.Doing.{same_tables}
 use Rattle.ark_held.specs.declared.app.App.{App}
 use Rattle.ark_held.specs.declared.areas.Area.{Area as Kept}
+use Rattle.ark_own.proofs.OfGrants.{IsGrantOf}
 use Rattle.ark_host.specs.declared.host.Host.{Host}
 use Rattle.ark_host.specs.declared.host.grow.Growth.{Growth}
 use Rattle.ark_host.specs.Tabled.{table_of, with_longer, TableStands, StandsBeside, slot_count}
@@ -75,7 +76,7 @@ use Rattle.ark_host.proofs.Placing.{names_set, set_at, set_counted}
 use Rattle.ark_host.proofs.Planned.{ended_sync, made_fault, made_sync, grant_beside, grant_syncs, grant_follows}
 use Rattle.ark_host.proofs.Granted.{synced_made, synced_now}
 use Rattle.ark_host.proofs.Recovering.{grown_table}
-use Rattle.ark_host.proofs.OfGrants.{IsGrantOf, held, in_use}
+use Rattle.ark_host.proofs.OfGrants.{held, in_use}
 use Rattle.ark_host.proofs.GrowRows.{grown_row, lost_row, grow_begins}
 
 -- a machine with another object, after a sync
@@ -130,10 +131,7 @@ module _ (host : Host) (size : ℕ) (past : History) (s : System) (a l : List �
 
   -- its area has few runs with the new blocks
   pub its_area : ok.joins.area ≡ area_of t
-  its_area = some_area ok.joins.area (area_of t) (sym ok.joins.used ∙ its_use)
-    where
-      some_area : (p q : Area) → Some p ≡ Some q → p ≡ q
-      some_area p q e = cc (e)
+  its_area = some_same (slot_in host.table g.area.slot) ok.joins.area (area_of t) ok.joins.used its_use
 
   compact : length (runs_of (t.blocks ++ take n host.free)) ≤ max_runs
   compact = subst (λ (bs : List ℕ). length (runs_of (bs ++ take n host.free)) ≤ max_runs) (ap (λ (z : Area). blocks_of z.runs) its_area ∙ blocks_of-runs_of t.blocks)

@@ -1,20 +1,15 @@
 -- The blocks that are granted, and those that are free, lie on the device.
-use Rattle.std.proofs.Common.{◌≡◌, ℕ, zero, suc, ◌<◌, ◌≤◌, ◌-◌, List, [], ◌∷◌, ◌++◌, length, take, drop, set, get_or, cond, refl, sym, ap, subst, arith, All}
+use Rattle.std.proofs.Common.{◌≡◌, ℕ, zero, suc, ◌<◌, ◌≤◌, ◌-◌, List, [], ◌∷◌, ◌++◌, length, take, drop, set, get_or, cond, sym, subst, arith, All}
 use Rattle.std.specs.Prelude.{Option, Some, None, Ok, nat_eq}
-use Rattle.ark_base.specs.declared.kind.Kind.{Kind}
-use Rattle.ark_base.specs.declared.kind.Kind.TheVariants as kind
-use Rattle.ark_caps.specs.Labels.{value_at}
-use Rattle.ark_caps.specs.declared.capability.Capability.{Capability}
-use Rattle.ark_caps.specs.declared.capability.CapKind.{CapKind}
-use Rattle.ark_caps.specs.declared.capability.CapKind.TheVariants as cap_kind
 use Rattle.std.specs.Map.{lookup}
 use Rattle.std.proofs.lemmas.List.Elements.{All-append, All-drop, All-get_or, All-set, All-take}
 use Rattle.std.proofs.lemmas.List.FromFn.{length-range_with_len, get_or-range_with_len}
 use Rattle.ark_extents.specs.Free.{free_at_first}
 use Rattle.ark_held.specs.Inside.{AreasInside}
-use Rattle.ark_held.specs.Words.{AreaList, added_to, with_area, with_spans, grant_if_raw, found_grant, grant_of, grant_under, grant_at}
+use Rattle.ark_held.specs.Words.{AreaList, added_to, with_area, with_spans, grant_at}
 use Rattle.ark_held.specs.declared.app.App.{App}
 use Rattle.ark_held.specs.declared.areas.Area.{Area}
+use Rattle.ark_own.proofs.OfGrants.{below_grant}
 use Rattle.ark_host.specs.Inside.{IsInside}
 use Rattle.ark_host.specs.declared.host.Host.{Host}
 use Rattle.ark_host.proofs.Machines.{by_test}
@@ -87,37 +82,9 @@ module _ (size : ℕ) where
       let new : AreasInside size app1.areas = subst (λ (x : AreaList). AreasInside size x) (sym areas) (spans_inside app.areas g spans old below) in
       (inside.0, inside.1, All-set (λ x. AreasInside size x.areas) host.apps.items place app1 new inside.2, subst (λ (xs : List ℕ). Below xs) (sym left) (All-drop (λ n. n < size) blocks host.free inside.3))
 
-  -- the raw area that is found under a label
-
-  found_inside : (areas : AreaList) (g : ℕ) (a : Area) → AreasInside size areas → lookup (nat_eq g) areas ≡ Some a → Below a.spans
-  found_inside [] g a inside is = absurd (cc (is))
-  found_inside (x ∷ xs) g a inside is = by_test (nat_eq g x.0) (λ b. cond b (Some x.1) (lookup (nat_eq g) xs) ≡ Some a → Below a.spans)
-      (λ yes e. subst (λ (z : Area). Below z.spans) (same x.1 a e) (inside 0 x (omega arith)))
-      (λ no e. found_inside xs g a (λ k d lt. inside (suc k) d (omega (arith, lt))) e) is
-    where
-      same : (y z : Area) → Some y ≡ Some z → y ≡ z
-      same y z e = cc (e)
-
-  by_raw : (k : Kind) (g h : ℕ) (a b : Area) → grant_if_raw k g a ≡ Ok (h, b) → Below a.spans → Below b.spans
-  by_raw kind.Raw g h a b is below = let pair : (g, a) ≡ (h, b) = cc (is) in let same : a ≡ b = ap (λ (p : ℕ × Area). p.1) pair in subst (λ (z : Area). Below z.spans) same below
-  by_raw kind.Log g h a b is below = absurd (cc (is))
-  by_raw kind.Queue g h a b is below = absurd (cc (is))
-
-  by_found : (areas : AreaList) (g h : ℕ) (b : Area) (o : Option Area) → lookup (nat_eq g) areas ≡ o → AreasInside size areas → found_grant g o ≡ Ok (h, b) → Below b.spans
-  by_found areas g h b None at inside is = absurd (cc (is))
-  by_found areas g h b (Some a) at inside is = by_raw a.kind g h a b is (found_inside areas g a inside at)
-
-  by_kind : (areas : AreaList) (k : CapKind) (g h : ℕ) (b : Area) → AreasInside size areas → grant_of areas k g ≡ Ok (h, b) → Below b.spans
-  by_kind areas cap_kind.Vsa g h b inside is = by_found areas g h b (lookup (nat_eq g) areas) refl inside is
-  by_kind areas _ g h b inside is = absurd (cc (is))
-
-  by_cap : (areas : AreaList) (l : List ℕ) (c : Option Capability) (h : ℕ) (b : Area) → AreasInside size areas → grant_under areas l c ≡ Ok (h, b) → Below b.spans
-  by_cap areas l None h b inside is = absurd (cc (is))
-  by_cap areas l (Some c) h b inside is = by_kind areas c.kind c.grant h b inside is
-
   pub grant_inside : (host : Host) (place : ℕ) (app : App) (l : List ℕ) (g blocks : ℕ) (a : Area) (spans more : List ℕ) → place < length host.apps.items → get_or host.apps.items place app ≡ app
       → grant_at app.labels app.areas l ≡ Ok (g, a) → spans ≡ a.spans ++ more → more ≡ take blocks host.free → IsInside size host → Below spans
   grant_inside host place app l g blocks a spans more lt at found joined is inside =
       let areas : AreasInside size app.areas = subst (λ (x : App). AreasInside size x.areas) at (All-get_or (λ x. AreasInside size x.areas) host.apps.items place app lt inside.2) in
       subst (λ (xs : List ℕ). Below xs) (sym joined)
-      (All-append (λ n. n < size) a.spans more (by_cap app.areas l (value_at app.labels l) g a areas found) (subst (λ (xs : List ℕ). Below xs) (sym is) (All-take (λ n. n < size) blocks host.free inside.3)))
+      (All-append (λ n. n < size) a.spans more (below_grant size app.labels app.areas l (g, a) areas found) (subst (λ (xs : List ℕ). Below xs) (sym is) (All-take (λ n. n < size) blocks host.free inside.3)))

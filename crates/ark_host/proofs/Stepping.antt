@@ -46,7 +46,7 @@ early_plane : (e : Refusal) (p : Plane) (m : Machine) (a l : List ℕ) (n : ℕ)
 early_plane r.DeviceFault p m a l n k early = absurd early
 early_plane _ p m a l n k early = refl
 
-early_enough : (e : Refusal) → IsEarly e → wants_memory (said.Refused e) ≡ false
+pub early_enough : (e : Refusal) → IsEarly e → wants_memory (said.Refused e) ≡ false
 early_enough r.NoMemory early = absurd early
 early_enough _ early = refl
 
