@@ -6,7 +6,7 @@ use Rattle.ark_media.specs.Journal.{Event, History, HasFailed, onto}
 use Rattle.ark_media.specs.Calls.{Told, Beside, Rose, KeepsBeside, KeepsAtAttach, KeepsAtFetch, KeepsAtPut}
 use Rattle.ark_cli.specs.Session.{NoneFailed}
 use Rattle.ark_cli.specs.Complete.{HasNoFault}
-use Rattle.ark_cli.specs.Opening.{SinceMake}
+use Rattle.ark_cli.specs.Opening.{Start, Since}
 use Rattle.ark_cli.specs.Ending.{Does, no_command, unread, no_memory, no_device, runs}
 
 pub none_failed : (b : Beside) → NoneFailed b b
@@ -45,15 +45,15 @@ journal_failed es h = elim (failed_onto es [] h) [
 ]
 
 module _ (words : List (List ℕ)) (t0 t1 : Told) (b0 b1 : Beside) (still : Rose t0.faults t1.faults → ⊥) where
-  since_unfailed : (size : ℕ) (device : List ℕ) (events : List Event) (bytes : List ℕ) → SinceMake size device events bytes t0 t1 b0 b1 → HasNoFault t1.history
-  since_unfailed size device events bytes since = record {
+  since_unfailed : (start : Start) (device : List ℕ) (events : List Event) (bytes : List ℕ) → Since start device events bytes t0 t1 b0 b1 → HasNoFault t1.history
+  since_unfailed start device events bytes since = record {
     none = λ h is failed. still (since.cause (journal_failed events (subst (λ (x : History). HasFailed x.journal) (since.begins h is) failed)));
   }
 
-  -- a program that was done made a device, of which no call failed
+  -- a program that was done had a device, of which no call failed
   pub no_fault : (status : Status) → status ≡ Done → Does words t0 t1 b0 b1 status → HasNoFault t1.history
   no_fault status done (no_command is none quiet) = absurd (cc (done, is))
   no_fault status done (unread is quiet) = absurd (cc (done, is))
-  no_fault status done (no_memory size device is run quiet) = absurd (cc (done, is))
-  no_fault status done (no_device size device is run refused) = absurd (cc (done, is))
-  no_fault status done (runs size device run closed) = since_unfailed size device closed.events closed.script closed.since
+  no_fault status done (no_memory blocks device is run quiet) = absurd (cc (done, is))
+  no_fault status done (no_device blocks device is run refused) = absurd (cc (done, is))
+  no_fault status done (runs start device run closed) = since_unfailed start device closed.events closed.script closed.since

@@ -4,5 +4,4 @@ pub mod Cut
 pub mod Session
 pub mod Opening
 pub mod Ending
-pub mod Attached
 pub mod Complete

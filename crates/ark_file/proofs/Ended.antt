@@ -4,10 +4,14 @@ use Rattle.std.specs.Prelude.{Some}
 use Rattle.ark_base.specs.declared.status.Status.{Status}
 use Rattle.ark_base.specs.declared.status.Status.TheVariants.{Done, Usage, Source, Sink, Device, Memory, Damaged, Long}
 use Rattle.ark_media.specs.Journal.{Event, History, onto}
-use Rattle.ark_media.specs.Calls.{Opening, Script, Adds, Takes, making}
+use Rattle.ark_media.specs.Calls.{Opening, Script, Adds, Takes}
 use Rattle.ark_media.specs.Parts.{parts}
 use Rattle.ark_script.specs.Lines.{lines_of}
 use Rattle.ark_cli.specs.Words.{IsRun}
+use Rattle.ark_script.specs.Text.{text}
+use Rattle.ark_script.specs.declared.said.Said.TheVariants.{Ready}
+use Rattle.ark_cli.specs.Opening.{Start, asking, blocks_of, blocks_asked}
+use Rattle.ark_cli.proofs.Openings.{slots_told}
 use Rattle.ark_cli.specs.Ending as ending
 use Rattle.ark_cli.specs.Ending.{Does, HasRun, Ends, Closes, IsQuiet, IsDeviceRefused, IsClosed}
 use Rattle.ark_record.specs.Replay.{Model}
@@ -79,22 +83,24 @@ module _ (old now : Model) (honest : now.is_honest ≡ true) where
     taken = taken [] r.takes ∙ append-nil old.taken;
   }
 
-  cut : (size : ℕ) (script : List ℕ) (whole : List (List Event)) (rest : List Event) → Ends size (told_of now) Sink script whole rest → EndsBy size (told_of now) Sink script whole rest
-  cut size script [] rest e = e
-  cut size script (opening ∷ whole) rest e = e h told
+  cut : (start : Start) (script : List ℕ) (whole : List (List Event)) (rest : List Event) → Ends start (told_of now) Sink script whole rest → EndsBy start (told_of now) Sink script whole rest
+  cut start script [] rest e =
+      let t = slots_told start (told_of now) e.0 h told e.1 in
+      (t.0, t.1, (e.2.0, ap (λ n. text (Ready (blocks_of start) n) []) (sym t.2) ∙ e.2.1))
+  cut start script (opening ∷ whole) rest e = e h told
 
-  ends_by : (size : ℕ) (status : Status) (script : List ℕ) (whole : List (List Event)) (rest : List Event) → Ends size (told_of now) status script whole rest → EndsBy size (told_of now) status script whole rest
-  ends_by size Sink script whole rest e = cut size script whole rest e
-  ends_by size Done script whole rest e = e
-  ends_by size Usage script whole rest e = e
-  ends_by size Source script whole rest e = e
-  ends_by size Device script whole rest e = e
-  ends_by size Memory script whole rest e = e
-  ends_by size (Damaged block) script whole rest e = e
-  ends_by size Long script whole rest e = e
+  ends_by : (start : Start) (status : Status) (script : List ℕ) (whole : List (List Event)) (rest : List Event) → Ends start (told_of now) status script whole rest → EndsBy start (told_of now) status script whole rest
+  ends_by start Sink script whole rest e = cut start script whole rest e
+  ends_by start Done script whole rest e = e
+  ends_by start Usage script whole rest e = e
+  ends_by start Source script whole rest e = e
+  ends_by start Device script whole rest e = e
+  ends_by start Memory script whole rest e = e
+  ends_by start (Damaged block) script whole rest e = e
+  ends_by start Long script whole rest e = e
 
-  run_on : (size : ℕ) (device : List ℕ) (status : Status) → IsClosed size device (told_of old) (told_of now) (beside_of old) (beside_of now) status → IsRunOn size device status old now
-  run_on size device status c =
+  run_on : (start : Start) (device : List ℕ) (status : Status) → IsClosed start device (told_of old) (told_of now) (beside_of old) (beside_of now) status → IsRunOn start device status old now
+  run_on start device status c =
       let begins = c.since.begins h told in
       record {
         script = c.script;
@@ -111,7 +117,8 @@ module _ (old now : Model) (honest : now.is_honest ≡ true) where
         closing = c.closing;
         unfinished = c.unfinished;
         closes = c.closes;
-        ends = ends_by size status c.script (parts c.events).whole c.rest c.ends;
+        ends = ends_by start status c.script (parts c.events).whole c.rest c.ends;
+        heeds = c.heeds;
         at_end = λ is. (c.at_end is).none s shown;
         long = c.long;
         short = c.short;
@@ -120,25 +127,25 @@ module _ (old now : Model) (honest : now.is_honest ≡ true) where
   pub ended : (words : List (List ℕ)) (status : Status) → Does words (told_of old) (told_of now) (beside_of old) (beside_of now) status → HasEnded words old now status
   ended words status (ending.no_command usage none quiet) = no_command usage none (unopened status quiet)
   ended words status (ending.unread memory quiet) = no_memory memory (unopened status quiet)
-  ended words status (ending.no_memory size device memory command quiet) = no_memory memory (unopened status quiet)
-  ended words status (ending.no_device size device failed command r) = no_device size device failed command (refused (making device size false) status r)
-  ended words status (ending.runs size device command closed) = ran size device command (run_on size device status closed)
+  ended words status (ending.no_memory blocks device memory command quiet) = no_memory memory (unopened status quiet)
+  ended words status (ending.no_device blocks device failed command r) = no_device blocks device failed command (refused (asking blocks device false) status r)
+  ended words status (ending.runs start device command closed) = ran start device command (run_on start device status closed)
 
 -- a run with status 0
-done_on : (words : List (List ℕ)) (old now : Model) (size : ℕ) (device : List ℕ) → IsRun words size device → IsRunOn size device Done old now → IsDone words old now
-done_on words old now size device command r =
+done_on : (words : List (List ℕ)) (old now : Model) (start : Start) (device : List ℕ) → IsRun words (blocks_asked start) device → IsRunOn start device Done old now → IsDone words old now
+done_on words old now start device command r =
     let none = r.at_end refl in
     let whole : old.rest.script ≡ r.script = r.left ∙ ap (λ l. r.script ++ l) none ∙ append-nil r.script in
     let unfinished : (parts r.events).unfinished ≡ [] = r.unfinished ∙ ap (λ l. l ++ r.closing) r.ends.1 ∙ r.closes in
     record {
-      size = size;
+      start = start;
       device = device;
       command = command;
       events = r.events;
       openings = r.openings;
       base = r.base;
       journal = r.journal;
-      run = subst (λ l. HasRun size (lines_of l) (parts r.events).whole []) (sym whole) (subst (λ u. HasRun size (lines_of r.script) (parts r.events).whole u) unfinished r.run);
+      run = subst (λ l. HasRun start (lines_of l) (parts r.events).whole []) (sym whole) (subst (λ u. HasRun start (lines_of r.script) (parts r.events).whole u) unfinished r.run);
       replies = subst (λ l. length (parts r.events).whole ≡ length (lines_of l) + 1) (sym whole) r.ends.0;
       unfinished = unfinished;
       left = none;
@@ -147,8 +154,8 @@ done_on words old now size device command r =
 done_by : (words : List (List ℕ)) (old now : Model) → HasEnded words old now Done → IsDone words old now
 done_by words old now (no_command usage none silent) = absurd (cc usage)
 done_by words old now (no_memory memory silent) = absurd (cc memory)
-done_by words old now (no_device size device failed command silent) = absurd (cc failed)
-done_by words old now (ran size device command r) = done_on words old now size device command r
+done_by words old now (no_device blocks device failed command silent) = absurd (cc failed)
+done_by words old now (ran start device command r) = done_on words old now start device command r
 
 pub done : (words : List (List ℕ)) (old now : Model) (status : Status) → status ≡ Done → HasEnded words old now status → IsDone words old now
 done words old now status is e = done_by words old now (subst (λ x. HasEnded words old now x) is e)

@@ -1,24 +1,25 @@
 -- How a run over a real outside ended, where all that it answered was what is supposed.
-use Rattle.std.specs.Prelude.{◌≡◌, ◌+◌, ◌≤◌, ℕ, true, false, List, [], ◌∷◌, ◌++◌, length}
+use Rattle.std.specs.Prelude.{◌≡◌, ◌+◌, ◌≤◌, ℕ, true, false, List, [], ◌∷◌, ◌++◌, length, Option}
 use Rattle.ark_base.specs.Status.{code_of}
 use Rattle.ark_base.specs.declared.status.Status.{Status}
 use Rattle.ark_base.specs.declared.status.Status.TheVariants.{Done, Usage, Sink, Device, Memory, Long}
-use Rattle.ark_media.specs.Journal.{Event, onto, fresh, output_of, HasFailed}
-use Rattle.ark_media.specs.Calls.{Opening, making, Told, Rose}
+use Rattle.ark_media.specs.Journal.{Event, onto, output_of, device_events, HasFailed}
+use Rattle.ark_media.specs.Calls.{Opening, Told, Rose}
 use Rattle.ark_media.specs.Parts.{parts}
 use Rattle.ark_script.specs.Lines.{lines_of}
 use Rattle.ark_script.specs.Text.{text}
 use Rattle.ark_script.specs.declared.said.Said.TheVariants.{Ready}
-use Rattle.ark_machine.specs.System.{fresh_system}
+use Rattle.ark_machine.specs.System.{System}
 use Rattle.ark_cli.specs.Words.{IsRun}
 use Rattle.ark_cli.specs.Line.{limit}
 use Rattle.ark_cli.specs.Cut.{CutReplies, CutConfined}
+use Rattle.ark_cli.specs.Opening.{Start, base_of, blocks_of, blocks_asked, asking, Starts, HeedsDamage}
 use Rattle.ark_cli.specs.Ending.{Does, HasRun, Ends, Closes, RecoversAtFronts}
 use Rattle.ark_record.specs.Replay.{Past, Model, model_of}
 use Rattle.ark_record.specs.Watch.{told_of, told_by, beside_by}
 use Rattle.ark_record.specs.Honest.{IsHonest}
 
--- No device was made: these openings were asked for, the closing line alone came, and no byte of the script was taken.
+-- No device was opened: these openings were asked for, the closing line alone came, and no byte of the script was taken.
 pub record IsUnopened (asked : List Opening) (status : Status) (old now : Model) : Type 0 where
   pub closing : List Event
   pub closes : Closes status old.sink_faults now.sink_faults closing
@@ -29,60 +30,62 @@ pub record IsUnopened (asked : List Opening) (status : Status) (old now : Model)
 
 -- Where a put failed, what stands behind the whole parts shows the first bytes of the line that was put: that of the device, or
 -- the next reply.
-abbrev pub CutEnds : ℕ → List ℕ → List (List Event) → List Event → Type 0
-CutEnds size script [] rest = (more : List ℕ) × (text (Ready size 0) [] ≡ output_of rest ++ more)
-CutEnds size script (opening ∷ whole) rest =
-    CutReplies (fresh_system size) (lines_of script) whole rest × CutConfined (fresh_system size) (lines_of script) whole rest
+abbrev pub CutEnds : Start → List ℕ → List (List Event) → List Event → Type 0
+CutEnds start script [] rest =
+    (s : System) × Starts start s × ((more : List ℕ) × (text (Ready (blocks_of start) (length s.plane.slots)) [] ≡ output_of rest ++ more))
+CutEnds start script (opening ∷ whole) rest =
+    (s : System) × Starts start s × CutReplies s (lines_of script) whole rest × CutConfined s (lines_of script) whole rest
 
 -- how many whole parts there are by the status, and what stands behind them
-abbrev pub EndsBy : ℕ → Told → Status → List ℕ → List (List Event) → List Event → Type 0
-EndsBy size told Sink script whole rest = CutEnds size script whole rest
-EndsBy size told status script whole rest = Ends size told status script whole rest
+abbrev pub EndsBy : Start → Told → Status → List ℕ → List (List Event) → List Event → Type 0
+EndsBy start told Sink script whole rest = CutEnds start script whole rest
+EndsBy start told status script whole rest = Ends start told status script whole rest
 
--- A device was made, and the script run on it.
-pub record IsRunOn (size : ℕ) (device : List ℕ) (status : Status) (old now : Model) : Type 0 where
+-- A device was made, or was there, and the script was run on it.
+pub record IsRunOn (start : Start) (device : List ℕ) (status : Status) (old now : Model) : Type 0 where
   -- the bytes of the script that were taken, and the events of the run in order
   pub script : List ℕ
   pub events : List Event
-  -- this device alone was asked for; it was made of zero blocks, and since then these events came, and no others
-  pub openings : now.openings ≡ old.openings ++ making device size true ∷ []
-  pub base : now.base ≡ (fresh size).base
+  -- this device alone was asked for; it had this image, and since then these events came, and no others
+  pub openings : now.openings ≡ old.openings ++ asking (blocks_asked start) device true ∷ []
+  pub base : now.base ≡ base_of start
   pub journal : now.journal ≡ onto events []
   pub faults : HasFailed events → Rose old.disk_faults now.disk_faults
   pub taken : now.taken ≡ old.taken ++ script
   pub left : old.rest.script ≡ script ++ now.rest.script
-  pub run : HasRun size (lines_of script) (parts events).whole (parts events).unfinished
-  pub recovers : RecoversAtFronts size (lines_of script) events
+  pub run : HasRun start (lines_of script) (parts events).whole (parts events).unfinished
+  pub recovers : RecoversAtFronts start (lines_of script) events
   -- the unfinished part ends with the closing line
   pub rest : List Event
   pub closing : List Event
   pub unfinished : (parts events).unfinished ≡ rest ++ closing
   pub closes : Closes status old.sink_faults now.sink_faults closing
-  pub ends : EndsBy size (told_of now) status script (parts events).whole rest
+  pub ends : EndsBy start (told_of now) status script (parts events).whole rest
+  pub heeds : HeedsDamage start (told_of now) status (device_events rest)
   pub at_end : status ≡ Done → now.rest.script ≡ []
   pub long : status ≡ Long → length script ≡ limit + 1
   pub short : (status ≡ Long → ⊥) → length script ≤ limit
 
--- From one model of the outside to another: the words were no command, memory was wanting before the device was made, the device
--- could not be made, or the script was run.
+-- From one model of the outside to another: the words were no command, memory was wanting before a device was asked for, the
+-- device could not be made or attached, or the script was run.
 pub data HasEnded (words : List (List ℕ)) (old now : Model) (status : Status) : Type 0 where
-  no_command : status ≡ Usage → ((size : ℕ) (device : List ℕ) → IsRun words size device → ⊥) → IsUnopened [] status old now → HasEnded words old now status
+  no_command : status ≡ Usage → ((blocks : Option ℕ) (device : List ℕ) → IsRun words blocks device → ⊥) → IsUnopened [] status old now → HasEnded words old now status
   no_memory : status ≡ Memory → IsUnopened [] status old now → HasEnded words old now status
-  no_device : (size : ℕ) (device : List ℕ) → status ≡ Device → IsRun words size device → IsUnopened (making device size false ∷ []) status old now → HasEnded words old now status
-  ran : (size : ℕ) (device : List ℕ) → IsRun words size device → IsRunOn size device status old now → HasEnded words old now status
+  no_device : (blocks : Option ℕ) (device : List ℕ) → status ≡ Device → IsRun words blocks device → IsUnopened (asking blocks device false ∷ []) status old now → HasEnded words old now status
+  ran : (start : Start) (device : List ℕ) → IsRun words (blocks_asked start) device → IsRunOn start device status old now → HasEnded words old now status
 
--- The whole script was run, on a device that was made.
+-- The whole script was run, on a device that was made, or was there.
 pub record IsDone (words : List (List ℕ)) (old now : Model) : Type 0 where
-  pub size : ℕ
+  pub start : Start
   pub device : List ℕ
-  pub command : IsRun words size device
-  -- this device alone was asked for; it was made of zero blocks, and since then these events came, and no others
+  pub command : IsRun words (blocks_asked start) device
+  -- this device alone was asked for; it had this image, and since then these events came, and no others
   pub events : List Event
-  pub openings : now.openings ≡ old.openings ++ making device size true ∷ []
-  pub base : now.base ≡ (fresh size).base
+  pub openings : now.openings ≡ old.openings ++ asking (blocks_asked start) device true ∷ []
+  pub base : now.base ≡ base_of start
   pub journal : now.journal ≡ onto events []
   -- they are the opening, and then one part for each line of the script, each of which answers as the machines do
-  pub run : HasRun size (lines_of old.rest.script) (parts events).whole []
+  pub run : HasRun start (lines_of old.rest.script) (parts events).whole []
   pub replies : length (parts events).whole ≡ length (lines_of old.rest.script) + 1
   pub unfinished : (parts events).unfinished ≡ []
   pub left : now.rest.script ≡ []

@@ -9,7 +9,7 @@ use Rattle.ark_held.specs.Around.{Around, slot_at}
 use Rattle.ark_held.specs.Held.{AllMatch, AreDistinctLabels, AreOwn, Holds, area_labels}
 use Rattle.ark_held.proofs.Lists.{not_some}
 
-all_free : (n j : ℕ) → slice_index_or (replicate n false) j false ≡ false
+pub all_free : (n j : ℕ) → slice_index_or (replicate n false) j false ≡ false
 all_free zero j = refl
 all_free (suc n) zero = refl
 all_free (suc n) (suc j) = all_free n j

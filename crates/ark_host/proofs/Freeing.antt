@@ -10,7 +10,7 @@ use Rattle.ark_machine.specs.Plane.{Plane, is_granted, free_blocks}
 use Rattle.ark_host.proofs.Machines.{by_test}
 
 -- in rising order, from a number on
-abbrev Rises : ℕ → List ℕ → Type 0
+abbrev pub Rises : ℕ → List ℕ → Type 0
 Rises s [] = Unit {0}
 Rises s (x ∷ xs) = (s ≤ x) × Rises (suc x) xs
 
@@ -18,7 +18,7 @@ weaker : (s r : ℕ) (xs : List ℕ) → s ≤ r → Rises r xs → Rises s xs
 weaker s r [] le h = tt
 weaker s r (x ∷ xs) le h = (omega (arith, h.0), h.1)
 
-rising : (q : ℕ → Bool) (s n : ℕ) → Rises s (select q (range_with_len s n))
+pub rising : (q : ℕ → Bool) (s n : ℕ) → Rises s (select q (range_with_len s n))
 rising q s zero = tt
 rising q s (suc n) = by_test (q s) (λ b. Rises s (cond b (s ∷ select q (range_with_len (s + 1) n)) (select q (range_with_len (s + 1) n))))
     (λ yes. (omega arith, subst (λ (m : ℕ). Rises m (select q (range_with_len (s + 1) n))) (omega arith) (rising q (s + 1) n)))

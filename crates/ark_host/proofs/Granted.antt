@@ -23,7 +23,7 @@ use Rattle.ark_caps.specs.Labels.{value_at}
 use Rattle.ark_caps.specs.declared.capability.Capability.{Capability}
 use Rattle.ark_table.specs.Area.{Area, is_free, least_blocks}
 use Rattle.ark_table.specs.Slots.{Slot, area_of, IsRight}
-use Rattle.ark_table.specs.Table.{Together, area_at, is_of, IsSlotBlock}
+use Rattle.ark_table.specs.Table.{Together, area_at, is_of, slots_in, IsSlotBlock}
 use Rattle.ark_table.specs.Plans.{grant_calls}
 use Rattle.ark_table.specs.Standing.{Table, with_slot, IsTableOf, IsUnderWay, GoesThrough, CanCreate, creates}
 use Rattle.ark_table.proofs.Spelling.{keeps_rules, is_not_free}
@@ -35,6 +35,7 @@ use Rattle.ark_script.specs.declared.said.Said.TheVariants as said
 use Rattle.ark_machine.specs.Objects.{Object, Raw}
 use Rattle.ark_machine.specs.Machine.{Machine, at, with_new, each_object, holding}
 use Rattle.ark_machine.specs.Areas as areas
+use Rattle.ark_machine.specs.Told.{own_slots}
 use Rattle.ark_machine.specs.Row.{settled, synced, synced_by}
 use Rattle.ark_machine.specs.Plane.{Plane, Change, makes, is_slot_of, slot_of, free_slot, is_granted, max_slots, max_runs}
 use Rattle.ark_machine.specs.Granting.{new_slot}
@@ -61,12 +62,14 @@ use Rattle.ark_held.proofs.Doing.{same_tables}
 use Rattle.ark_held.specs.declared.app.App.{App}
 use Rattle.ark_host.specs.declared.host.Host.{Host}
 use Rattle.ark_host.specs.Tabled.{table_of, TableStands, StandsBeside, slot_count}
+use Rattle.ark_host.specs.Stored.{stored_slots}
 use Rattle.ark_host.specs.Stands.{Stands, RowDone, IsHeld, IsAdmitted, AreNamed, around, app_of, area_count, vsa_row}
 use Rattle.ark_host.proofs.Machines.{bytes_eq-same, by_test}
 use Rattle.ark_held.proofs.Members.{in_contains}
 use Rattle.ark_host.proofs.Lists.{first_found}
 use Rattle.ark_host.proofs.Sharing.{has}
 use Rattle.ark_host.proofs.Freeing.{free_after}
+use Rattle.ark_host.proofs.Storing.{own_set}
 use Rattle.ark_host.proofs.Tabling.{free_at, slot_there, table_more, table_size, owned_counted, count_more}
 use Rattle.ark_host.proofs.Standing.{slot_names, slot_based, slot_data}
 use Rattle.ark_host.proofs.Setting.{with_set, set_apps, set_now, set_here}
@@ -313,7 +316,7 @@ module _ (host : Host) (size : ℕ) (past : History) (s : System) (a l : List �
           now = st.now ∙ sym clock;
           machines = set_apps s lost a left left_made host.grants now.grants past (after past es) host.apps.items now.apps.items app (omega (arith, grants)) left_held
               (λ b q. same_app b ∙ ap (λ (c : List ℕ). app_of host.apps.items c) ((bytes_eq-Decides b a).0 q) ∙ (first_found (λ x. bytes_eq a x.name) host.apps.items place app ok.place).1 ∙ ap (λ x. Some x) there)
-              (λ b q. same_app b) (λ b k q. refl) (λ b k t q is. same_others b k t is) st.machines;
+              (λ b q. same_app b) (λ b k q. refl) (λ b k t q is. same_others b k t is) st.plane.apart st.plane.named (λ b q. refl) st.machines;
           same_now = set_now s lost a left left_made (synced_now (ended_sync (ends_of es)) (machine_of s a) ∙ st.same_now a) st.same_now;
         };
       })
@@ -426,6 +429,12 @@ module _ (host : Host) (size : ℕ) (past : History) (s : System) (a l : List �
         more_slots : table_of plane.slots ≡ with_slot (table_of s.plane.slots) slot.index (Some (area_of slot))
         more_slots = table_more size s.plane.slots slot (subst (λ (m : ℕ). SlotsFit m s.plane.slots) st.plane.size st.plane.apart.fit) fits (free_index s.plane max_slots refl few)
 
+        -- the new slot is none of another application's
+        same_stored : (b : List ℕ) → bytes_eq b a ≡ false → stored_slots b plane.slots ≡ stored_slots b s.plane.slots
+        same_stored b apart =
+            ap (λ (t : Table). own_slots b (slots_in 1 t)) more_slots
+            ∙ own_set b (table_of s.plane.slots) 1 (slot.index - 1) (Some (area_of slot)) (ap (λ (o : Option Area). is_of b o) free_entry) apart
+
         its_table : now.table ≡ table_of plane.slots
         its_table =
             tables
@@ -481,7 +490,7 @@ module _ (host : Host) (size : ℕ) (past : History) (s : System) (a l : List �
             machines = set_apps s plane a one one_made host.grants now.grants past (after past es) host.apps.items now.apps.items app1 (omega (arith, grants)) own
                 (λ b q. now_app b ∙ ap (λ t. cond t (Some app1) (app_of host.apps.items b)) q)
                 (λ b q. now_app b ∙ ap (λ t. cond t (Some app1) (app_of host.apps.items b)) q)
-                (λ b k q. slot_other b k s.plane.slots slot q) (λ b k t q is. same_others b k t is) st.machines;
+                (λ b k q. slot_other b k s.plane.slots slot q) (λ b k t q is. same_others b k t is) st.plane.apart st.plane.named same_stored st.machines;
             same_now = set_now s plane a one one_made one_now st.same_now;
           };
         })

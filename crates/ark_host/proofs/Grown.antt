@@ -21,7 +21,7 @@ use Rattle.ark_extents.specs.Blocks.{blocks_of, runs_of}
 use Rattle.ark_extents.proofs.RunLemmas.{blocks_of-runs_of}
 use Rattle.ark_table.specs.Area.{Area, area_bytes, area_in, is_area, least_blocks}
 use Rattle.ark_table.specs.Slots.{Slot, area_of, IsRight}
-use Rattle.ark_table.specs.Table.{Together, area_at, IsSlotBlock}
+use Rattle.ark_table.specs.Table.{Together, area_at, is_of, slots_in, IsSlotBlock}
 use Rattle.ark_table.specs.Standing.{Table, slot_in, with_slot, grown_area, grow_calls, IsTableOf, IsUnderWay, GoesThrough, CanGrow, grows as adds}
 use Rattle.ark_table.proofs.Spelling.{keeps_rules, spelled_is_read}
 use Rattle.ark_table.proofs.Moments.{grown as goes_grown}
@@ -36,6 +36,7 @@ use Rattle.ark_machine.specs.Row.{settled, synced, synced_by}
 use Rattle.ark_machine.specs.Plane.{Plane, Change, grows, slot_of, lowest, is_granted, max_runs}
 use Rattle.ark_machine.specs.Granting.{with_more, plane_after, changed, failed_change}
 use Rattle.ark_machine.specs.Grants.{SlotFits, SlotsAgree}
+use Rattle.ark_machine.specs.Told.{own_slots}
 use Rattle.ark_machine.specs.System.{System, machine_of}
 use Rattle.ark_machine.specs.Follow.{Follow, ends_of, own_index, grown_content}
 use Rattle.ark_machine.specs.Recovers.{begun}
@@ -61,12 +62,14 @@ use Rattle.ark_own.proofs.OfGrants.{IsGrantOf}
 use Rattle.ark_host.specs.declared.host.Host.{Host}
 use Rattle.ark_host.specs.declared.host.grow.Growth.{Growth}
 use Rattle.ark_host.specs.Tabled.{table_of, with_longer, TableStands, StandsBeside, slot_count}
+use Rattle.ark_host.specs.Stored.{stored_slots}
 use Rattle.ark_host.specs.Stands.{Stands, RowDone, IsHeld, AreNamed, around, app_of, area_count}
 use Rattle.ark_host.specs.Growing.{grow_row, MayGrow}
 use Rattle.ark_host.proofs.Machines.{by_test}
 use Rattle.ark_host.proofs.Lists.{first_found}
 use Rattle.ark_host.proofs.Sharing.{has, one_slot}
 use Rattle.ark_host.proofs.Freeing.{free_without}
+use Rattle.ark_host.proofs.Storing.{own_set}
 use Rattle.ark_host.proofs.Tabling.{slot_there, area_there, table_size, fit_in}
 use Rattle.ark_host.proofs.Lengthened.{longer, its_longer, one_index, in_map, of_map, area_longer, find_longer, count_longer, granted_longer}
 use Rattle.ark_host.proofs.Standing.{slot_names, slot_based, slot_data, slot_fits}
@@ -323,7 +326,7 @@ module _ (host : Host) (size : ℕ) (past : History) (s : System) (a l : List �
         now = st.now ∙ sym clock;
         machines = set_apps s lost a left left_made host.grants now.grants past (after past es) host.apps.items now.apps.items app (omega (arith, grants)) left_held
             (λ b q. same_app b ∙ ap (λ (c : List ℕ). app_of host.apps.items c) ((bytes_eq-Decides b a).0 q) ∙ (first_found (λ z. bytes_eq a z.name) host.apps.items g.place app ok.place).1 ∙ ap (λ z. Some z) there)
-            (λ b q. same_app b) (λ b k q. refl) (λ b k u q is. same_others b k u is) st.machines;
+            (λ b q. same_app b) (λ b k q. refl) (λ b k u q is. same_others b k u is) st.plane.apart st.plane.named (λ b q. refl) st.machines;
         same_now = set_now s lost a left left_made (synced_now (ended_sync (ends_of es)) (machine_of s a) ∙ st.same_now a) st.same_now;
       }
 
@@ -516,6 +519,13 @@ module _ (host : Host) (size : ℕ) (past : History) (s : System) (a l : List �
             let most = st.plane.counted b in
             omega (arith, same, slots, most)
 
+        -- the longer slot is none of another application's
+        same_stored : (b : List ℕ) → bytes_eq b a ≡ false → stored_slots b plane.slots ≡ stored_slots b s.plane.slots
+        same_stored b other =
+            let none : bytes_eq b t.app ≡ false = ap (λ (n : List ℕ). bytes_eq b n) (sym mine.1) ∙ other in
+            ap (λ (z : Table). own_slots b (slots_in 1 z)) (grown_table host size past s st t more mine.0)
+            ∙ own_set b (table_of s.plane.slots) 1 (t.index - 1) (Some (grown_area (area_of t) more)) (ap (λ (o : Option Area). is_of b o) at_slot ∙ none) none
+
         its_stands_now : Stands now size (after past es) later
         its_stands_now = record {
           plane = record {
@@ -539,7 +549,7 @@ module _ (host : Host) (size : ℕ) (past : History) (s : System) (a l : List �
               (λ b e. now_app b ∙ ap (λ z. cond z (Some app1) (app_of host.apps.items b)) e)
               (λ b e. now_app b ∙ ap (λ z. cond z (Some app1) (app_of host.apps.items b)) e)
               (λ b k e. stays b k (λ u is same. other_name b a e ((slot_names s.plane.slots b k u is).1 ∙ ap (λ (z : Slot). z.app) same ∙ sym mine.1)))
-              (λ b k u e is. same_others b k u is) st.machines;
+              (λ b k u e is. same_others b k u is) st.plane.apart st.plane.named same_stored st.machines;
           same_now = set_now s plane a one one_made one_now st.same_now;
         }
 

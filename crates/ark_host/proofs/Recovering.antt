@@ -143,7 +143,7 @@ module _ (host : Host) (size : ℕ) (h : History) (s : System) (st : Stands host
       (subst (λ (o : Option Object). Contains (object_lists o) (found_of t.kind (contents_at image t.blocks))) (sym object) shown)
 
   content : (t : Slot) → Contains s.plane.slots t → ContentStands s change rest image t t.kind
-  content t slot = by t.kind (by_app h s t (st.plane.named t slot) host.grants (app_of host.apps.items t.app) (st.machines t.app))
+  content t slot = by t.kind (by_app h s t (st.plane.named t slot) st.plane.apart st.plane.named slot host.grants (app_of host.apps.items t.app) (st.machines t.app))
     where
       by : (k : Kind) → StandsAs h s t k → ContentStands s change rest image t k
       by kind.Raw stored = at_block t slot stored
@@ -238,7 +238,7 @@ module _ (host : Host) (size : ℕ) (h : History) (s : System) (st : Stands host
     longer_blocks : AreZero more image → BlocksStand s change rest image (with_more t more)
     longer_blocks zero k n place = ⊎_elim
         (λ own. subst (λ (o : Option Object). Contains (cond (is_new_block n change || is_new_block n s.plane.unsettled) (zero_block ∷ []) (object_maybe k o ++ written_to n rest)) (block image n)) (sym same_object)
-        (at_block t slot (subst (λ (z : Kind). StandsAs h s t z) raw (by_app h s t (st.plane.named t slot) host.grants (app_of host.apps.items t.app) (st.machines t.app))) k n own))
+        (at_block t slot (subst (λ (z : Kind). StandsAs h s t z) raw (by_app h s t (st.plane.named t slot) st.plane.apart st.plane.named slot host.grants (app_of host.apps.items t.app) (st.machines t.app))) k n own))
         (λ new. subst (λ (b : Bool). Contains (cond b (zero_block ∷ []) (object_maybe k (object_of s (with_more t more)) ++ written_to n rest)) (block image n)) (sym (adds_them n (has more n new)))
         (0, omega arith, sym (zero n new))) (split_get t.blocks more k n place)
 

@@ -6,10 +6,12 @@ use Rattle.ark_media.specs.Journal.{History}
 use Rattle.ark_table.specs.Slots.{Slot}
 use Rattle.ark_machine.specs.Machine.{Machine}
 use Rattle.ark_machine.specs.Plane.{Plane, slot_of}
+use Rattle.ark_machine.specs.Grants.{GrantsApart}
 use Rattle.ark_machine.specs.System.{System, machine_of, set_machine}
 use Rattle.ark_held.specs.Keeps.{SameAt}
 use Rattle.ark_held.specs.declared.app.App.{App}
-use Rattle.ark_host.specs.Stands.{AtApp, IsHeld, app_of}
+use Rattle.ark_host.specs.Stored.{stored_slots}
+use Rattle.ark_host.specs.Stands.{AtApp, IsHeld, AreNamed, app_of}
 use Rattle.ark_host.proofs.Machines.{by_test, listed_machine-set, bytes_eq-same}
 use Rattle.ark_host.proofs.Standing.{at_app_kept}
 
@@ -35,9 +37,10 @@ module _ (s : System) (p : Plane) (a : List ℕ) (m : Machine) (made : m.made �
       → ((b : List ℕ) → bytes_eq b a ≡ true → app_of apps1 b ≡ Some app) → ((b : List ℕ) → bytes_eq b a ≡ false → app_of apps1 b ≡ app_of apps0 b)
       → ((b l : List ℕ) → bytes_eq b a ≡ false → slot_of p b l ≡ slot_of s.plane b l)
       → ((b l : List ℕ) (t : Slot) → bytes_eq b a ≡ false → slot_of s.plane b l ≡ Some t → SameAt h0 h1 t.blocks)
+      → GrantsApart s.plane → AreNamed s.plane → ((b : List ℕ) → bytes_eq b a ≡ false → stored_slots b p.slots ≡ stored_slots b s.plane.slots)
       → ((b : List ℕ) → AtApp g0 h0 s b (app_of apps0 b)) → (b : List ℕ) → AtApp g1 h1 (with_set s p a m) b (app_of apps1 b)
-  set_apps g0 g1 h0 h1 apps0 apps1 app more own here others slots stays all b = by_test (bytes_eq b a) (λ t. bytes_eq b a ≡ t → AtApp g1 h1 (with_set s p a m) b (app_of apps1 b))
+  set_apps g0 g1 h0 h1 apps0 apps1 app more own here others slots stays agree named stored all b = by_test (bytes_eq b a) (λ t. bytes_eq b a ≡ t → AtApp g1 h1 (with_set s p a m) b (app_of apps1 b))
       (λ yes q. subst (λ (o : Option App). AtApp g1 h1 (with_set s p a m) b o) (sym (here b q))
       (subst (λ (c : List ℕ). AtApp g1 h1 (with_set s p a m) c (Some app)) (sym ((bytes_eq-Decides b a).0 q)) own))
       (λ no q. subst (λ (o : Option App). AtApp g1 h1 (with_set s p a m) b o) (sym (others b q))
-      (at_app_kept g0 g1 h0 h1 s (with_set s p a m) b (app_of apps0 b) more (set_other b q) refl (λ l. slots b l q) (λ l t there. stays b l t q there) (all b))) refl
+      (at_app_kept g0 g1 h0 h1 s (with_set s p a m) b (app_of apps0 b) more (set_other b q) refl (λ l. slots b l q) (λ l t there. stays b l t q there) agree named (stored b q) (all b))) refl

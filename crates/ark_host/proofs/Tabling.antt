@@ -16,13 +16,13 @@ use Rattle.ark_held.specs.Totals.{bit}
 use Rattle.ark_held.proofs.Members.{In, contains_in, in_contains}
 use Rattle.ark_host.specs.Tabled.{table_of, slot_count}
 
-same_some : {X : Type 0} (x y : X) → Some x ≡ Some y → x ≡ y
+pub same_some : {X : Type 0} (x y : X) → Some x ≡ Some y → x ≡ y
 same_some x y e = ap (λ o. unwrap_or o x) e
 
-none_some : {X : Type 0} (x : X) → ◌≡◌ {A = Option X} None (Some x) → ⊥
+pub none_some : {X : Type 0} (x : X) → ◌≡◌ {A = Option X} None (Some x) → ⊥
 none_some x e = false≢true (ap is_some e)
 
-none_in : (k : ℕ) → area_at (table_of []) k ≡ None
+pub none_in : (k : ℕ) → area_at (table_of []) k ≡ None
 none_in k = elim (cases_lt k 128) [
   | inl lt ↦ get_or-replicate {A = Option Area} 128 k None None lt
   | inr past ↦ get_or_past (replicate 128 None) k None past

@@ -72,6 +72,35 @@ fn makes_a_step(rt: HostRuntime) -> Result<(), Fail> {
     Ok(())
 }
 
+// A host that is loaded from the device that a run left has the run's slot.
+#[test]
+fn loads_what_a_run_left(rt: HostRuntime) -> Result<(), Fail> {
+    let words = words_of(rt.alloc(), &["run", "--new", "200", "d"])?;
+    let script = b"app a\nvsa a s 2 raw\n";
+    let mut first = MemoryWorld::new(rt.alloc(), b"", 200, script, &[], 100, 2000)?;
+    let status = arrakis(rt.alloc(), &words, &mut first);
+    assert_eq!(rt; status, Status::Done);
+    let mut world = MemoryWorld::new(rt.alloc(), first.image(), 200, b"", &[], 1000, 100)?;
+    let Ok(()) = world.attach("d") else {
+        panic!(rt; "no device was attached")
+    };
+    let Ok(mut host) = Host::load(rt.alloc(), &mut world) else {
+        panic!(rt; "no host was loaded")
+    };
+    assert_eq!(rt; host.slots(), 1);
+    let mut reply = Reply::new(rt.alloc())?;
+    let line = *b"app a";
+    match read_line(&line) {
+        Ok(step) => host.step(&mut world, &step, &mut reply),
+        Err(_) => assert!(rt; false),
+    }
+    assert_eq!(rt; *reply.said(), Said::Ok);
+    assert_eq!(rt; host.slots(), 1);
+    // What dropping it does is no part of the test.
+    forget(host);
+    Ok(())
+}
+
 // A script that comes one byte at a time has the same replies, and the device that is made has the name that was given.
 #[test]
 fn answers_byte_by_byte(rt: HostRuntime) -> Result<(), Fail> {

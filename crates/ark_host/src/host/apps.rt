@@ -7,6 +7,7 @@ ghost use Rattle.ark_host.specs.Time.{Counts};
 ghost use Rattle.ark_machine.specs.System.{System};
 
 use super::Host;
+use super::stored::give_stored;
 use ark_base::{AppName, Refusal};
 use ark_held::App;
 use ark_script::Said;
@@ -27,7 +28,7 @@ pub fn place_of(apps: &[App], name: &AppName) -> Option<usize>
 impl Host {
     ghost use Rattle.ark_host.specs.Stands.{Stands, RowDone, app_row};
 
-    // The word `app`.
+    // The word `app`: the application holds what is stored for it.
     pub(super) fn make_app(&mut self, name: &AppName, frames: Option<u64>) -> Said
         requires { IfSome frames (λ f. f ≤ 4096) }
         ensures turned { (size : ℕ) (h : History) (s : System) → Stands self.old size h s →
@@ -44,9 +45,10 @@ impl Host {
         if self.apps.len() >= MAX_APPS {
             return Said::Refused(Refusal::Limit);
         }
-        let Ok(app) = App::new(self.alloc, *name, frames as u32) else {
+        let Ok(mut app) = App::new(self.alloc, *name, frames as u32) else {
             return Said::Refused(Refusal::NoMemory);
         };
+        give_stored(&mut app, &self.table);
         let Ok(()) = self.apps.push(app) else {
             return Said::Refused(Refusal::NoMemory);
         };

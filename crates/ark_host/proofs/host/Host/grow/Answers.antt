@@ -40,7 +40,7 @@ returns-in-Ok-grow-clause-inside g c =
     grown_inside size c.args.self.now growth.place app c.set_spans.new.self growth.grant c.args.blocks growth.spans c.take_lowest.new.self
     lt at c.set_spans.ensures.areas
     (grant_inside size c.args.self.now growth.place app c.args.label.now growth.grant c.args.blocks growth.area growth.spans growth.more lt at (ok.area app at) ok.spans ok.more c.requires.inside)
-    c.take_lowest.ensures.rest c.requires.inside
+    c.take_lowest.ensures.rest _ growth.area.slot ok.joins.area growth.more ok.joins.used (c.in-Ok-grow.ensures.granted ok.joins.area ok.joins.used) ok.more c.requires.inside
 
 pub returns-in-Err-grow-clause-answers : goal.returns-in-Err-grow-clause-answers
 returns-in-Err-grow-clause-answers g c =
@@ -59,4 +59,4 @@ returns-in-Err-grow-clause-answers g c =
     }
 
 pub returns-in-Err-grow-clause-inside : goal.returns-in-Err-grow-clause-inside
-returns-in-Err-grow-clause-inside g c = taken_inside (g.D.Disk.told c.args.disk.now).blocks c.args.self.now c.args.blocks c.take_lowest.new.self c.take_lowest.ensures.rest c.requires.inside
+returns-in-Err-grow-clause-inside g c = taken_inside (g.D.Disk.told c.args.disk.now).blocks c.args.self.now c.args.blocks c.take_lowest.new.self c.take_lowest.ensures.rest _ c.in-Err-grow.ensures.kept c.requires.inside

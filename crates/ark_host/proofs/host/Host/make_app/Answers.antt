@@ -1,7 +1,8 @@
-use Rattle.std.proofs.Common.{refl, rules, sym, ◌∙◌, ap, List, replicate, false}
+use Rattle.std.proofs.Common.{refl, rules, sym, ◌∙◌, ap, subst, ℕ, List, replicate, take, false}
 use Rattle.ark_region.specs.Frames.{Space}
 use Rattle.std.specs.Prelude.{position, is_some, bytes_eq}
 use Rattle.ark_held.specs.declared.app.App.{App}
+use Rattle.ark_host.specs.Given.{HasGiven}
 use Rattle.ark_host.proofs.Apps.{app_taken, app_limited, app_lacking, app_made}
 use Rattle.ark_host.proofs.host.Host.make_app.Goals as goal
 
@@ -22,4 +23,6 @@ returns-in_default-push-clause-turned c =
 pub returns-clause-turned : goal.returns-clause-turned
 returns-clause-turned c =
     let new = sym (c.is_some.ensures ∙ ap is_some (c.place_of.ensures.place ∙ ap (λ (l : List App). position (λ x. bytes_eq c.args.name.now x.name) l) c.deref.ensures.value)) ∙ c.if-is_some.false in
-    λ size h s st. app_made s c.args.self.now size h c.args.name.now c.args.frames st new (search rules) _ c.in-Ok.app (search rules) refl refl refl refl refl c.in-Ok.ensures.name c.in-Ok.ensures.labels c.in-Ok.ensures.areas (ap (λ (m : Space). m.taken) c.in-Ok.ensures.region ∙ ap (λ n. replicate n false) c.unwrap_or-frames.ensures)
+    λ size h s st. app_made s c.args.self.now size h c.args.name.now c.args.frames st new (search rules) _ c.give_stored.new.app (search rules) refl refl refl refl refl (c.give_stored.ensures.name ∙ c.in-Ok.ensures.name)
+    (subst (λ (n : List ℕ). HasGiven n (take 128 c.args.self.now.table) c.give_stored.new.app) c.in-Ok.ensures.name c.give_stored.ensures.given)
+    (ap (λ (m : Space). m.taken) (c.give_stored.ensures.region ∙ c.in-Ok.ensures.region) ∙ ap (λ n. replicate n false) c.unwrap_or-frames.ensures)

@@ -7,4 +7,4 @@ pub returns-clause-stands : goal.returns-clause-stands
 returns-clause-stands c = λ h based table. fresh_stands _ c.args.blocks h (search rules) (search rules) (search rules) refl refl based table
 
 pub returns-clause-inside : goal.returns-clause-inside
-returns-clause-inside c = fresh_inside c.args.blocks _ _ c.requires.low c.requires.high (search rules) (search rules)
+returns-clause-inside c = fresh_inside c.args.blocks _ _ _ c.requires.low c.requires.high (search rules) (search rules) (search rules)

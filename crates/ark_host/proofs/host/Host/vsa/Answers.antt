@@ -4,7 +4,7 @@ use Rattle.std.proofs.lemmas.List.Elements.{All-take}
 use Rattle.std.proofs.lemmas.List.Quantifiers.{position-Some}
 use Rattle.std.specs.Prelude.{bytes_eq}
 use Rattle.ark_base.specs.declared.refusal.Refusal.TheVariants as r
-use Rattle.ark_extents.specs.Blocks.{runs_of}
+use Rattle.ark_extents.specs.Blocks.{blocks_of, runs_of}
 use Rattle.ark_extents.proofs.RunLemmas.{blocks_of-runs_of}
 use Rattle.ark_table.specs.Area.{Area}
 use Rattle.ark_table.specs.Standing.{with_slot}
@@ -63,7 +63,8 @@ pub returns-in-Ok-create-clause-inside : goal.returns-in-Ok-create-clause-inside
 returns-in-Ok-create-clause-inside g c =
     let lt = (position-Some (λ x. bytes_eq c.args.name.now x.name) c.args.self.now.apps.items c.in-Ok.admitted.0 c.index_mut.result.now c.in-Ok.ensures.admitted.place).0 in
     granted_inside (g.D.Disk.told c.args.disk.now).blocks c.args.self.now c.in-Ok.admitted.0 c.index_mut.result.now c.add_area.new.self c.args.self.now.grants c.args.blocks (record { kind = c.args.kind; slot = c.in-Ok.admitted.1; spans = c.in-Ok-take.spans }) c.take.new.self
-    lt (sym c.index_mut.ensures.value) c.add_area.ensures.areas c.in-Ok-take.ensures.taken c.in-Ok-take.ensures.rest c.requires.inside
+    lt (sym c.index_mut.ensures.value) c.add_area.ensures.areas c.in-Ok-take.ensures.taken c.in-Ok-take.ensures.rest _ c.in-Ok.admitted.1 (stated c.slot_of.result) c.in-Ok-create.ensures.granted
+    (ap (λ (x : Area). blocks_of x.runs) c.slot_of.ensures.slot ∙ blocks_of-runs_of c.in-Ok-take.spans) c.requires.inside
 
 pub returns-in-Err-create-clause-answers : goal.returns-in-Err-create-clause-answers
 returns-in-Err-create-clause-answers g c =
@@ -85,4 +86,4 @@ returns-in-Err-create-clause-answers g c =
     }
 
 pub returns-in-Err-create-clause-inside : goal.returns-in-Err-create-clause-inside
-returns-in-Err-create-clause-inside g c = taken_inside (g.D.Disk.told c.args.disk.now).blocks c.args.self.now c.args.blocks c.take.new.self c.in-Ok-take.ensures.rest c.requires.inside
+returns-in-Err-create-clause-inside g c = taken_inside (g.D.Disk.told c.args.disk.now).blocks c.args.self.now c.args.blocks c.take.new.self c.in-Ok-take.ensures.rest _ c.in-Err-create.ensures.kept c.requires.inside
