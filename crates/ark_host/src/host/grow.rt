@@ -55,6 +55,7 @@ impl Host {
             Err(TakeFault::NoSpace) => return Err(Refusal::NoSpace),
             Err(TakeFault::Scattered) => return Err(Refusal::Scattered),
         };
+        // An area has its slot, with the same blocks.
         let Some(slot) = self.table.slot(area.slot) else {
             return Err(Refusal::WrongKind);
         };
