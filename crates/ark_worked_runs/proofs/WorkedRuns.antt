@@ -24,10 +24,14 @@ use Rattle.ark_host.specs.Tabled.{table_of}
 use Rattle.ark_cli.proofs.Stops.{no_slots, none_each, table_rests, open_fronts}
 use Rattle.ark_cli.specs.Words.{IsRun}
 use Rattle.ark_cli.specs.Line.{limit}
-use Rattle.ark_cli.specs.Opening.{SinceMake, IsOpening}
+use Rattle.ark_cli.specs.Opening.{Start, new_device, Since, IsOpening}
 use Rattle.ark_cli.specs.Cut.{CutReplies}
 use Rattle.ark_cli.proofs.CutReplies.{cut_confined_of}
 use Rattle.ark_cli.specs.Ending.{RecoversAtFronts, PutsLine, Closes, HasRun, Ends, IsClosed, Does, runs}
+
+-- the device of these runs
+abbrev pub here : Start
+here = new_device 200
 
 abbrev pub line : List ℕ → List ℕ
 line words = words ++ 10 ∷ []
@@ -64,7 +68,7 @@ none_failed [] all bad = bad
 none_failed (e ∷ es) all (inl bad) = absurd (cc (all.0, bad))
 none_failed (e ∷ es) all (inr bad) = none_failed es all.1 bad
 
-since_run : (events : List Event) (taken left : List ℕ) (source sink : ℕ) → Succeeded events → SinceMake 200 (codes "d") events taken told_first (told_of events) (beside_first (taken ++ left)) (beside_of taken left source sink)
+since_run : (events : List Event) (taken left : List ℕ) (source sink : ℕ) → Succeeded events → Since here (codes "d") events taken told_first (told_of events) (beside_first (taken ++ left)) (beside_of taken left source sink)
 since_run events taken left source sink succeeded = record {
   begins = λ h is. sym (some_is (record { base = (fresh 200).base; journal = onto events [] }) h is);
   blocks = refl;
@@ -82,10 +86,10 @@ since_run events taken left source sink succeeded = record {
 }
 
 -- a run that was closed, but for a script that was too long
-pub closed_run : (status : Status) (events : List Event) (taken left : List ℕ) (source sink : ℕ) (rest closing : List Event) → Succeeded events → RecoversAtFronts 200 (lines_of taken) events →
-    HasRun 200 (lines_of taken) (parts events).whole (parts events).unfinished → (parts events).unfinished ≡ rest ++ closing → Closes status 0 sink closing →
-    Ends 200 (told_of events) status taken (parts events).whole rest → (status ≡ Done → left ≡ []) → (status ≡ Long → ⊥) → length taken ≤ limit →
-    IsClosed 200 (codes "d") told_first (told_of events) (beside_first (taken ++ left)) (beside_of taken left source sink) status
+pub closed_run : (status : Status) (events : List Event) (taken left : List ℕ) (source sink : ℕ) (rest closing : List Event) → Succeeded events → RecoversAtFronts here (lines_of taken) events →
+    HasRun here (lines_of taken) (parts events).whole (parts events).unfinished → (parts events).unfinished ≡ rest ++ closing → Closes status 0 sink closing →
+    Ends here (told_of events) status taken (parts events).whole rest → (status ≡ Done → left ≡ []) → (status ≡ Long → ⊥) → length taken ≤ limit →
+    IsClosed here (codes "d") told_first (told_of events) (beside_first (taken ++ left)) (beside_of taken left source sink) status
 closed_run status events taken left source sink rest closing succeeded recovers run unfinished closes ends at_end not_long fits = record {
   script = taken;
   events = events;
@@ -97,6 +101,7 @@ closed_run status events taken left source sink rest closing succeeded recovers 
   unfinished = unfinished;
   closes = closes;
   ends = ends;
+  heeds = tt;
   at_end = λ e. record { none = λ x is. ap (λ (s : Script). s.left) (sym (some_is (record { taken = taken; left = left }) x is)) ∙ at_end e };
   long = λ e. absurd (not_long e);
   short = λ e. fits;
@@ -106,7 +111,7 @@ closed_run status events taken left source sink rest closing succeeded recovers 
 abbrev pub run_words : List (List ℕ)
 run_words = codes "run" ∷ codes "--new" ∷ codes "200" ∷ codes "d" ∷ []
 
-pub is_run : IsRun run_words 200 (codes "d")
+pub is_run : IsRun run_words (Some 200) (codes "d")
 unfolding digits
 is_run = ((codes "--new" ∷ codes "200" ∷ codes "d" ∷ [], refl, refl), (lit≤ tt, lit≤ tt), λ e. cc)
 
@@ -114,7 +119,7 @@ is_run = ((codes "--new" ∷ codes "200" ∷ codes "d" ∷ [], refl, refl), (lit
 abbrev pub opened : List Event
 opened = Write 0 (superblock 200) true true ∷ Sync true ∷ Out (line (codes "ready 200 0")) ∷ []
 
-pub is_opening : IsOpening 200 opened
+pub is_opening : IsOpening here (fresh_system 200) opened
 unfolding digits
 is_opening = record { calls = inl ((true, (λ e. refl), refl), inl (refl, refl)); output = refl }
 
@@ -143,12 +148,12 @@ is_whole = (refl, (refl, refl))
 nothing_asked : Replies (fresh_system 200) [] [] []
 nothing_asked = record { meanings = []; say = tt; each = tt; begins = refl }
 
-opened_fronts : RecoversAtFronts 200 (lines_of []) opened
-opened_fronts = open_fronts 200 opened [] [] is_whole (recovers_of (fresh 200).base (onto opened []) (fresh_system 200) [] [] [] [] [] [] tt tt tt tt (no_slots (fresh 200).base (onto opened []) (fresh_system 200) None [] refl refl opened_table))
+opened_fronts : RecoversAtFronts here (lines_of []) opened
+opened_fronts = open_fronts here (fresh_system 200) refl opened [] [] is_whole tt (recovers_of (fresh 200).base (onto opened []) (fresh_system 200) [] [] [] [] [] [] tt tt tt tt (no_slots (fresh 200).base (onto opened []) (fresh_system 200) None [] refl refl opened_table))
 
 empty_run : Does run_words told_first (told_of opened) (beside_first []) (beside_of [] [] 0 0) Done
-empty_run = runs 200 (codes "d") is_run
-    (closed_run Done opened [] [] 0 0 [] [] (refl, (refl, (refl, tt))) opened_fronts (is_opening, nothing_asked, confined_of (fresh_system 200) [] [] [] tt nothing_asked) refl refl (refl, refl) (λ e. refl) (λ e. cc) (lit≤ tt))
+empty_run = runs here (codes "d") is_run
+    (closed_run Done opened [] [] 0 0 [] [] (refl, (refl, (refl, tt))) opened_fronts (fresh_system 200, refl, is_opening, nothing_asked, confined_of (fresh_system 200) [] [] [] tt nothing_asked) refl refl (refl, refl) (λ e. refl) (λ e. cc) (lit≤ tt))
 
 empty_output : output_of opened ≡ line (codes "ready 200 0")
 empty_output = refl
@@ -172,17 +177,19 @@ unfolding step answer
 one_reply rest none = record { meanings = app_a ∷ []; say = (app_a_says, tt); each = (record { output = refl; calls = ended; memory = tt }, tt); begins = none }
 
 -- a run of this line, with what stands behind its reply
-one_run : (rest : List Event) → device_events rest ≡ [] → HasRun 200 (lines_of one_line) (opened ∷ (Out (line (codes "ok")) ∷ []) ∷ []) rest
+one_run : (rest : List Event) → device_events rest ≡ [] → HasRun here (lines_of one_line) (opened ∷ (Out (line (codes "ok")) ∷ []) ∷ []) rest
 one_run rest none = (
+  fresh_system 200,
+  refl,
   is_opening,
   one_reply rest none,
   confined_of (fresh_system 200) (lines_of one_line) ((Out (line (codes "ok")) ∷ []) ∷ []) rest tt (one_reply rest none),
 )
 
-answered_fronts : (rest : List Event) → IsUnfinished rest → device_events rest ≡ [] → RecoversAtFronts 200 (lines_of one_line) (opened ++ (Out (line (codes "ok")) ∷ rest))
+answered_fronts : (rest : List Event) → IsUnfinished rest → device_events rest ≡ [] → RecoversAtFronts here (lines_of one_line) (opened ++ (Out (line (codes "ok")) ∷ rest))
 unfolding step answer
 answered_fronts rest unended silent =
-    open_fronts 200 opened (Out (line (codes "ok")) ∷ rest) (lines_of one_line) is_whole
+    open_fronts here (fresh_system 200) refl opened (Out (line (codes "ok")) ∷ rest) (lines_of one_line) is_whole tt
     (recovers_of (fresh 200).base (onto opened []) (fresh_system 200) (lines_of one_line) [] (app_a ∷ []) [] ((Out (line (codes "ok")) ∷ []) ∷ []) rest (app_a_says, tt) (refl, tt) unended
     (none_each (fresh 200).base (onto opened []) (fresh_system 200) (app_a ∷ []) ((Out (line (codes "ok")) ∷ []) ∷ []) (refl, refl, tt) opened_table)
     (no_slots (fresh 200).base (onto (joined ((Out (line (codes "ok")) ∷ []) ∷ [])) (onto opened [])) (system_after (fresh_system 200) (app_a ∷ []) ((Out (line (codes "ok")) ∷ []) ∷ [])) None rest refl silent (table_rests (fresh 200).base (onto opened []) (Out (line (codes "ok")) ∷ []) refl opened_table)))
@@ -191,7 +198,7 @@ abbrev source_closed : List Event
 source_closed = answered ++ Out (line (codes "fault source")) ∷ []
 
 source_run : Does run_words told_first (told_of source_closed) (beside_first one_line) (beside_of one_line [] 1 0) Source
-source_run = runs 200 (codes "d") is_run
+source_run = runs here (codes "d") is_run
     (closed_run Source source_closed one_line [] 1 0 [] (Out (line (codes "fault source")) ∷ []) (refl, (refl, (refl, (refl, (refl, tt))))) (answered_fronts (Out (line (codes "fault source")) ∷ []) (refl, tt) refl) (one_run (Out (line (codes "fault source")) ∷ []) refl) refl
     (whole_line (codes "fault source") 0 0) (refl, refl) (λ e. cc) (λ e. cc) (lit≤ tt))
 
@@ -206,7 +213,7 @@ abbrev source_cut : List Event
 source_cut = answered ++ Out (codes "fault") ∷ []
 
 source_cut_run : Does run_words told_first (told_of source_cut) (beside_first one_line) (beside_of one_line [] 1 1) Source
-source_cut_run = runs 200 (codes "d") is_run
+source_cut_run = runs here (codes "d") is_run
     (closed_run Source source_cut one_line [] 1 1 [] (Out (codes "fault") ∷ []) (refl, (refl, (refl, (refl, (refl, tt))))) (answered_fronts (Out (codes "fault") ∷ []) (refl, tt) refl) (one_run (Out (codes "fault") ∷ []) refl) refl
     (record { part = codes "fault"; more = line (codes " source"); prefix = refl; only = refl; whole = inr (lit≤ tt) }) (refl, refl) (λ e. cc) (λ e. cc) (lit≤ tt))
 
@@ -233,15 +240,15 @@ cut_shows : CutReplies (fresh_system 200) (lines_of one_line) [] (Out (codes "ok
 unfolding step answer
 cut_shows = record { replies = no_reply; shows = inr (app_a, app_a_says, record { lacked = false; memory = tt; calls = ended; more = 10 ∷ []; front = refl }) }
 
-cut_fronts : RecoversAtFronts 200 (lines_of one_line) cut_reply
-cut_fronts = open_fronts 200 opened (Out (codes "ok") ∷ []) (lines_of one_line) is_whole
+cut_fronts : RecoversAtFronts here (lines_of one_line) cut_reply
+cut_fronts = open_fronts here (fresh_system 200) refl opened (Out (codes "ok") ∷ []) (lines_of one_line) is_whole tt
     (recovers_of (fresh 200).base (onto opened []) (fresh_system 200) (lines_of one_line) [] [] (app_a ∷ []) [] (Out (codes "ok") ∷ []) (app_a_says, tt) tt (refl, tt) tt
     (no_slots (fresh 200).base (onto opened []) (fresh_system 200) (Some app_a) (Out (codes "ok") ∷ []) refl refl opened_table))
 
 sink_run : Does run_words told_first (told_of cut_reply) (beside_first one_line) (beside_of one_line [] 0 1) Sink
-sink_run = runs 200 (codes "d") is_run
+sink_run = runs here (codes "d") is_run
     (closed_run Sink cut_reply one_line [] 0 1 (Out (codes "ok") ∷ []) [] (refl, (refl, (refl, (refl, tt)))) cut_fronts
-    (is_opening, no_reply, confined_of (fresh_system 200) (lines_of one_line) [] (Out (codes "ok") ∷ []) tt no_reply) refl refl (λ h is. (cut_shows, cut_confined_of (fresh_system 200) (lines_of one_line) [] (Out (codes "ok") ∷ []) tt cut_shows)) (λ e. cc) (λ e. cc) (lit≤ tt))
+    (fresh_system 200, refl, is_opening, no_reply, confined_of (fresh_system 200) (lines_of one_line) [] (Out (codes "ok") ∷ []) tt no_reply) refl refl (λ h is. (fresh_system 200, refl, cut_shows, cut_confined_of (fresh_system 200) (lines_of one_line) [] (Out (codes "ok") ∷ []) tt cut_shows)) (λ e. cc) (λ e. cc) (lit≤ tt))
 
 sink_output : output_of cut_reply ≡ line (codes "ready 200 0") ++ codes "ok"
 sink_output = refl

@@ -30,7 +30,7 @@ use Rattle.ark_laws.proofs.Confining.{confined_of}
 use Rattle.ark_cli.specs.Ending.{RecoversAtFronts, Does, runs}
 use Rattle.ark_cli.proofs.Stops.{no_slots, none_each, table_rests, open_fronts}
 use Rattle.ark_machine.proofs.Fronts.{recovers_of}
-use Rattle.ark_worked_runs.proofs.WorkedRuns.{line, told_first, beside_first, told_of, beside_of, closed_run, run_words, is_run, opened, opened_table, is_opening, is_whole}
+use Rattle.ark_worked_runs.proofs.WorkedRuns.{here, line, told_first, beside_first, told_of, beside_of, closed_run, run_words, is_run, opened, opened_table, is_opening, is_whole}
 
 abbrev script : List ℕ
 script =
@@ -140,17 +140,17 @@ they_reply = record {
 }
 
 -- no slot is held
-they_recover : RecoversAtFronts 200 (lines_of script) events
+they_recover : RecoversAtFronts here (lines_of script) events
 unfolding step answer digits
 they_recover =
-    open_fronts 200 opened (map (λ words. Out (line words)) texts) (lines_of script) is_whole
+    open_fronts here (fresh_system 200) refl opened (map (λ words. Out (line words)) texts) (lines_of script) is_whole tt
     (recovers_of (fresh 200).base (onto opened []) (fresh_system 200) (lines_of script) [] meanings [] whole [] they_say (refl, (refl, (refl, (refl, (refl, (refl, (refl, (refl, tt)))))))) tt
     (none_each (fresh 200).base (onto opened []) (fresh_system 200) meanings whole (refl, refl, (refl, refl, (refl, refl, (refl, refl, (refl, refl, (refl, refl, (refl, refl, (refl, refl, tt)))))))) opened_table)
     (no_slots (fresh 200).base (onto (joined whole) (onto opened [])) (system_after (fresh_system 200) meanings whole) None [] refl refl (table_rests (fresh 200).base (onto opened []) (joined whole) refl opened_table)))
 
 script_run : Does run_words told_first (told_of events) (beside_first script) (beside_of script [] 0 0) Done
-script_run = runs 200 (codes "d") is_run
-    (closed_run Done events script [] 0 0 [] [] (refl, (refl, (refl, (refl, (refl, (refl, (refl, (refl, (refl, (refl, (refl, tt))))))))))) they_recover (is_opening, they_reply, confined_of (fresh_system 200) (lines_of script) whole [] tt they_reply) refl refl (refl, refl) (λ e. refl) (λ e. cc) (lit≤ tt))
+script_run = runs here (codes "d") is_run
+    (closed_run Done events script [] 0 0 [] [] (refl, (refl, (refl, (refl, (refl, (refl, (refl, (refl, (refl, (refl, (refl, tt))))))))))) they_recover (fresh_system 200, refl, is_opening, they_reply, confined_of (fresh_system 200) (lines_of script) whole [] tt they_reply) refl refl (refl, refl) (λ e. refl) (λ e. cc) (lit≤ tt))
 
 script_output : output_of events ≡
     line (codes "ready 200 0") ++ line (codes "refused 2 unknown word") ++ line (codes "refused 2 unknown word") ++ line (codes "refused 1 syntax")

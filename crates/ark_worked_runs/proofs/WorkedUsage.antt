@@ -2,7 +2,7 @@
 use Rattle.std.specs.Fmt.{digits}
 use Rattle.std.proofs.Common.{◌≡◌, ℕ, List, [], ◌∷◌, codes, refl, sym, ap, subst, arith, lit≤}
 use Rattle.std.proofs.lemmas.Fmt.{decimal_injective}
-use Rattle.std.specs.Prelude.{Some, decimal}
+use Rattle.std.specs.Prelude.{Option, Some, None, decimal}
 use Rattle.ark_base.specs.declared.status.Status.TheVariants.{Usage}
 use Rattle.ark_base.specs.Status.{code_of}
 use Rattle.ark_media.specs.Journal.{Event, Out, History, fresh, onto, output_of}
@@ -17,9 +17,15 @@ use Rattle.ark_worked_runs.proofs.WorkedRuns.{line, told_of, beside_first, some_
 abbrev small_words : List (List ℕ)
 small_words = codes "run" ∷ codes "--new" ∷ codes "129" ∷ codes "d" ∷ []
 
-too_small : (size : ℕ) (device : List ℕ) → IsRun small_words size device → ⊥
+too_small : (blocks : Option ℕ) (device : List ℕ) → IsRun small_words blocks device → ⊥
 unfolding digits
-too_small size device h =
+too_small None device h =
+    let rest : h.0.0 ≡ codes "--new" ∷ codes "129" ∷ codes "d" ∷ [] = cc (h.0.1) in
+    let sort : sorted (codes "--new" ∷ codes "129" ∷ codes "d" ∷ []) ≡ Some (record { new = []; plain = device ∷ [] }) =
+    subst (λ (r : List (List ℕ)). sorted r ≡ Some (record { new = []; plain = device ∷ [] })) rest h.0.2 in
+    let new : codes "129" ∷ [] ≡ [] = ap (λ (s : Sorted). s.new) (some_is _ _ sort) in
+    absurd (cc new)
+too_small (Some size) device h =
     let rest : h.0.0 ≡ codes "--new" ∷ codes "129" ∷ codes "d" ∷ [] = cc (h.0.1) in
     let sort : sorted (codes "--new" ∷ codes "129" ∷ codes "d" ∷ []) ≡ Some (record { new = decimal size ∷ []; plain = device ∷ [] }) =
     subst (λ (r : List (List ℕ)). sorted r ≡ Some (record { new = decimal size ∷ []; plain = device ∷ [] })) rest h.0.2 in
