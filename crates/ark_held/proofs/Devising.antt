@@ -95,7 +95,7 @@ module _ (x : Around) (h : Holds x) (v : List ℕ) (c : Capability) (named : val
   open_same = count (λ o. bit (is_open_on v o)) refl
 
   pub card_set : IsCard y v c new → Holds y
-  card_set fits = changed x y h v held (Objects.vsic new) at_v any_piece card_keeps (λ p k apart inn m. within k.object) refl refl refl refl refl (λ k. refl)
+  card_set fits = changed x y h v held (Objects.vsic new) at_v any_piece card_keeps (λ p k apart inn m. within k.object) refl refl refl refl refl (λ k none. refl)
       (λ j. let none : object_covers j held.object ≡ 0 = ap (object_covers j) object in omega (arith, none))
       (λ d is m. subst (λ (z : Capability). IsCard y v z new) (some_same (value_at x.labels v) c d named is) fits)
 
@@ -115,6 +115,6 @@ module _ (x : Around) (h : Holds x) (l : List ℕ) (c : Capability) (named : val
       (λ k. door_count (uses k) refl) (λ k. door_count (λ o. bit (is_open_on k o)) refl) (λ k. door_count (λ o. bit (is_socket_on k o)) refl)
 
   pub door_set : Holds (with_devices x x.tables.cards doors changed_machine)
-  door_set = changed x (with_devices x x.tables.cards doors changed_machine) h l held (Objects.door new) at_l any_piece door_keeps (λ p k apart inn m. within k.object) refl refl refl refl refl (λ k. refl)
+  door_set = changed x (with_devices x x.tables.cards doors changed_machine) h l held (Objects.door new) at_l any_piece door_keeps (λ p k apart inn m. within k.object) refl refl refl refl refl (λ k none. refl)
       (λ j. let none : object_covers j held.object ≡ 0 = ap (object_covers j) object in omega (arith, none))
       (λ d is m. record { its_kind = ap (λ (z : Capability). z.kind) (sym (some_same (value_at x.labels l) c d named is)) ∙ kind; kept = ap (λ (z : Capability). doors z.key) (sym (some_same (value_at x.labels l) c d named is)) ∙ sets.here })

@@ -138,7 +138,7 @@ module _ (r : Beyond) (app app1 : App) (l : List ℕ) (g : Held) (o : Object) (h
   -- the machine has the new content too
   pub altered : ((c : Capability) → value_at app.labels l ≡ Some c → IsObjectOf (around r app) l c g.object → IsObjectOf then l c o) → Holds then
   altered own = changed (around r app) then h l g o there any_piece alter_keeps (λ q k apart among m. within k.object) refl labels refl refl
-      (ap (λ (es : AreaList). length es) p.areas) (λ k. refl)
+      (ap (λ (es : AreaList). length es) p.areas) (λ k none. refl)
       (λ j.
       let covers = alike.covers j in
       let same : bit (slice_index_or app1.store.region.taken j false) ≡ bit (slice_index_or app.store.region.taken j false) = ap (λ (s : Store). bit (slice_index_or s.region.taken j false)) p.store in

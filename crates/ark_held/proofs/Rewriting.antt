@@ -101,7 +101,7 @@ module _ (x : Around) (l : List ℕ) (b : Buffer) (held : Held) (off : ℕ) (byt
   pub refilled : Holds y
   refilled = changed x y h l held (Objects.buffer now) there (Apart (piece_of b)) keeps
       (λ p k apart inn m. within_clear (piece_of b) k.object (λ j has. other_clear x h l held b there object j has k inn (ap (λ (z : List ℕ). bytes_eq l z) m.label ∙ apart)))
-      refl refl refl refl refl (λ k. refl)
+      refl refl refl refl refl (λ k none. refl)
       (λ j.
       let size : object_covers j (Objects.buffer now) ≡ object_covers j (Objects.buffer b) = ap (λ n. bit (covers j (b.start, frames_of n)) + 0) long in
       let was : object_covers j held.object ≡ object_covers j (Objects.buffer b) = ap (object_covers j) object in

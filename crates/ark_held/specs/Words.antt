@@ -25,31 +25,31 @@ AreaList = List (ℕ × Area)
 abbrev pub area_in : Slot → Area
 area_in t = record { kind = t.kind; slot = t.index; spans = t.blocks }
 
--- the blocks of a raw area; those of a log or queue are its own
-abbrev pub raw_blocks : Kind → List ℕ → Result (List ℕ) Refusal
-raw_blocks kind.Raw blocks = Ok blocks
-raw_blocks kind.Log blocks = Err r.WrongKind
-raw_blocks kind.Queue blocks = Err r.WrongKind
+-- a raw area with its grant; the blocks of a log or queue are its own
+abbrev pub grant_if_raw : Kind → ℕ → Area → Result (ℕ × Area) Refusal
+grant_if_raw kind.Raw grant a = Ok (grant, a)
+grant_if_raw kind.Log grant a = Err r.WrongKind
+grant_if_raw kind.Queue grant a = Err r.WrongKind
 
-abbrev pub found_blocks : Option Area → Result (List ℕ) Refusal
-found_blocks None = Err r.WrongKind
-found_blocks (Some a) = raw_blocks a.kind a.spans
+abbrev pub found_grant : ℕ → Option Area → Result (ℕ × Area) Refusal
+found_grant grant None = Err r.WrongKind
+found_grant grant (Some a) = grant_if_raw a.kind grant a
 
--- what a reference to blocks shows, or why there are none
-abbrev pub seen : Result (Bor (List ℕ)) Refusal → Result (List ℕ) Refusal
-seen found = result_map_both (λ s. s.now) (λ e. e) found
+abbrev pub grant_of : AreaList → CapKind → ℕ → Result (ℕ × Area) Refusal
+grant_of areas cap_kind.Vsa grant = found_grant grant (lookup (nat_eq grant) areas)
+grant_of areas _ grant = Err r.WrongKind
 
-abbrev pub area_of : AreaList → CapKind → ℕ → Result (List ℕ) Refusal
-area_of areas cap_kind.Vsa grant = found_blocks (lookup (nat_eq grant) areas)
-area_of areas _ grant = Err r.WrongKind
+abbrev pub grant_under : AreaList → List ℕ → Option Capability → Result (ℕ × Area) Refusal
+grant_under areas l None = Err (r.NoGrant l)
+grant_under areas l (Some c) = grant_of areas c.kind c.grant
 
-abbrev pub area_under : AreaList → List ℕ → Option Capability → Result (List ℕ) Refusal
-area_under areas l None = Err (r.NoGrant l)
-area_under areas l (Some c) = area_of areas c.kind c.grant
+-- the raw area under a label with its grant, or why there is none
+abbrev pub grant_at : Labels → AreaList → List ℕ → Result (ℕ × Area) Refusal
+grant_at labels areas l = grant_under areas l (value_at labels l)
 
--- the blocks of the raw area under a label, or why there are none
-abbrev pub area_at : Labels → AreaList → List ℕ → Result (List ℕ) Refusal
-area_at labels areas l = area_under areas l (value_at labels l)
+-- what a reference to it shows with its grant
+abbrev pub granted : Result (ℕ × Bor Area) Refusal → Result (ℕ × Area) Refusal
+granted found = result_map_both (λ p. (p.0, p.1.now)) (λ e. e) found
 
 abbrev pub limit_if : Bool → Option Refusal
 limit_if true = Some r.Limit
@@ -101,3 +101,8 @@ slot_of_cap areas l (Some c) = slot_of_kind areas c.kind c.grant
 -- the grant and the slot of the area under a label, or why there is none
 abbrev pub slot_under : Labels → AreaList → List ℕ → Result (ℕ × ℕ) Refusal
 slot_under labels areas l = slot_of_cap areas l (value_at labels l)
+
+-- with these blocks in place of those of the first area of this grant
+abbrev pub with_spans : AreaList → ℕ → List ℕ → AreaList
+with_spans [] grant spans = []
+with_spans (x ∷ xs) grant spans = if nat_eq grant x.0 then (x.0, record x.1 { spans = spans }) ∷ xs else x ∷ with_spans xs grant spans

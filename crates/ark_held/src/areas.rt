@@ -1,7 +1,7 @@
 ghost use Rattle.std.specs.Prelude.{◌≡◌, ◌<◌, [], None, length, nat_eq, option_copied, IfOk};
 ghost use Rattle.std.specs.List.{position};
 ghost use Rattle.std.specs.Map.{lookup};
-ghost use Rattle.ark_held.specs.Words.{with_area, without_area};
+ghost use Rattle.ark_held.specs.Words.{with_area, with_spans, without_area};
 
 use ark_base::{Kind, Memory};
 use ark_extents::Spans;
@@ -106,6 +106,15 @@ impl Areas {
     {
         if let Some(place) = place_of(&self.areas, grant) {
             self.areas.remove(place);
+        }
+    }
+
+    /// Puts these blocks in place of those of the first area of this grant, if there is one.
+    pub fn set_spans(&mut self, grant: u64, spans: Spans)
+        ensures set { self.new ≡ with_spans self.old grant spans }
+    {
+        if let Some(place) = place_of(&self.areas, grant) {
+            self.areas[place].1.spans = spans;
         }
     }
 }

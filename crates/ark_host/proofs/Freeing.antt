@@ -58,14 +58,18 @@ same_tests : (g h : ℕ → Bool) (xs : List ℕ) → ((k : ℕ) → g k ≡ h k
 same_tests g h [] same = refl
 same_tests g h (x ∷ xs) same = ap (λ b. cond (not b) (x ∷ select (λ k. not (g k)) xs) (select (λ k. not (g k)) xs)) (same x) ∙ ap (λ (l : List ℕ). cond (not (h x)) (x ∷ l) l) (same_tests g h xs same)
 
+-- slots that have the lowest free blocks beside those that they had leave the others
+pub free_without : (p : Plane) (slots : List Slot) (taken : List ℕ) (n : ℕ) → ((k : ℕ) → is_granted slots k ≡ (is_granted p.slots k || list_any (λ b. b == k) taken)) → taken ≡ take n (free_blocks p) → free_blocks (record p { slots = slots }) ≡ drop n (free_blocks p)
+free_without p slots taken n granted is =
+    same_tests (is_granted slots) (λ k. is_granted p.slots k || list_any (λ b. b == k) taken) (range_with_len 129 (p.size - 129)) granted
+    ∙ twice (is_granted p.slots) (λ k. list_any (λ b. b == k) taken) (range_with_len 129 (p.size - 129))
+    ∙ ap (λ (bs : List ℕ). without bs (free_blocks p)) is
+    ∙ without_first n (free_blocks p) 129 (rising (λ k. not (is_granted p.slots k)) 129 (p.size - 129))
+
 -- a slot with the lowest free blocks takes just these
 pub free_after : (p : Plane) (t : Slot) (n : ℕ) → t.blocks ≡ take n (free_blocks p) → free_blocks (record p { slots = p.slots ++ t ∷ [] }) ≡ drop n (free_blocks p)
-free_after p t n is =
-    same_tests (is_granted (p.slots ++ t ∷ [])) (λ k. is_granted p.slots k || list_any (λ b. b == k) t.blocks) (range_with_len 129 (p.size - 129))
-    (λ k. list_any-append (λ (u : Slot). list_any (λ b. b == k) u.blocks) p.slots (t ∷ []) ∙ ap (λ b. is_granted p.slots k || b) (or-false (list_any (λ b. b == k) t.blocks)))
-    ∙ twice (is_granted p.slots) (λ k. list_any (λ b. b == k) t.blocks) (range_with_len 129 (p.size - 129))
-    ∙ ap (λ (taken : List ℕ). without taken (free_blocks p)) is
-    ∙ without_first n (free_blocks p) 129 (rising (λ k. not (is_granted p.slots k)) 129 (p.size - 129))
+free_after p t n is = free_without p (p.slots ++ t ∷ []) t.blocks n
+    (λ k. list_any-append (λ (u : Slot). list_any (λ b. b == k) u.blocks) p.slots (t ∷ []) ∙ ap (λ b. is_granted p.slots k || b) (or-false (list_any (λ b. b == k) t.blocks))) is
 
 pub eq_same : (n : ℕ) → (n == n) ≡ true
 eq_same n = grind (arith, nat_tests)

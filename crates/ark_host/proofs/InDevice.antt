@@ -1,19 +1,21 @@
 -- The blocks that are granted, and those that are free, lie on the device.
 use Rattle.std.proofs.Common.{◌≡◌, ⊎_elim, ℕ, zero, suc, ◌<◌, ◌≤◌, ◌-◌, Bool, true, false, cond, List, [], ◌∷◌, ◌++◌, length, take, drop, set, get_or, sym, subst, arith, All, Contains}
-use Rattle.std.specs.Prelude.{Option, Some, None, nat_eq}
+use Rattle.std.specs.Prelude.{Option, Some, None, Ok, nat_eq}
 use Rattle.std.specs.Map.{lookup}
 use Rattle.std.proofs.lemmas.List.Elements.{All-append, All-drop, All-get_or, All-set, All-take, Contains-get_or}
 use Rattle.std.proofs.lemmas.List.FromFn.{length-range_with_len, get_or-range_with_len}
 use Rattle.ark_extents.specs.Free.{free_at_first, Gains}
 use Rattle.ark_table.specs.Standing.{Table}
 use Rattle.ark_held.specs.Inside.{AreasInside}
-use Rattle.ark_held.specs.Words.{AreaList, added_to, with_area, without_area}
+use Rattle.ark_held.specs.Words.{AreaList, added_to, with_area, without_area, with_spans, grant_at}
 use Rattle.ark_held.specs.declared.app.App.{App}
 use Rattle.ark_held.specs.declared.areas.Area.{Area}
+use Rattle.ark_own.proofs.OfGrants.{below_grant}
 use Rattle.ark_host.specs.Inside.{IsInside, IsShared}
 use Rattle.ark_host.specs.Tabled.{table_of}
 use Rattle.ark_host.proofs.Shared.{fresh_shared, failed_shared}
 use Rattle.ark_host.specs.declared.host.Host.{Host}
+use Rattle.ark_host.proofs.Machines.{by_test}
 
 module _ (size : ℕ) where
   abbrev Below : List ℕ → Type 0
@@ -111,3 +113,38 @@ module _ (size : ℕ) where
   given_below old new spans first more gains k d lt =
       let n = get_or new k d in
       ⊎_elim (λ was. below_of old n first was) (λ its. below_of spans n more its) ((gains n).0 (Contains-get_or new k d lt))
+
+  -- of a host whose area got the first of its free blocks
+  spans_inside : (areas : AreaList) (g : ℕ) (spans : List ℕ) → AreasInside size areas → Below spans → AreasInside size (with_spans areas g spans)
+  spans_inside [] g spans inside below = inside
+  spans_inside (x ∷ xs) g spans inside below = by_test (nat_eq g x.0) (λ b. AreasInside size (cond b ((x.0, record x.1 { spans = spans }) ∷ xs) (x ∷ with_spans xs g spans)))
+      (λ yes. cons_inside (x.0, record x.1 { spans = spans }) xs below (rest_inside x xs inside))
+      (λ no. cons_inside x (with_spans xs g spans) (inside 0 x (omega arith)) (spans_inside xs g spans (rest_inside x xs inside) below))
+    where
+      cons_inside : (y : ℕ × Area) (ys : AreaList) → Below y.1.spans → AreasInside size ys → AreasInside size (y ∷ ys)
+      cons_inside y ys first rest zero d lt = first
+      cons_inside y ys first rest (suc k) d lt = rest k d (omega (arith, lt))
+
+      rest_inside : (y : ℕ × Area) (ys : AreaList) → AreasInside size (y ∷ ys) → AreasInside size ys
+      rest_inside y ys all k d lt = all (suc k) d (omega (arith, lt))
+
+  pub grown_inside : (host : Host) (place : ℕ) (app app1 : App) (g blocks : ℕ) (spans rest : List ℕ) → place < length host.apps.items → get_or host.apps.items place app ≡ app → app1.areas ≡ with_spans app.areas g spans
+      → Below spans → rest ≡ drop blocks host.free → (now : Table) → IsShared size now rest host.failed → IsInside size host
+      → (130 ≤ size) × (size ≤ 1048576) × AppsInside (set host.apps.items place app1) × Below rest × IsShared size now rest host.failed
+  grown_inside host place app app1 g blocks spans rest lt at areas below left now shared inside =
+      let old : AreasInside size app.areas = subst (λ (x : App). AreasInside size x.areas) at
+      (All-get_or (λ x. AreasInside size x.areas) host.apps.items place app lt inside.2) in
+      let new : AreasInside size app1.areas = subst (λ (x : AreaList). AreasInside size x) (sym areas) (spans_inside app.areas g spans old below) in (
+        inside.0,
+        inside.1,
+        All-set (λ x. AreasInside size x.areas) host.apps.items place app1 new inside.2,
+        subst (λ (xs : List ℕ). Below xs) (sym left) (All-drop (λ n. n < size) blocks host.free inside.3),
+        shared,
+      )
+
+  pub grant_inside : (host : Host) (place : ℕ) (app : App) (l : List ℕ) (g blocks : ℕ) (a : Area) (spans more : List ℕ) → place < length host.apps.items → get_or host.apps.items place app ≡ app
+      → grant_at app.labels app.areas l ≡ Ok (g, a) → spans ≡ a.spans ++ more → more ≡ take blocks host.free → IsInside size host → Below spans
+  grant_inside host place app l g blocks a spans more lt at found joined is inside =
+      let areas : AreasInside size app.areas = subst (λ (x : App). AreasInside size x.areas) at (All-get_or (λ x. AreasInside size x.areas) host.apps.items place app lt inside.2) in
+      subst (λ (xs : List ℕ). Below xs) (sym joined)
+      (All-append (λ n. n < size) a.spans more (below_grant size app.labels app.areas l (g, a) areas found) (subst (λ (xs : List ℕ). Below xs) (sym is) (All-take (λ n. n < size) blocks host.free inside.3)))

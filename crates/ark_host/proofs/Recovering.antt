@@ -10,7 +10,7 @@ use Rattle.ark_media.specs.Stops.{MayHold, MayLeave, Whole}
 use Rattle.ark_extents.proofs.RunLemmas.{blocks_of-runs_of}
 use Rattle.ark_table.specs.Slots.{Slot, area_of}
 use Rattle.ark_table.specs.Table.{HasTable, slots_in}
-use Rattle.ark_table.specs.Standing.{Table, IsWritten, Spare, AreZero, creates, removes, IsEither, IsUnderWay, GoesThrough}
+use Rattle.ark_table.specs.Standing.{Table, with_slot, grown_area, IsWritten, Spare, AreZero, creates, grows as adds, removes, IsEither, IsUnderWay, GoesThrough}
 use Rattle.ark_table.proofs.Standing.{stands, either}
 use Rattle.ark_table.proofs.Tables.{table_is_read}
 use Rattle.ark_entry.specs.Found.{found_of}
@@ -20,11 +20,11 @@ use Rattle.ark_machine.specs.Objects
 use Rattle.ark_machine.specs.Objects.{Object}
 use Rattle.ark_machine.specs.Machine.{object_at}
 use Rattle.ark_machine.specs.Plane.{Change, makes, grows, drops, is_granted}
-use Rattle.ark_machine.specs.Granting.{without_slot}
+use Rattle.ark_machine.specs.Granting.{without_slot, with_more}
 use Rattle.ark_machine.specs.Grants.{has_block, has_index, SlotsAgree}
 use Rattle.ark_machine.specs.Start.{contents_at}
 use Rattle.ark_machine.specs.System.{System, machine_of}
-use Rattle.ark_machine.specs.Recovers.{Recovers, begun, IsFound, IsMade, IsDropped, HeldStands, IsKnown, is_new_block, is_new, object_of, object_maybe, object_lists, dropped_object, written_to, BlocksStand, LogStands, ContentStands}
+use Rattle.ark_machine.specs.Recovers.{Recovers, begun, IsFound, IsMade, IsDropped, added_to, HeldStands, IsKnown, is_new_block, is_new, object_of, object_maybe, object_lists, dropped_object, written_to, BlocksStand, LogStands, ContentStands}
 use Rattle.ark_machine.specs.Stopped.{begun_in}
 use Rattle.ark_machine.specs.Fronts.{AtFront, AtEachFront}
 use Rattle.ark_machine.proofs.Fronts.{front_adds, written_devices}
@@ -32,7 +32,7 @@ use Rattle.ark_media.specs.Standing.{after}
 use Rattle.ark_held.proofs.Fronts.{shows}
 use Rattle.ark_held.proofs.Members.{contains_in, in_contains}
 use Rattle.ark_host.specs.declared.host.Host.{Host}
-use Rattle.ark_host.specs.Tabled.{table_of, LeavesAs, LeavesObject, TableStands, StandsBeside, unsettled_blocks}
+use Rattle.ark_host.specs.Tabled.{table_of, with_longer, LeavesAs, LeavesObject, TableStands, StandsBeside, unsettled_blocks}
 use Rattle.ark_host.specs.Stands.{Stands, app_of}
 use Rattle.ark_host.proofs.Machines.{by_test}
 use Rattle.ark_host.proofs.Tabling.{has_in, slot_in_table, slot_of_table}
@@ -43,6 +43,7 @@ use Rattle.ark_host.proofs.Removed.{same_index, in_selected, stayed, rest_agrees
 use Rattle.ark_host.proofs.Failed.{none_new, none_made_since}
 use Rattle.ark_host.proofs.Standing.{slot_fits, slot_based}
 use Rattle.ark_host.proofs.Fronts.{IsStored, IsChained, StandsAs, its_own, not_new, by_app, place_of}
+use Rattle.ark_host.proofs.Lengthened.{one_index, in_map, of_map, split_get, longer, table_longer}
 use Rattle.ark_host.proofs.Contents.{LogsOpen, LogsOpenInside, none_made, logs_open, no_entries, zeros_shown}
 
 -- no slot is held, and the table has none
@@ -61,12 +62,18 @@ not_unsettled : (size : ℕ) (slots : List Slot) (u : Option Change) (n : ℕ) �
 not_unsettled size slots None n beside granted = refl
 not_unsettled size slots (Some (makes v)) n beside granted = by_test (has_block v.blocks n) (λ b. has_block v.blocks n ≡ b → b ≡ false)
     (λ yes q. absurd (false≢true (sym (beside.0.apart.0.1 n q) ∙ granted))) (λ no q. refl) refl
-not_unsettled size slots (Some (grows v more)) n beside granted = absurd beside
+not_unsettled size slots (Some (grows v more)) n beside granted = by_test (has_block more n) (λ b. has_block more n ≡ b → b ≡ false)
+    (λ yes q. absurd (false≢true (sym (beside.3 n q) ∙ granted))) (λ no q. refl) refl
 not_unsettled size slots (Some (drops v o)) n beside granted = refl
 
 index_apart : (slots : List Slot) (v t : Slot) → has_index slots v.index ≡ false → Contains slots t → (v.index == t.index) ≡ false
 index_apart slots v t none slot = by_test (v.index == t.index) (λ b. (v.index == t.index) ≡ b → b ≡ false)
     (λ yes q. absurd (false≢true (sym none ∙ ap (λ i. has_index slots i) (eqb-true v.index t.index q) ∙ has_in slots t (contains_in slots t slot)))) (λ no q. refl) refl
+not_dropped : (size : ℕ) (slots : List Slot) (u : Option Change) (t : Slot) (o : Option Object) → StandsBeside size slots u → unwrap_or (dropped_object t u) o ≡ o
+not_dropped size slots None t o beside = refl
+not_dropped size slots (Some (makes v)) t o beside = refl
+not_dropped size slots (Some (grows v more)) t o beside = refl
+not_dropped size slots (Some (drops v x)) t o beside = absurd beside
 
 not_made : (size : ℕ) (slots : List Slot) (u : Option Change) (t : Slot) → StandsBeside size slots u → Contains slots t → is_new t u ≡ false
 not_made size slots None t beside slot = refl
@@ -77,13 +84,13 @@ not_made size slots (Some (drops v o)) t beside slot = refl
 not_dropped : (size : ℕ) (slots : List Slot) (u : Option Change) (t : Slot) (o : Option Object) → StandsBeside size slots u → Contains slots t → unwrap_or (dropped_object t u) o ≡ o
 not_dropped size slots None t o beside slot = refl
 not_dropped size slots (Some (makes v)) t o beside slot = refl
-not_dropped size slots (Some (grows v more)) t o beside slot = absurd beside
+not_dropped size slots (Some (grows v more)) t o beside slot = refl
 not_dropped size slots (Some (drops v x)) t o beside slot = ap (λ b. unwrap_or (cond b (Some x) None) o) (index_apart slots v t beside.apart.0.0 slot)
 
 unsettled_apart : (size : ℕ) (slots : List Slot) (u : Option Change) (n : ℕ) → StandsBeside size slots u → is_granted slots n ≡ true → Contains (unsettled_blocks u) n → ⊥
 unsettled_apart size slots None n beside granted among = absurd (contains_in [] n among)
 unsettled_apart size slots (Some (makes v)) n beside granted among = false≢true (sym (beside.0.apart.0.1 n (has v.blocks n among)) ∙ granted)
-unsettled_apart size slots (Some (grows v more)) n beside granted among = absurd beside
+unsettled_apart size slots (Some (grows v more)) n beside granted among = false≢true (sym (beside.3 n (has more n among)) ∙ granted)
 unsettled_apart size slots (Some (drops v o)) n beside granted among = false≢true (sym (beside.apart.0.1 n (has v.blocks n among)) ∙ granted)
 
 -- a block of a slot that is held is none of a change that failed
@@ -298,7 +305,72 @@ module _ (host : Host) (size : ℕ) (h : History) (s : System) (st : Stands host
       contents = λ t seen. back_content t (back_or_held t (slot_of_table size (u ∷ s.plane.slots) agree t seen));
     }
 
+  -- or one of its slots is longer, which is a raw area's, and is growing or failed to
+  module _ (t : Slot) (more : List ℕ) (slot : Contains s.plane.slots t) (raw : t.kind ≡ kind.Raw) (agree : SlotsAgree size (with_longer t more s.plane.slots))
+      (growing : (change ≡ Some (grows t more)) ⊎ (s.plane.unsettled ≡ Some (grows t more))) where
+    -- the new blocks are the change's
+    adds_them : (n : ℕ) → has_block more n ≡ true → (is_new_block n change || is_new_block n s.plane.unsettled) ≡ true
+    adds_them n new = ⊎_elim
+        (λ c. or_left (is_new_block n change) (is_new_block n s.plane.unsettled) (ap (λ (u : Option Change). is_new_block n u) c ∙ new))
+        (λ c. or_right (is_new_block n change) (is_new_block n s.plane.unsettled) (ap (λ (u : Option Change). is_new_block n u) c ∙ new)) growing
+
+    more_of : (u : Slot) (c : Option Change) → c ≡ Some (grows t more) → (u.index == t.index) ≡ true → with_more u more ≡ with_more u (added_to u c)
+    more_of u c is q =
+        let turned : (t.index == u.index) ≡ true = grind (arith, nat_tests, q) in
+        sym (ap (λ (z : Option Change). with_more u (added_to u z)) is ∙ ap (λ b. with_more u (cond b more [])) turned)
+
+    found_as : (u : Slot) → IsFound u change (longer t more u) ⊎ IsFound u s.plane.unsettled (longer t more u)
+    found_as u = by_test (u.index == t.index) (λ b. (u.index == t.index) ≡ b → IsFound u change (cond b (with_more u more) u) ⊎ IsFound u s.plane.unsettled (cond b (with_more u more) u))
+        (λ yes q. ⊎_elim (λ c. inl (inr (more_of u change c q))) (λ c. inr (inr (more_of u s.plane.unsettled c q))) growing)
+        (λ no q. inl (inl refl)) refl
+
+    same_dropped : (c : Option Change) → dropped_object (with_more t more) c ≡ dropped_object t c
+    same_dropped None = refl
+    same_dropped (Some (makes v)) = refl
+    same_dropped (Some (grows v blocks)) = refl
+    same_dropped (Some (drops v o)) = refl
+
+    same_object : object_of s (with_more t more) ≡ object_of s t
+    same_object = ap (λ (o : Option (Option Object)). unwrap_or o (object_at (machine_of s t.app) t.label)) (same_dropped s.plane.unsettled)
+
+    longer_blocks : AreZero more image → BlocksStand s change rest image (with_more t more)
+    longer_blocks zero k n place = ⊎_elim
+        (λ own. subst (λ (o : Option Object). Contains (cond (is_new_block n change || is_new_block n s.plane.unsettled) (zero_block ∷ []) (object_maybe k o ++ written_to n rest)) (block image n)) (sym same_object)
+        (at_block t slot (subst (λ (z : Kind). StandsAs h s t z) raw (by_app h s t (st.plane.named t slot) st.plane.apart st.plane.named slot host.grants (app_of host.apps.items t.app) (st.machines t.app))) k n own))
+        (λ new. subst (λ (b : Bool). Contains (cond b (zero_block ∷ []) (object_maybe k (object_of s (with_more t more)) ++ written_to n rest)) (block image n)) (sym (adds_them n (has more n new)))
+        (0, omega arith, sym (zero n new))) (split_get t.blocks more k n place)
+
+    longer_content : AreZero more image → (u : Slot) → Contains s.plane.slots u → ContentStands s change rest image (longer t more u) (longer t more u).kind
+    longer_content zero u held = by_test (u.index == t.index) (λ b. (u.index == t.index) ≡ b → ContentStands s change rest image (cond b (with_more u more) u) (cond b (with_more u more) u).kind)
+        (λ yes q.
+        let index : t.index ≡ u.index = grind (arith, nat_tests, q) in
+        let same : t ≡ u = one_index s.plane.slots t u st.plane.apart.apart (contains_in s.plane.slots t slot) (contains_in s.plane.slots u held) index in
+        subst (λ (z : Slot). ContentStands s change rest image (with_more z more) z.kind) same
+        (subst (λ (z : Kind). ContentStands s change rest image (with_more t more) z) (sym raw) (longer_blocks zero)))
+        (λ no q. content u held) refl
+
+    pub recovers_grown : HasTable (table_of (with_longer t more s.plane.slots)) image → AreZero more image → AtFront s m front image
+    recovers_grown table zero =
+        let all : List Slot = with_longer t more s.plane.slots in
+        record {
+          slots = slots_in 1 (table_of all);
+          readable = table_is_read (table_of all) image table;
+          held = λ u held. inl (longer t more u, slot_in_table size all agree (longer t more u) (in_contains all (longer t more u) (in_map (longer t more) s.plane.slots u (contains_in s.plane.slots u held))), found_as u);
+          others = λ v seen.
+              let from = of_map (longer t more) s.plane.slots v (contains_in all v (slot_of_table size all agree v seen)) in
+              let c = in_contains s.plane.slots from.0 from.1 in
+              inl (c.0, from.0, c.1, c.2, subst (λ (z : Slot). IsFound from.0 change z ⊎ IsFound from.0 s.plane.unsettled z) from.2 (found_as from.0));
+          contents = λ v seen.
+              let from = of_map (longer t more) s.plane.slots v (contains_in all v (slot_of_table size all agree v seen)) in
+              subst (λ (z : Slot). ContentStands s change rest image z z.kind) from.2 (longer_content zero from.0 (in_contains s.plane.slots from.0 from.1));
+        }
+
 -- Events beside the table, and beside the blocks of a change that failed.
+
+-- the table of slots one of which is longer
+pub grown_table : (host : Host) (size : ℕ) (h : History) (s : System) → Stands host size h s → (t : Slot) (more : List ℕ) → Contains s.plane.slots t
+    → table_of (with_longer t more s.plane.slots) ≡ with_slot (table_of s.plane.slots) t.index (Some (grown_area (area_of t) more))
+grown_table host size h s st t more slot = table_longer t more s.plane.size s.plane.slots st.plane.apart.fit st.plane.apart.apart (contains_in s.plane.slots t slot)
 
 module _ (host : Host) (size : ℕ) (h : History) (s : System) (st : Stands host size h s) (m : Option Meaning) where
   by_unsettled : (front : List Event) (image : List (List ℕ)) → MayLeave Whole h.base (onto front h.journal) image → (u : Option Change) → s.plane.unsettled ≡ u → StandsBeside size s.plane.slots u → TableStands h s.plane.slots u
@@ -311,7 +383,13 @@ module _ (host : Host) (size : ℕ) (h : History) (s : System) (st : Stands host
       by (inl kept) = recovers_kept host size h s st m front image left logs kept
       by (inr more) = recovers_made host size h s st m front image left logs v beside.0 beside.1 (inr (subst (λ (u : Option Change). IsMade v u) (sym is) refl))
           (λ n has. or_right (is_new_block n (begun_in s m (device_events front))) (is_new_block n s.plane.unsettled) (ap (λ (u : Option Change). is_new_block n u) is ∙ has)) more.0 more.1
-  by_unsettled front image left (Some (grows v more)) is beside was table logs = absurd table
+  by_unsettled front image left (Some (grows v more)) is beside was (inl table) logs = recovers_kept host size h s st m front image left logs (stands (after h front) (table_of s.plane.slots) image table left)
+  by_unsettled front image left (Some (grows v more)) is beside was (inr tried) logs = by (either (after h front) (table_of s.plane.slots) (adds v.index (area_of v) more) image tried left)
+    where
+      by : IsEither (table_of s.plane.slots) (adds v.index (area_of v) more) image → AtFront s m front image
+      by (inl kept) = recovers_kept host size h s st m front image left logs kept
+      by (inr longer) = recovers_grown host size h s st m front image left logs v more beside.0 beside.1 beside.2 (inr is)
+          (subst (λ (z : Table). HasTable z image) (sym (grown_table host size h s st v more beside.0)) longer.0) longer.1
   by_unsettled front image left (Some (drops v o)) is beside was (inl table, leaves) logs =
       recovers_back host size h s st m front image left logs v o is beside was.1 leaves (stands (after h front) (table_of (v ∷ s.plane.slots)) image table left)
   by_unsettled front image left (Some (drops v o)) is beside was (inr tried, leaves) logs = by (either (after h front) (table_of (v ∷ s.plane.slots)) (removes v.index) image tried left)
@@ -375,3 +453,21 @@ module _ (host : Host) (size : ℕ) (h : History) (s : System) (st : Stands host
       by : IsUnderWay h (table_of s.plane.slots) (removes u.index) front → AtFront s m front image
       by (inl table) = recovers_kept host size h s st m front image left logs (stands (after h front) (table_of s.plane.slots) image table left)
       by (inr under) = with_either under.0 (either (after h front) (table_of s.plane.slots) (removes u.index) image under.1 left)
+
+  -- A raw area that is growing: once its slot was written, it may stand with the new blocks, which are zero.
+  pub grown_fronts : (t : Slot) (more : List ℕ) (ok : Bool) (es : List Event) → Contains s.plane.slots t → t.kind ≡ kind.Raw → SlotsAgree size (with_longer t more s.plane.slots) → begun s m ≡ Some (grows t more)
+      → GoesThrough h (table_of s.plane.slots) (adds t.index (area_of t) more) ok es → LogsOpenInside h s es → AtEachFront h.base h.journal s m es
+  grown_fronts t more ok es slot raw agree begins goes opens front back image split left = by (goes.each front back split)
+    where
+      logs : LogsOpen (after h front) s
+      logs = opens front back split
+
+      with_either : IsWritten t.index front → IsEither (table_of s.plane.slots) (adds t.index (area_of t) more) image → AtFront s m front image
+      with_either written (inl kept) = recovers_kept host size h s st m front image left logs kept
+      with_either written (inr longer) =
+          recovers_grown host size h s st m front image left logs t more slot raw agree (inl (begun_written t.index front written ∙ begins))
+          (subst (λ (z : Table). HasTable z image) (sym (grown_table host size h s st t more slot)) longer.0) longer.1
+
+      by : IsUnderWay h (table_of s.plane.slots) (adds t.index (area_of t) more) front → AtFront s m front image
+      by (inl table) = recovers_kept host size h s st m front image left logs (stands (after h front) (table_of s.plane.slots) image table left)
+      by (inr under) = with_either under.0 (either (after h front) (table_of s.plane.slots) (adds t.index (area_of t) more) image under.1 left)

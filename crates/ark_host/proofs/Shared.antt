@@ -1,8 +1,9 @@
 -- What stays of how the blocks of a device are shared, as slots come and go.
-use Rattle.std.proofs.Common.{◌≡◌, ⊎_elim, ℕ, ◌+◌, ◌-◌, ◌<◌, ◌≤◌, Bool, true, false, List, [], ◌∷◌, ◌++◌, length, take, drop, get_or, refl, sym, ◌∙◌, ap, subst, arith, All, Contains}
+use Rattle.std.proofs.Common.{◌≡◌, ⊎_elim, ℕ, ◌+◌, ◌-◌, ◌<◌, ◌≤◌, Bool, true, false, cond, ◌==◌, List, [], ◌∷◌, ◌++◌, length, take, drop, get_or, refl, sym, ◌∙◌, ap, subst, arith, All, Contains}
 use Rattle.std.specs.Prelude.{Option, Some, None}
 use Rattle.std.specs.List.Sorted.{IsStrictlyIncreasing}
 use Rattle.std.proofs.lemmas.Bool.{false≢true}
+use Rattle.std.proofs.lemmas.Bool.Decides.{nat_tests}
 use Rattle.std.proofs.lemmas.List.Elements.{Contains-get_or, Contains-push_cases}
 use Rattle.ark_base.specs.declared.kind.Kind.{Kind}
 use Rattle.ark_extents.specs.Blocks.{blocks_of, runs_of, ShareNoBlock}
@@ -10,16 +11,18 @@ use Rattle.ark_extents.specs.Free.{free_at_first, Gains}
 use Rattle.ark_extents.proofs.RunLemmas.{blocks_of-runs_of}
 use Rattle.ark_table.specs.Area.{Area}
 use Rattle.ark_table.specs.Slots.{Slot, area_of}
-use Rattle.ark_table.specs.Standing.{Table, slot_in, with_slot}
+use Rattle.ark_table.specs.Standing.{Table, slot_in, with_slot, grown_area}
 use Rattle.ark_table.specs.Using.{IsLeastFree}
-use Rattle.ark_machine.specs.Plane.{Plane, free_slot, max_slots, max_runs}
-use Rattle.ark_machine.specs.Granting.{new_slot, without_slot}
-use Rattle.ark_machine.specs.Grants.{has_index}
-use Rattle.ark_machine.proofs.Grants.{new_fits, makes_apart, free_index}
+use Rattle.ark_machine.specs.Plane.{Plane, free_slot, lowest, max_slots, max_runs}
+use Rattle.ark_machine.specs.Granting.{new_slot, with_more, without_slot}
+use Rattle.ark_machine.specs.Grants.{GrantsApart, has_index}
+use Rattle.ark_machine.proofs.Grants.{new_fits, makes_apart, grows_apart, free_index}
 use Rattle.ark_held.proofs.Members.{contains_in, in_contains}
 use Rattle.ark_host.specs.Inside.{slots_on, IsShared}
-use Rattle.ark_host.specs.Tabled.{table_of}
-use Rattle.ark_host.proofs.Freeing.{free_after}
+use Rattle.ark_host.specs.Tabled.{table_of, with_longer}
+use Rattle.ark_host.proofs.Freeing.{free_after, free_without}
+use Rattle.ark_host.proofs.Machines.{by_test}
+use Rattle.ark_host.proofs.Lengthened.{longer, one_index, of_map, granted_longer, table_longer}
 use Rattle.ark_host.proofs.Tabling.{fit_in, free_index_at, slots_room, used_index_at, least_slot, table_more, slot_there}
 use Rattle.ark_host.proofs.Removed.{rest_agrees, rest_table, stayed}
 use Rattle.ark_host.proofs.Complement.{few_free}
@@ -93,6 +96,49 @@ module _ (size : ℕ) (table : Table) (free : List ℕ) (failed : Bool) (sh : Is
       let f = slot_there size sh.slots (i - 1) area sh.apart.fit (ap (λ (t : Table). slot_in t i) (sym sh.table) ∙ used) in
       let high : f.0.index ≤ 128 = (fit_in size sh.slots f.0 sh.apart.fit f.1).index_high in
       omega (arith, high, f.2, low)
+
+  -- A slot gets the lowest free blocks behind its own.
+  module _ (n i : ℕ) (area : Area) (low : 1 ≤ i) (used : slot_in table i ≡ Some area) (settled : failed ≡ false) (more : List ℕ) (taken : more ≡ take n free) (compact : length (runs_of (blocks_of area.runs ++ more)) ≤ max_runs) where
+    growing : (t : Slot) × Contains sh.slots t × (t.index ≡ i) × (area_of t ≡ area)
+    growing =
+        let f = slot_there size sh.slots (i - 1) area sh.apart.fit (ap (λ (t : Table). slot_in t i) (sym sh.table) ∙ used) in
+        (f.0, in_contains sh.slots f.0 f.1, omega (arith, f.2, low), f.3)
+
+    grown : Slot
+    grown = growing.0
+
+    lowest_more : lowest (slots_on size sh.slots) n ≡ more
+    lowest_more = ap (λ (f : List ℕ). take n f) (sh.free settled) ∙ sym taken
+
+    grown_compact : length (runs_of (grown.blocks ++ more)) ≤ max_runs
+    grown_compact = subst (λ (bs : List ℕ). length (runs_of (bs ++ more)) ≤ max_runs) (ap (λ (x : Area). blocks_of x.runs) (sym growing.3) ∙ blocks_of-runs_of grown.blocks) compact
+
+    grown_few : (u : Slot) → Contains (with_longer grown more sh.slots) u → length (runs_of u.blocks) ≤ max_runs
+    grown_few u among =
+        let from = of_map (longer grown more) sh.slots u (contains_in (with_longer grown more sh.slots) u among) in
+        subst (λ (x : Slot). length (runs_of x.blocks) ≤ max_runs) from.2
+        (by_test (from.0.index == grown.index) (λ b. (from.0.index == grown.index) ≡ b → length (runs_of (cond b (with_more from.0 more) from.0).blocks) ≤ max_runs)
+          (λ yes q.
+            let index : grown.index ≡ from.0.index = grind (arith, nat_tests, q) in
+            subst (λ (x : Slot). length (runs_of (x.blocks ++ more)) ≤ max_runs) (one_index sh.slots grown from.0 sh.apart.apart (contains_in sh.slots grown growing.1) from.1 index) grown_compact)
+          (λ no q. sh.few from.0 (in_contains sh.slots from.0 from.1)) refl)
+
+    pub grown_shared : (rest : List ℕ) (now : Table) → rest ≡ drop n free → now ≡ with_slot table i (Some (grown_area area more)) → IsShared size now rest failed
+    grown_shared rest now left is =
+        let its = contains_in sh.slots grown growing.1 in
+        record {
+          slots = with_longer grown more sh.slots;
+          table =
+              is
+              ∙ ap (λ (t : Table). with_slot t i (Some (grown_area area more))) sh.table
+              ∙ (λ k. with_slot (table_of sh.slots) (sym growing.2 k) (Some (grown_area (sym growing.3 k) more)))
+              ∙ sym (table_longer grown more size sh.slots sh.apart.fit sh.apart.apart its);
+          apart = subst (λ (bs : List ℕ). GrantsApart (slots_on size (with_longer grown bs sh.slots))) lowest_more (grows_apart (slots_on size sh.slots) n grown sh.apart);
+          few = grown_few;
+          free = λ no.
+              free_without (slots_on size sh.slots) (with_longer grown more sh.slots) more n (λ k. granted_longer grown more k sh.slots sh.apart.apart its) (taken ∙ ap (λ (f : List ℕ). take n f) (sym (sh.free settled)))
+              ∙ ap (λ (f : List ℕ). drop n f) (sh.free settled) ∙ sym left;
+        }
 
   -- A slot goes.
   module _ (i : ℕ) (area : Area) (spans : List ℕ) (low : 1 ≤ i) (used : slot_in table i ≡ Some area) (runs : area.runs ≡ runs_of spans) where

@@ -7,7 +7,7 @@ use Rattle.ark_base.specs.declared.kind.Kind.TheVariants as kind
 use Rattle.ark_extents.proofs.RunLemmas.{blocks_of-runs_of}
 use Rattle.ark_media.specs.Journal.{Event, Read, Write, Sync, Out, History, block, device_events}
 use Rattle.ark_table.specs.Slots.{Slot, area_of}
-use Rattle.ark_table.specs.Standing.{IsWritten, Spare, creates, removes}
+use Rattle.ark_table.specs.Standing.{IsWritten, Spare, creates, grows as adds, removes}
 use Rattle.ark_table.proofs.Standing.{stays, stays_unsettled, written_left}
 use Rattle.ark_machine.specs.Objects.{Object}
 use Rattle.ark_machine.specs.Plane.{Change, makes, grows, drops}
@@ -77,7 +77,7 @@ pub table_stays : (h : History) (slots : List Slot) (u : Option Change) (es : Li
 table_stays h slots None es stands spare = stays h (table_of slots) es stands spare
 table_stays h slots (Some (makes t)) es stands spare =
     stays_unsettled h (table_of slots) (creates t.index (area_of t)) es stands (subst (λ (bs : List ℕ). Spare bs es) (sym (blocks_of-runs_of t.blocks)) spare)
-table_stays h slots (Some (grows t more)) es stands spare = absurd stands
+table_stays h slots (Some (grows t more)) es stands spare = stays_unsettled h (table_of slots) (adds t.index (area_of t) more) es stands spare
 table_stays h slots (Some (drops t o)) es stands spare = (
   stays_unsettled h (table_of (t ∷ slots)) (removes t.index) es stands.0 (λ n written. ((spare n written).0, λ has. contains_in [] n has)),
   left_stays h t o es stands.1 (spare_beside t.blocks es spare),

@@ -59,7 +59,7 @@ fit_in size (s ∷ slots) t fit (inr h) = fit_in size slots t fit.1 h
 -- Each area of the table is that of a slot, and each slot's area stands in it.
 
 module _ (size : ℕ) where
-  low : (t : Slot) → SlotFits size t → (t.index - 1 < 128) × (1 ≤ t.index)
+  pub low : (t : Slot) → SlotFits size t → (t.index - 1 < 128) × (1 ≤ t.index)
   low t f = let high = f.index_high in let low = f.index_low in (omega (arith, high, low), low)
 
   near : (slots : List Slot) (t : Slot) → SlotFits size t → t.index - 1 < length (table_of slots)

@@ -1,14 +1,15 @@
 -- The table of grants that a plane's slots stand for, on the device and in whatever image a stop may leave of it.
-use Rattle.std.specs.Prelude.{ℕ, ◌<◌, ◌+◌, ◌≤◌, List, [], ◌∷◌, length, get_or, replicate, Option, Some, None, Contains, bytes_eq}
+use Rattle.std.specs.Prelude.{◌≡◌, ℕ, ◌<◌, ◌+◌, ◌≤◌, true, false, if◌then◌else◌, ◌==◌, List, [], ◌∷◌, length, get_or, map, replicate, Option, Some, None, Contains, bytes_eq}
 use Rattle.ark_base.specs.declared.kind.Kind.{Kind}
 use Rattle.ark_base.specs.declared.kind.Kind.TheVariants as kind
 use Rattle.ark_media.specs.Journal.{History}
 use Rattle.ark_table.specs.Slots.{Slot, area_of}
-use Rattle.ark_table.specs.Standing.{Table, with_slot, IsTableOf, IsUnsettled, creates, removes}
+use Rattle.ark_table.specs.Standing.{Table, with_slot, IsTableOf, IsUnsettled, creates, grows as adds, removes}
 use Rattle.ark_entry.specs.Found.{found_of}
 use Rattle.ark_machine.specs.Objects.{Object}
-use Rattle.ark_machine.specs.Plane.{Change, makes, grows, drops}
-use Rattle.ark_machine.specs.Grants.{SlotsAgree}
+use Rattle.ark_machine.specs.Plane.{Change, makes, grows, drops, is_granted}
+use Rattle.ark_machine.specs.Granting.{with_more}
+use Rattle.ark_machine.specs.Grants.{SlotsAgree, has_block}
 use Rattle.ark_machine.specs.Recovers.{object_lists, object_maybe}
 use Rattle.ark_media.specs.Standing.{MayStand}
 use Rattle.ark_held.specs.Areas.{MayShow}
@@ -35,15 +36,19 @@ pub record LeavesObject (h : History) (t : Slot) (o : Option Object) : Type 0 wh
 abbrev pub TableStands : History → List Slot → Option Change → Type 0
 TableStands h slots None = IsTableOf h (table_of slots)
 TableStands h slots (Some (makes t)) = IsUnsettled h (table_of slots) (creates t.index (area_of t))
-TableStands h slots (Some (grows t more)) = ⊥
+TableStands h slots (Some (grows t more)) = IsUnsettled h (table_of slots) (adds t.index (area_of t) more)
 TableStands h slots (Some (drops t o)) = IsUnsettled h (table_of (t ∷ slots)) (removes t.index) × LeavesObject h t o
 
+-- The slots with more blocks in one of them.
+abbrev pub with_longer : Slot → List ℕ → List Slot → List Slot
+with_longer t more slots = map (λ u. if u.index == t.index then with_more u more else u) slots
+
 -- A slot whose making or removal failed goes with those that are held: none of its blocks is in another. One that was to be made
--- has a block.
+-- has a block. Where a raw area failed to grow, no slot has a block that was to be added.
 abbrev pub StandsBeside : ℕ → List Slot → Option Change → Type 0
 StandsBeside size slots None = Unit {0}
 StandsBeside size slots (Some (makes t)) = SlotsAgree size (t ∷ slots) × (1 ≤ length t.blocks)
-StandsBeside size slots (Some (grows t more)) = ⊥
+StandsBeside size slots (Some (grows t more)) = Contains slots t × (t.kind ≡ kind.Raw) × SlotsAgree size (with_longer t more slots) × ((n : ℕ) → has_block more n ≡ true → is_granted slots n ≡ false)
 StandsBeside size slots (Some (drops t o)) = SlotsAgree size (t ∷ slots)
 
 -- the blocks that a change is to add, or to give back: no later line writes them

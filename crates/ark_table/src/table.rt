@@ -82,7 +82,7 @@ impl GrantTable {
     /// Slot `i`; `None` where it is not in use, or `i` is not 1 to 128.
     pub fn slot(&self, i: u16) -> Option<&Slot>
         ensures slot { MatchOption result ((i ≡ 0) ⊎ (slot_in self.now i ≡ None))
-            (λ s. (1 ≤ i) × (slot_in self.now i ≡ Some (stated s.now))) }
+            (λ s. (1 ≤ i) × (slot_in self.now i ≡ Some (stated s.now)) × (i ≤ 128)) }
     {
         let place = usize::from(i).checked_sub(1)?;
         self.slots.get(place)?.as_ref()

@@ -1,3 +1,4 @@
+use crate::growing::{GROWTH, GROWTH_ENDS};
 use crate::runs::run;
 use ark_memory::Fail;
 use std::alloc::Global;
@@ -190,6 +191,7 @@ fn ends_as_each_call_fails(rt: HostRuntime) -> Result<(), Failure> {
     let alloc = rt.alloc();
     assert_eq!(rt; other_end(alloc, AREA, AREA_ENDS)?, None);
     assert_eq!(rt; other_end(alloc, GONE, GONE_ENDS)?, None);
+    assert_eq!(rt; other_end(alloc, GROWTH, GROWTH_ENDS)?, None);
     assert_eq!(rt; other_end(alloc, b"app a\napp a\n", NAMES_ENDS)?, None);
     assert_eq!(rt; other_end(alloc, b"app a\n", ONE_LINE_ENDS)?, None);
     Ok(())

@@ -11,6 +11,8 @@ mod failures;
 #[cfg(test)]
 mod formatted;
 #[cfg(test)]
+mod growing;
+#[cfg(test)]
 mod lines;
 #[cfg(test)]
 mod reopened;

@@ -3,6 +3,7 @@
 
 use crate::areas::{BLOCKS, GIVEN_UP, GRANTS};
 use crate::commands::{COMMANDS, OTHER_WORDS};
+use crate::growing::GROWN;
 use crate::lines::{EMPTY_LINES, LINES};
 use crate::reopened::REOPENED;
 use crate::runs::{Finished, run_on};
@@ -96,6 +97,7 @@ fn answers_as_the_tables_say(rt: HostRuntime) -> Result<(), Fail> {
         GRANTS,
         BLOCKS,
         GIVEN_UP,
+        GROWN,
     ] {
         let whole = other_row(alloc, table, LastLine::Whole, Status::Done)?;
         assert_eq!(rt; whole, None);

@@ -67,9 +67,6 @@ run,--new,200,d => ready 200 0
 recv a k => refused 2 unknown word
 
 run,--new,200,d => ready 200 0
-grow a s 1 => refused 2 unknown word
-
-run,--new,200,d => ready 200 0
 append a s - => refused 2 unknown word
 
 run,--new,200,d => ready 200 0
@@ -113,6 +110,8 @@ vsa b s 1 raw => ok
 poke b s 0 0b => ok
 peek a s 1 => ok 0aff
 peek b s 0 => ok 0b
+grow b s 2 => ok
+peek b s 2 => ok -
 vsa b t 300 raw => refused 10 no space
 drop a s => ok
 peek a s 1 => refused 5 no grant s

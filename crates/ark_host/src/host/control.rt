@@ -46,6 +46,10 @@ impl Host {
                 let said = self.drop_object(name, label, disk);
                 say(out, said);
             }
+            Step::Grow(name, label, blocks) => {
+                let said = self.grow(name, label, *blocks, disk);
+                say(out, said);
+            }
             Step::Tick(ticks) => {
                 let said = self.tick(*ticks);
                 say(out, said);

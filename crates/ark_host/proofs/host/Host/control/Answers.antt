@@ -35,6 +35,16 @@ returns-in-Drop-clause-answers g c =
           c.say-in-Drop.ensures.said c.say-in-Drop.ensures.none drop.does);
     }
 
+pub returns-in-Grow-clause-answers : goal.returns-in-Grow-clause-answers
+returns-in-Grow-clause-answers g c =
+    let grow = c.grow-said.ensures.answers in
+    record {
+      events = grow.events;
+      goes_on = grow.goes_on;
+      does = rw c.in-Grow.is (said_steps c.args.self.now c.grow-said.new.self (g.D.Disk.told c.grow-said.new.disk) _ grow.events _ _ _
+          c.say-in-Grow.ensures.said c.say-in-Grow.ensures.none grow.does);
+    }
+
 pub returns-in-Tick-clause-answers : goal.returns-in-Tick-clause-answers
 returns-in-Tick-clause-answers g c =
     let told = g.D.Disk.told c.args.disk.now in
@@ -54,11 +64,14 @@ returns-in_default-clause-answers g c =
       goes_on = g.met.D.Disk.goes_none c.args.disk.now;
       does = quiet_steps c.args.self.now c.args.self.now told _ _ _ _ c.say-in_default.ensures.said c.say-in_default.ensures.none
           (λ s h st. unbuilt_answered c.args.self.now told.blocks h s c.args.step.now
-          (unbuilt_control c.args.step.now c.requires.group c.in_default.not-App c.in_default.not-Vsa c.in_default.not-Drop c.in_default.not-Tick) st);
+          (unbuilt_control c.args.step.now c.requires.group c.in_default.not-App c.in_default.not-Vsa c.in_default.not-Grow c.in_default.not-Drop c.in_default.not-Tick) st);
     }
 
 pub vsa-said-requires-clause-some : goal.vsa-said-requires-clause-some
 vsa-said-requires-clause-some g c = (rw c.in-Vsa.is at c.requires.ranges).0
+
+pub grow-said-requires-clause-some : goal.grow-said-requires-clause-some
+grow-said-requires-clause-some g c = (rw c.in-Grow.is at c.requires.ranges).0
 
 pub returns-in-App-clause-inside : goal.returns-in-App-clause-inside
 returns-in-App-clause-inside g c = c.make_app-said.ensures.inside (g.D.Disk.told c.args.disk.now).blocks c.requires.inside
