@@ -38,7 +38,10 @@ unbuilt_group (w.copy a b c len) none = absurd (false≢true (sym none))
 unbuilt_group (w.free a b) none = absurd (false≢true (sym none))
 unbuilt_group (w.tick n) none = absurd (false≢true (sym none))
 unbuilt_group (w.vsic a v size) none = absurd (false≢true (sym none))
+unbuilt_group (w.get a v s off count b) none = absurd (false≢true (sym none))
+unbuilt_group (w.put a v s off count b) none = absurd (false≢true (sym none))
 unbuilt_group (w.flush a v) none = absurd (false≢true (sym none))
+unbuilt_group (w.reap a v) none = absurd (false≢true (sym none))
 unbuilt_group (w.dev a v) none = absurd (false≢true (sym none))
 unbuilt_group (w.door a d) none = absurd (false≢true (sym none))
 unbuilt_group (w.watch a v d q) none = absurd (false≢true (sym none))
@@ -88,7 +91,10 @@ unbuilt_control (step.Door a d) about no_app no_vsa no_tick = absurd (no_rates_c
 unbuilt_control (step.Watch a v d q) about no_app no_vsa no_tick = absurd (no_rates_control about)
 unbuilt_control (step.Look a d) about no_app no_vsa no_tick = absurd (no_rates_control about)
 unbuilt_control (step.Vsic a v size) about no_app no_vsa no_tick = absurd (no_cards_control about)
+unbuilt_control (step.Get a v s off n b) about no_app no_vsa no_tick = absurd (no_cards_control about)
+unbuilt_control (step.Put a v s off n b) about no_app no_vsa no_tick = absurd (no_cards_control about)
 unbuilt_control (step.Flush a v) about no_app no_vsa no_tick = absurd (no_cards_control about)
+unbuilt_control (step.Reap a v) about no_app no_vsa no_tick = absurd (no_cards_control about)
 unbuilt_control (step.Dev a v) about no_app no_vsa no_tick = absurd (no_cards_control about)
 unbuilt_control _ about no_app no_vsa no_tick = refl
 
@@ -111,7 +117,10 @@ all_memory (step.Door a d) about no_peek no_poke no_buf no_show no_fill no_copy 
 all_memory (step.Watch a v d q) about no_peek no_poke no_buf no_show no_fill no_copy no_free = absurd (no_rates_memory about)
 all_memory (step.Look a d) about no_peek no_poke no_buf no_show no_fill no_copy no_free = absurd (no_rates_memory about)
 all_memory (step.Vsic a v size) about no_peek no_poke no_buf no_show no_fill no_copy no_free = absurd (no_cards_memory about)
+all_memory (step.Get a v s off n b) about no_peek no_poke no_buf no_show no_fill no_copy no_free = absurd (no_cards_memory about)
+all_memory (step.Put a v s off n b) about no_peek no_poke no_buf no_show no_fill no_copy no_free = absurd (no_cards_memory about)
 all_memory (step.Flush a v) about no_peek no_poke no_buf no_show no_fill no_copy no_free = absurd (no_cards_memory about)
+all_memory (step.Reap a v) about no_peek no_poke no_buf no_show no_fill no_copy no_free = absurd (no_cards_memory about)
 all_memory (step.Dev a v) about no_peek no_poke no_buf no_show no_fill no_copy no_free = absurd (no_cards_memory about)
 all_memory _ about no_peek no_poke no_buf no_show no_fill no_copy no_free = refl
 
@@ -131,29 +140,36 @@ unbuilt_rates (step.Fill a l off hex) about no_door no_watch no_look = absurd (n
 unbuilt_rates (step.Copy a l m n) about no_door no_watch no_look = absurd (no_rates_memory (sym about))
 unbuilt_rates (step.Free a l) about no_door no_watch no_look = absurd (no_rates_memory (sym about))
 unbuilt_rates (step.Vsic a v size) about no_door no_watch no_look = absurd (no_cards_rates about)
+unbuilt_rates (step.Get a v s off n b) about no_door no_watch no_look = absurd (no_cards_rates about)
+unbuilt_rates (step.Put a v s off n b) about no_door no_watch no_look = absurd (no_cards_rates about)
 unbuilt_rates (step.Flush a v) about no_door no_watch no_look = absurd (no_cards_rates about)
+unbuilt_rates (step.Reap a v) about no_door no_watch no_look = absurd (no_cards_rates about)
 unbuilt_rates (step.Dev a v) about no_door no_watch no_look = absurd (no_cards_rates about)
 unbuilt_rates _ about no_door no_watch no_look = refl
 
 -- the words about storage cards that are not built
-pub unbuilt_cards : (x : Step) → (attributes (line_of x)).group ≡ group.Cards → ((a v : List ℕ) (size : ℕ) → x ≡ step.Vsic a v size → ⊥) → ((a v : List ℕ) → x ≡ step.Flush a v → ⊥) → ((a v : List ℕ) → x ≡ step.Dev a v → ⊥) → is_built (line_of x) ≡ false
-unbuilt_cards (step.Vsic a v size) about no_vsic no_flush no_dev = absurd (no_vsic a v size refl)
-unbuilt_cards (step.Flush a v) about no_vsic no_flush no_dev = absurd (no_flush a v refl)
-unbuilt_cards (step.Dev a v) about no_vsic no_flush no_dev = absurd (no_dev a v refl)
-unbuilt_cards (step.Door a d) about no_vsic no_flush no_dev = absurd (no_cards_rates (sym about))
-unbuilt_cards (step.Watch a v d q) about no_vsic no_flush no_dev = absurd (no_cards_rates (sym about))
-unbuilt_cards (step.Look a d) about no_vsic no_flush no_dev = absurd (no_cards_rates (sym about))
-unbuilt_cards (step.App a frames) about no_vsic no_flush no_dev = absurd (no_cards_control (sym about))
-unbuilt_cards (step.Vsa a l n k) about no_vsic no_flush no_dev = absurd (no_cards_control (sym about))
-unbuilt_cards (step.Tick n) about no_vsic no_flush no_dev = absurd (no_cards_control (sym about))
-unbuilt_cards (step.Peek a l off) about no_vsic no_flush no_dev = absurd (no_cards_memory (sym about))
-unbuilt_cards (step.Poke a l off hex) about no_vsic no_flush no_dev = absurd (no_cards_memory (sym about))
-unbuilt_cards (step.Buf a l n) about no_vsic no_flush no_dev = absurd (no_cards_memory (sym about))
-unbuilt_cards (step.Show a l off n) about no_vsic no_flush no_dev = absurd (no_cards_memory (sym about))
-unbuilt_cards (step.Fill a l off hex) about no_vsic no_flush no_dev = absurd (no_cards_memory (sym about))
-unbuilt_cards (step.Copy a l m n) about no_vsic no_flush no_dev = absurd (no_cards_memory (sym about))
-unbuilt_cards (step.Free a l) about no_vsic no_flush no_dev = absurd (no_cards_memory (sym about))
-unbuilt_cards _ about no_vsic no_flush no_dev = refl
+pub unbuilt_cards : (x : Step) → (attributes (line_of x)).group ≡ group.Cards → ((a v : List ℕ) (size : ℕ) → x ≡ step.Vsic a v size → ⊥) → ((a v s : List ℕ) (off n : ℕ) (b : List ℕ) → x ≡ step.Get a v s off n b → ⊥)
+    → ((a v s : List ℕ) (off n : ℕ) (b : List ℕ) → x ≡ step.Put a v s off n b → ⊥) → ((a v : List ℕ) → x ≡ step.Flush a v → ⊥) → ((a v : List ℕ) → x ≡ step.Reap a v → ⊥) → ((a v : List ℕ) → x ≡ step.Dev a v → ⊥) → is_built (line_of x) ≡ false
+unbuilt_cards (step.Vsic a v size) about no_vsic no_get no_put no_flush no_reap no_dev = absurd (no_vsic a v size refl)
+unbuilt_cards (step.Get a v s off n b) about no_vsic no_get no_put no_flush no_reap no_dev = absurd (no_get a v s off n b refl)
+unbuilt_cards (step.Put a v s off n b) about no_vsic no_get no_put no_flush no_reap no_dev = absurd (no_put a v s off n b refl)
+unbuilt_cards (step.Flush a v) about no_vsic no_get no_put no_flush no_reap no_dev = absurd (no_flush a v refl)
+unbuilt_cards (step.Reap a v) about no_vsic no_get no_put no_flush no_reap no_dev = absurd (no_reap a v refl)
+unbuilt_cards (step.Dev a v) about no_vsic no_get no_put no_flush no_reap no_dev = absurd (no_dev a v refl)
+unbuilt_cards (step.Door a d) about no_vsic no_get no_put no_flush no_reap no_dev = absurd (no_cards_rates (sym about))
+unbuilt_cards (step.Watch a v d q) about no_vsic no_get no_put no_flush no_reap no_dev = absurd (no_cards_rates (sym about))
+unbuilt_cards (step.Look a d) about no_vsic no_get no_put no_flush no_reap no_dev = absurd (no_cards_rates (sym about))
+unbuilt_cards (step.App a frames) about no_vsic no_get no_put no_flush no_reap no_dev = absurd (no_cards_control (sym about))
+unbuilt_cards (step.Vsa a l n k) about no_vsic no_get no_put no_flush no_reap no_dev = absurd (no_cards_control (sym about))
+unbuilt_cards (step.Tick n) about no_vsic no_get no_put no_flush no_reap no_dev = absurd (no_cards_control (sym about))
+unbuilt_cards (step.Peek a l off) about no_vsic no_get no_put no_flush no_reap no_dev = absurd (no_cards_memory (sym about))
+unbuilt_cards (step.Poke a l off hex) about no_vsic no_get no_put no_flush no_reap no_dev = absurd (no_cards_memory (sym about))
+unbuilt_cards (step.Buf a l n) about no_vsic no_get no_put no_flush no_reap no_dev = absurd (no_cards_memory (sym about))
+unbuilt_cards (step.Show a l off n) about no_vsic no_get no_put no_flush no_reap no_dev = absurd (no_cards_memory (sym about))
+unbuilt_cards (step.Fill a l off hex) about no_vsic no_get no_put no_flush no_reap no_dev = absurd (no_cards_memory (sym about))
+unbuilt_cards (step.Copy a l m n) about no_vsic no_get no_put no_flush no_reap no_dev = absurd (no_cards_memory (sym about))
+unbuilt_cards (step.Free a l) about no_vsic no_get no_put no_flush no_reap no_dev = absurd (no_cards_memory (sym about))
+unbuilt_cards _ about no_vsic no_get no_put no_flush no_reap no_dev = refl
 
 -- a word's counts are those of a line
 pub counted : (old now : Host) (ticks most : ℕ) → ticks ≤ a_billion → most ≤ 1 → Counts old now ticks most → CountsLine old now
