@@ -1,4 +1,4 @@
-ghost use Rattle.std.specs.Prelude.{◌≡◌, ◌<◌, [], length, nat_eq, option_copied, IfOk};
+ghost use Rattle.std.specs.Prelude.{◌≡◌, ◌<◌, ◌≤◌, [], length, nat_eq, option_copied, IfOk};
 ghost use Rattle.std.specs.Map.{lookup};
 ghost use Rattle.ark_held.specs.Words.{with_area};
 
@@ -63,6 +63,7 @@ impl Areas {
     /// The number of areas.
     pub fn len(&self) -> usize
         ensures len { result ≡ length self.now }
+        ensures within { length self.now ≤ 8 }
     {
         self.areas.len()
     }

@@ -1,7 +1,8 @@
-ghost use Rattle.std.specs.Prelude.{◌≡◌, ◌<◌, ◌+◌, Bool, List, [], None, Some, IfOk, IfSome, IsSome, length, slice_get};
+ghost use Rattle.std.specs.Prelude.{◌≡◌, ◌<◌, ◌+◌, ℕ, Bool, List, [], None, Some, IfOk, IfSome, IsSome, length, slice_get};
 ghost use Rattle.ark_objects.specs.Held.{Changes, at, held};
 ghost use Rattle.ark_vic.specs.Bells.{counts_of};
 ghost use Rattle.ark_vsic.specs.Moves.{CanMove};
+ghost use Rattle.ark_held.specs.Bound.{HasRoomToBind, with_bound, without_bound};
 ghost use Rattle.ark_held.specs.Rings.{AreSound, ChangesCard, HasRoomFor, new_card, no_ring, with_posted, with_reaped};
 
 use crate::card::StorageCard;
@@ -26,6 +27,7 @@ impl Devices {
     /// a new card takes any.
     pub fn new(alloc: Global, frames: u32) -> Result<Devices, Memory>
         ensures cards { IfOk result (λ d. held d.cards ≡ 0) }
+        ensures vacant { IfOk result (λ d. (key : ℕ) → at d.cards key ≡ None) }
         ensures doors { IfOk result (λ d. held d.doors ≡ 0) }
         ensures frames { IfOk result (λ d. d.frames ≡ frames) }
     {
@@ -80,6 +82,28 @@ impl Devices {
         ensures frames { self.new.frames ≡ self.old.frames }
     {
         self.cards.at_mut(key).door = door;
+    }
+
+    /// Descriptors of the card of a key may use the area of a grant from now on.
+    pub fn bind(&mut self, key: u32, grant: u64)
+        requires room { HasRoomToBind self.old.cards key grant }
+        ensures changes { ChangesCard self.old.cards self.new.cards key (with_bound grant) }
+        ensures held { held self.new.cards ≡ held self.old.cards }
+        ensures doors { self.new.doors ≡ self.old.doors }
+        ensures frames { self.new.frames ≡ self.old.frames }
+    {
+        self.cards.at_mut(key).vsic.bind(grant);
+    }
+
+    /// Descriptors of the card of a key may use the area of a grant no more.
+    pub fn unbind(&mut self, key: u32, grant: u64)
+        requires there { IsSome (at self.old.cards key) }
+        ensures changes { ChangesCard self.old.cards self.new.cards key (without_bound grant) }
+        ensures held { held self.new.cards ≡ held self.old.cards }
+        ensures doors { self.new.doors ≡ self.old.doors }
+        ensures frames { self.new.frames ≡ self.old.frames }
+    {
+        self.cards.at_mut(key).vsic.unbind(grant);
     }
 
     /// Posts a descriptor on the card of a key, behind all that are posted.

@@ -5,7 +5,9 @@ use crate::areas::{BLOCKS, GRANTS};
 use crate::commands::{COMMANDS, OTHER_WORDS};
 use crate::lines::{EMPTY_LINES, LINES};
 use crate::runs::{Finished, run_words};
-use crate::words::{CARDS_AND_DOORS, EVERY_WORD, FRAMES, TICKS, WORDS_TO_COME};
+use crate::words::{
+    BINDINGS, CARDS_AND_DOORS, EVERY_WORD, FRAMES, TICKS, TRANSFERS, WORDS_TO_COME,
+};
 use ark_base::Status;
 use std::alloc::Global;
 use std::test::Fail;
@@ -91,6 +93,8 @@ fn answers_as_the_tables_say(rt: HostRuntime) -> Result<(), Fail> {
         WORDS_TO_COME,
         EVERY_WORD,
         CARDS_AND_DOORS,
+        TRANSFERS,
+        BINDINGS,
         GRANTS,
         BLOCKS,
     ] {

@@ -33,6 +33,8 @@ impl Host {
     {
         match step {
             Step::Vsic(name, ..)
+            | Step::Bind(name, ..)
+            | Step::Unbind(name, ..)
             | Step::Get(name, ..)
             | Step::Put(name, ..)
             | Step::Flush(name, ..)

@@ -6,6 +6,7 @@ use Rattle.ark_held.proofs.Rights.{right_lies, right_len}
 use Rattle.ark_held.proofs.Storing.{right_found}
 use Rattle.ark_own.proofs.OfBuffers.{some_right}
 use Rattle.ark_own.proofs.Transferring as of
+use Rattle.ark_held.proofs.Bindings.{bound_same}
 use Rattle.ark_own.proofs.transfers.post.Goals as goal
 
 pub returns-in-Err-clause-acts : goal.returns-in-Err-clause-acts
@@ -59,3 +60,8 @@ returns-clause-acts c = λ t.
     of.post_done c.args.put c.args.card.now c.args.area.now c.args.buffer.now c.args.off c.args.count t app c.in-Ok.keys.0.0 c.in-Ok.keys.1 c.in-Ok.keys.0.1 c.in-Ok.ensures.keys
     c.in-Some-at.one.now c.in-Some.lent.now there was (search rules) (search rules) (search rules) some (search rules) _ _ c.job_of.ensures refl refl refl refl refl refl
     (c.lend.ensures.right ∙ right_found app.store.buffers c.in-Ok.keys.1 c.in-Some.lent.now right.0 was right.1 ∙ sym right.1) (c.post.ensures.changes c.in-Some-at.one.now there) (c.lend.ensures.changes c.in-Some.lent.now was) c.lend.ensures.region refl c.post.ensures.doors refl refl
+
+pub invariant_of-app-clause-bound : goal.invariant_of-app-clause-bound
+invariant_of-app-clause-bound c =
+    let there : at c.args.app.now.devices.cards c.in-Ok.keys.0.0 ≡ Some c.in-Some-at.one.now = search rules in
+    bound_same c.args.app.now.areas c.args.app.now.devices.cards _ c.in-Ok.keys.0.0 c.args.app.now.bound c.in-Some-at.one.now there _ (c.post.ensures.changes c.in-Some-at.one.now there) refl
