@@ -1,6 +1,6 @@
 -- A capability tells what its object is.
 use Rattle.std.proofs.Common.{◌≡◌, ℕ, List, refl}
-use Rattle.std.specs.Prelude.{Option, None}
+use Rattle.std.specs.Prelude.{None}
 use Rattle.ark_caps.specs.declared.capability.CapKind.TheVariants as cap_kind
 use Rattle.ark_caps.specs.declared.capability.Capability.{Capability}
 use Rattle.ark_vic.specs.declared.door.Counts.{Counts}

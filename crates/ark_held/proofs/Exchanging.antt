@@ -1,6 +1,6 @@
 -- The ring of a card and the right to a buffer change together: what stays, and what labels stand for then.
 use Rattle.std.proofs.Common.{◌≡◌, inl, inr, ℕ, ◌+◌, Bool, true, false, not, cond, ◌&&◌, List, length, refl, sym, ◌∙◌, ap, subst, arith, bytes_eq, nat_eq}
-use Rattle.std.specs.Prelude.{Option, Some, None, is_some, is_none, option_map, option_and_then, slice_get, slice_index_or}
+use Rattle.std.specs.Prelude.{Option, Some, is_some, is_none, option_map, option_and_then, slice_get, slice_index_or}
 use Rattle.std.specs.Map.{lookup}
 use Rattle.std.proofs.lemmas.Bool.{cases_eq, false≢true, and_parts}
 use Rattle.ark_base.specs.declared.kind.Outcome.{Outcome}

@@ -1,6 +1,6 @@
 -- A transfer that is posted: the card has a descriptor more, which has the buffer's right.
 use Rattle.std.proofs.Common.{◌≡◌, ℕ, ◌+◌, false, List, [], ◌∷◌, ◌++◌, refl, ap, arith, bytes_eq}
-use Rattle.std.specs.Prelude.{Option, Some, None, is_none}
+use Rattle.std.specs.Prelude.{Some, None, is_none}
 use Rattle.ark_objects.specs.Held.{at as key_at, Changes}
 use Rattle.ark_vic.specs.Queue.{Queue}
 use Rattle.ark_vic.specs.declared.descriptor.Descriptor.{Descriptor}
@@ -8,7 +8,7 @@ use Rattle.ark_base.specs.declared.kind.Outcome.{Outcome}
 use Rattle.ark_machine.specs.Objects
 use Rattle.ark_machine.specs.Objects.{Job, Transfer, transfer}
 use Rattle.ark_machine.specs.Buffers.{job_has}
-use Rattle.ark_held.specs.Totals.{bit, uses, total}
+use Rattle.ark_held.specs.Totals.{bit, uses}
 use Rattle.ark_held.specs.Rings.{with_posted}
 use Rattle.ark_held.specs.Around.{Around}
 use Rattle.ark_held.specs.Cards.{IsJob}

@@ -1,8 +1,7 @@
 -- A transfer that is reaped: the card has a completion less, and the buffer has its right again.
-use Rattle.std.proofs.Common.{◌≡◌, ℕ, ◌+◌, ◌≤◌, Bool, true, false, List, [], ◌∷◌, drop, refl, ap, sym, subst, arith, bytes_eq}
-use Rattle.std.specs.Prelude.{Option, Some, is_none}
+use Rattle.std.proofs.Common.{◌≡◌, ℕ, ◌+◌, ◌≤◌, Bool, true, false, List, ◌∷◌, drop, refl, ap, sym, subst, arith, bytes_eq}
+use Rattle.std.specs.Prelude.{Some, is_none}
 use Rattle.ark_objects.specs.Held.{at as key_at, Changes}
-use Rattle.ark_region.specs.Frames.{Piece}
 use Rattle.ark_vic.specs.Queue.{Queue}
 use Rattle.ark_vic.specs.declared.descriptor.Completion.{Completion}
 use Rattle.ark_base.specs.declared.kind.Outcome.{Outcome}
@@ -50,7 +49,7 @@ module _ (r : Beyond) (app app1 : App) (v b : List ℕ) (h : Holds (around r app
   rest_then =
       let all = unreaped_then r app app1 v b h both one here lent was ring queue (Some (place_kept lent)) cards buffers region labels doors areas used in
       let split : Each (IsEnded then one.log) (c ∷ cs) ((transfer t, o) ∷ us) =
-          subst (λ (zs : List (Job × Outcome)). Each (IsEnded then one.log) (c ∷ cs) zs) oldest (subst (λ (zs : List Completion). Each (IsEnded then one.log) zs both.vsic.queue.unreaped) first all) in
+      subst (λ (zs : List (Job × Outcome)). Each (IsEnded then one.log) (c ∷ cs) zs) oldest (subst (λ (zs : List Completion). Each (IsEnded then one.log) zs both.vsic.queue.unreaped) first all) in
       subst (λ (zs : List Completion). Each (IsEnded then one.log) (drop 1 zs) us) (sym first) split.1
 
   pub reaped : Holds then

@@ -11,7 +11,6 @@ use Rattle.ark_base.specs.declared.refusal.Refusal.TheVariants as r
 use Rattle.ark_media.specs.Calls.{Told}
 use Rattle.ark_script.specs.declared.said.Said.TheVariants as said
 use Rattle.ark_objects.specs.Held.{at as slot, Changes}
-use Rattle.ark_caps.specs.Labels.{value_at}
 use Rattle.ark_caps.specs.declared.capability.Capability.{Capability}
 use Rattle.ark_caps.specs.declared.capability.CapKind.{CapKind}
 use Rattle.ark_caps.specs.declared.capability.CapKind.TheVariants as cap_kind

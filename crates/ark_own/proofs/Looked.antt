@@ -1,6 +1,6 @@
 -- What looking for several labels told, and the refusals of a word on a card and what it names.
 use Rattle.std.proofs.Common.{◌≡◌, ℕ, Bool, true, false, not, cond, ◌||◌, List, [], ◌∷◌, ◌++◌, refl, sym, ◌∙◌, ap}
-use Rattle.std.specs.Prelude.{Option, Some, None, Result, Ok, Err, is_ok, is_none}
+use Rattle.std.specs.Prelude.{Some, None, Result, Ok, Err, is_ok, is_none}
 use Rattle.std.specs.Option.{option_or}
 use Rattle.std.proofs.lemmas.Bool.{false≢true}
 use Rattle.ark_base.specs.Conditions.{Conditions, none, early}

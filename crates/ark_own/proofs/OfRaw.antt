@@ -1,5 +1,5 @@
 -- Raw areas, as words on cards come to their rows.
-use Rattle.std.proofs.Common.{◌≡◌, ℕ, Bool, List, length, refl, sym, ◌∙◌, ap, subst}
+use Rattle.std.proofs.Common.{◌≡◌, ℕ, List, length, refl, sym, ◌∙◌, ap, subst}
 use Rattle.std.specs.Prelude.{Option, Some, None, Result, Ok, Err, slice_get}
 use Rattle.ark_base.specs.declared.kind.Kind.{Kind}
 use Rattle.ark_base.specs.declared.kind.Kind.TheVariants as kind
@@ -14,7 +14,7 @@ use Rattle.ark_machine.specs.Objects.{Object, Raw, as_raw}
 use Rattle.ark_machine.specs.Machine.{Held, at}
 use Rattle.ark_held.specs.Around.{Around}
 use Rattle.ark_held.specs.Areas.{IsArea}
-use Rattle.ark_held.specs.Held.{IsObjectOf, Matches, AtLabel, Holds}
+use Rattle.ark_held.specs.Held.{IsObjectOf, AtLabel, Holds}
 use Rattle.ark_held.specs.declared.areas.Area.{Area}
 use Rattle.ark_held.proofs.Finding.{found}
 use Rattle.ark_own.specs.Keys.{raw_area, raw_under, raw_granted, raw_found, if_raw}

@@ -1,6 +1,6 @@
 -- The row of `reap`: the oldest completion goes, and what it had comes back.
-use Rattle.std.proofs.Common.{◌≡◌, inl, ℕ, zero, suc, ◌+◌, ◌<◌, ◌≤◌, Bool, true, false, cond, List, [], ◌∷◌, drop, refl, sym, ◌∙◌, ap, subst, arith, bytes_eq}
-use Rattle.std.specs.Prelude.{Option, Some, None, Ok, if◌then◌else◌, is_some, is_none, option_map, slice_get}
+use Rattle.std.proofs.Common.{◌≡◌, ℕ, zero, suc, Bool, true, false, cond, List, [], ◌∷◌, drop, refl, sym, ◌∙◌, ap, subst, arith, bytes_eq}
+use Rattle.std.specs.Prelude.{Option, Some, None, Ok, if◌then◌else◌, is_some, option_map, slice_get}
 use Rattle.std.proofs.lemmas.Bool.{false≢true}
 use Rattle.ark_base.specs.declared.kind.Outcome.{Outcome}
 use Rattle.ark_media.specs.Calls.{Told}
@@ -24,7 +24,7 @@ use Rattle.ark_machine.specs.Row.{Row, Given}
 use Rattle.ark_held.specs.Words.{Labels, AreaList}
 use Rattle.ark_held.specs.Totals.{bit, total}
 use Rattle.ark_held.specs.Kept.{BufferKept, CardKept}
-use Rattle.ark_held.specs.Stored.{ChangesRight, kept_of, buffer_kept, place_kept}
+use Rattle.ark_held.specs.Stored.{ChangesRight, kept_of, place_kept}
 use Rattle.ark_held.specs.Rings.{kept_card, card_kept, with_reaped}
 use Rattle.ark_held.specs.Around.{Around, Names, Each}
 use Rattle.ark_held.specs.Cards.{HasBuffer, IsCard, IsEnded}
@@ -35,7 +35,7 @@ use Rattle.ark_held.specs.declared.app.App.{App}
 use Rattle.ark_held.specs.declared.store.Store.{Store}
 use Rattle.ark_held.specs.declared.buffer.Buffer as kept
 use Rattle.ark_held.specs.declared.card.StorageCard.{StorageCard}
-use Rattle.ark_held.proofs.Lists.{by_test, not_some, some_same, same_name, name_same, value_behind, value_first, each_length}
+use Rattle.ark_held.proofs.Lists.{by_test, not_some, some_same, same_name, value_behind, value_first}
 use Rattle.ark_held.proofs.ByKind.{buffer_of}
 use Rattle.ark_held.proofs.Devising.{with_devices}
 use Rattle.ark_held.proofs.Doing.{comes, never}
@@ -211,7 +211,7 @@ module _ (t : Told) (app : App) (v : List ℕ) (key : ℕ) (is : Ok key ≡ card
             let keeps = card_keeps app app1 v key is one (with_reaped one) here cards refl labels doors store areas y h c (less o.others c.vsic) like in
             let all : Each (IsEnded after one.log) one.vsic.ring.unreaped c.vsic.queue.unreaped = unreaped_now app v key is one here y c after keeps in
             let split : Each (IsEnded after one.log) (ended ∷ o.rest) ((flush, o.outcome) ∷ o.others) =
-                subst (λ (zs : List (Job × Outcome)). Each (IsEnded after one.log) (ended ∷ o.rest) zs) jobs (subst (λ (zs : List Completion). Each (IsEnded after one.log) zs c.vsic.queue.unreaped) o.first all) in
+            subst (λ (zs : List (Job × Outcome)). Each (IsEnded after one.log) (ended ∷ o.rest) zs) jobs (subst (λ (zs : List Completion). Each (IsEnded after one.log) zs c.vsic.queue.unreaped) o.first all) in
             record {
               its_kind = c.fits.its_kind;
               card = kept_card (with_reaped one);

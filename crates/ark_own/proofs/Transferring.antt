@@ -1,8 +1,7 @@
 -- The rows of `get` and `put`.
-use Rattle.std.proofs.Common.{◌≡◌, ℕ, ◌+◌, ◌*◌, ◌<◌, ◌≤◌, Bool, true, false, nat_le, nat_lt, List, [], ◌∷◌, length, refl, sym, ◌∙◌, ap, subst, arith}
-use Rattle.std.specs.Prelude.{Some, None, Result, Ok, Err, ◌||◌, is_some, is_none, nat_eq, option_map, slice_get}
+use Rattle.std.proofs.Common.{◌≡◌, ℕ, ◌+◌, ◌*◌, ◌<◌, ◌≤◌, Bool, true, false, nat_lt, List, [], ◌∷◌, length, refl, sym, ◌∙◌, ap, subst, arith}
+use Rattle.std.specs.Prelude.{Some, None, Result, Ok, Err, ◌||◌, is_some, is_none, nat_eq, option_map}
 use Rattle.std.specs.Map.{lookup}
-use Rattle.ark_base.specs.declared.kind.Kind.TheVariants as kind
 use Rattle.ark_base.specs.declared.refusal.Refusal.{Refusal}
 use Rattle.ark_base.specs.declared.refusal.Refusal.TheVariants as r
 use Rattle.ark_media.specs.Calls.{Told}
@@ -10,14 +9,13 @@ use Rattle.ark_script.specs.declared.said.Said.TheVariants as said
 use Rattle.ark_objects.specs.Held.{at as slot, Changes}
 use Rattle.ark_caps.specs.Labels.{value_at}
 use Rattle.ark_caps.specs.declared.capability.Capability.{Capability}
-use Rattle.ark_caps.specs.declared.capability.CapKind.TheVariants as cap_kind
 use Rattle.ark_region.specs.Frames.{Piece, LiesInRegion, frames_of}
 use Rattle.ark_vic.specs.Queue.{members}
 use Rattle.ark_vic.specs.declared.descriptor.Descriptor.{Descriptor}
 use Rattle.ark_vsic.specs.Moves.{CanMove}
 use Rattle.ark_machine.specs.Objects
 use Rattle.ark_machine.specs.Objects.{Transfer, transfer, as_vsic}
-use Rattle.ark_machine.specs.Machine.{Machine, at, missing, vsic_at, raw_at, buffer_at, bytes_at, serial_at, with_object, with_vsic}
+use Rattle.ark_machine.specs.Machine.{Machine, missing, vsic_at, raw_at, buffer_at, bytes_at, serial_at, with_object, with_vsic}
 use Rattle.ark_machine.specs.Areas.{area_blocks}
 use Rattle.ark_machine.specs.Buffers.{is_lent}
 use Rattle.ark_machine.specs.Cards as rows
@@ -26,9 +24,9 @@ use Rattle.ark_machine.specs.Control.{has_log}
 use Rattle.ark_machine.specs.Row.{Row, Given, says}
 use Rattle.ark_held.specs.Words.{Labels, AreaList, area_in}
 use Rattle.ark_held.specs.Kept.{BufferKept}
-use Rattle.ark_held.specs.Stored.{ChangesRight, kept_of, buffer_kept, place_kept, right_at}
+use Rattle.ark_held.specs.Stored.{kept_of, buffer_kept, place_kept}
 use Rattle.ark_held.specs.Rings.{with_posted}
-use Rattle.ark_held.specs.Around.{Around, Names}
+use Rattle.ark_held.specs.Around.{Around}
 use Rattle.ark_held.specs.Cards.{HasBuffer, IsOnArea, IsTransfer}
 use Rattle.ark_held.specs.Held.{Holds}
 use Rattle.ark_held.specs.Beyond.{Beyond, around}

@@ -1,5 +1,5 @@
 ghost use Rattle.std.specs.Prelude.{◌≡◌, ℕ, IfSome, IfNone, List};
-ghost use Rattle.ark_own.specs.Keys.{IsLabelOf, both_keys, buffer_key, card_and_door, card_key, door_given, door_key, raw_area};
+ghost use Rattle.ark_own.specs.Keys.{IsLabelOf, both_keys, buffer_key, card_key, door_given, door_key, raw_area};
 
 use ark_base::{Kind, Label, Refusal};
 use ark_caps::{CapKind, CapTable};
@@ -85,7 +85,7 @@ pub fn keys_to_watch(
     card: &Label,
     door: &Option<Label>,
 ) -> Result<(u32, Option<u32>), Refusal>
-    ensures keys { result ≡ card_and_door (card_key app.now.labels card.now)
+    ensures keys { result ≡ both_keys (card_key app.now.labels card.now)
         (door_given app.now.labels door.now) }
 {
     match (key_of_card(app, card), key_of_given(app, door)) {

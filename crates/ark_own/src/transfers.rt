@@ -83,14 +83,7 @@ fn post(
 }
 
 /// The word `get`.
-pub fn get(
-    app: &mut App,
-    card: &Label,
-    area: &Label,
-    off: u64,
-    count: u64,
-    buffer: &Label,
-) -> Said
+pub fn get(app: &mut App, card: &Label, area: &Label, off: u64, count: u64, buffer: &Label) -> Said
     requires far { off < 2 ^ 32 }
     requires some { 1 ≤ count }
     requires few { count ≤ 128 }
@@ -104,14 +97,7 @@ pub fn get(
 }
 
 /// The word `put`.
-pub fn put(
-    app: &mut App,
-    card: &Label,
-    area: &Label,
-    off: u64,
-    count: u64,
-    buffer: &Label,
-) -> Said
+pub fn put(app: &mut App, card: &Label, area: &Label, off: u64, count: u64, buffer: &Label) -> Said
     requires far { off < 2 ^ 32 }
     requires some { 1 ≤ count }
     requires few { count ≤ 128 }

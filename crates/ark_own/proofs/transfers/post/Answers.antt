@@ -1,7 +1,6 @@
-use Rattle.std.proofs.Common.{◌≡◌, ◌<◌, ◌≤◌, ◌+◌, ◌*◌, false, refl, sym, ◌∙◌, subst, rules, arith}
+use Rattle.std.proofs.Common.{◌≡◌, ◌≤◌, ◌*◌, false, refl, sym, ◌∙◌, rules, arith}
 use Rattle.std.specs.Prelude.{Some, is_none}
 use Rattle.ark_objects.specs.Held.{at}
-use Rattle.ark_vic.specs.Queue.{members}
 use Rattle.ark_held.proofs.Rights.{right_lies, right_len}
 use Rattle.ark_held.proofs.Storing.{right_found}
 use Rattle.ark_own.proofs.OfBuffers.{some_right}

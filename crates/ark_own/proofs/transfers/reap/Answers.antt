@@ -1,5 +1,5 @@
 use Rattle.std.proofs.Common.{◌≡◌, refl, sym, ◌∙◌, rules}
-use Rattle.std.specs.Prelude.{Some, None, slice_get}
+use Rattle.std.specs.Prelude.{Some}
 use Rattle.ark_objects.specs.Held.{at}
 use Rattle.ark_own.proofs.OfCards.{no_key, no_card_there, is_busy}
 use Rattle.ark_own.proofs.TakingBack.{oldest, never_full, none_left, flushed, never_unnamed, taken_back}
