@@ -8,7 +8,13 @@ use example::Example;
 use std::fs;
 
 /// The files of the folder `data`.
-const NAMES: [&str; 4] = ["afresh.txt", "blocks.txt", "buffers.txt", "refused.txt"];
+const NAMES: [&str; 5] = [
+    "afresh.txt",
+    "blocks.txt",
+    "buffers.txt",
+    "cards.txt",
+    "refused.txt",
+];
 
 fn main(rt: HostRuntime) -> anyhow::Result<()> {
     for name in NAMES {
