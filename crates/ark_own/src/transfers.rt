@@ -8,6 +8,7 @@ ghost use Rattle.ark_own.specs.Transfers as spec;
 use crate::keys::{key_of_card, keys_to_transfer, label_of_buffer};
 use ark_base::{Label, Outcome, Refusal};
 use ark_held::App;
+use ark_region::Buf;
 use ark_script::Said;
 use ark_vic::{Descriptor, Job};
 
@@ -18,6 +19,31 @@ fn job_of(put: bool) -> Job
     ensures { result ≡ spec.job_of put }
 {
     if put { Job::Write } else { Job::Read }
+}
+
+// Neighbouring blocks of an area, which has this grant.
+#[derive(Clone, Copy, Debug)]
+struct Blocks {
+    area: u64,
+    first: u32,
+    count: u32,
+}
+
+// A transfer of blocks from or to the front of the buffer of a key, to which it takes the right.
+fn transfer(job: Job, blocks: Blocks, buffer: u32, right: Option<Buf>) -> Descriptor
+    ensures { result ≡ spec.transfer job blocks buffer right }
+{
+    Descriptor {
+        job,
+        grant: blocks.area,
+        first: blocks.first,
+        count: blocks.count,
+        wrap: 0,
+        from: 0,
+        len: 0,
+        tag: buffer,
+        buf: right,
+    }
 }
 
 // Posts a transfer of `count` blocks from block `off` of an area on, with a buffer.
@@ -67,18 +93,14 @@ fn post(
     if one.vsic.ring().is_full() {
         return Said::Refused(Refusal::RingFull);
     }
-    let transfer = Descriptor {
-        job: job_of(put),
-        grant: area.grant,
+    let blocks = Blocks {
+        area: area.grant,
         first: off as u32,
         count: count as u32,
-        wrap: 0,
-        from: 0,
-        len: 0,
-        tag: buffer,
-        buf: app.store.lend(buffer),
     };
-    app.devices.post(card, transfer);
+    let right = app.store.lend(buffer);
+    app.devices
+        .post(card, transfer(job_of(put), blocks, buffer, right));
     Said::Ok
 }
 

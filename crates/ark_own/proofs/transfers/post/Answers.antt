@@ -1,8 +1,11 @@
-use Rattle.std.proofs.Common.{◌≡◌, ◌≤◌, ◌*◌, false, refl, sym, ◌∙◌, rules, arith}
+use Rattle.std.proofs.Common.{◌≡◌, ◌≤◌, ◌*◌, false, refl, sym, ◌∙◌, subst, rules, arith}
 use Rattle.std.specs.Prelude.{Some, is_none}
-use Rattle.ark_objects.specs.Held.{at}
+use Rattle.ark_objects.specs.Held.{at, Changes}
+use Rattle.ark_vic.specs.declared.descriptor.Descriptor.{Descriptor}
+use Rattle.ark_held.specs.Rings.{with_posted}
 use Rattle.ark_held.proofs.Rights.{right_lies, right_len}
 use Rattle.ark_held.proofs.Storing.{right_found}
+use Rattle.ark_own.specs.Transfers.{transfer as its_transfer}
 use Rattle.ark_own.proofs.OfBuffers.{some_right}
 use Rattle.ark_own.proofs.Transferring as of
 use Rattle.ark_held.proofs.Bindings.{bound_same}
@@ -46,8 +49,8 @@ post-requires-clause-sound c = λ taken long.
     let fits : 512 * c.args.count ≤ c.in-Some.lent.now.len = search rules in
     let len = right_len app.store.region.taken app.store.buffers c.in-Ok.keys.1 c.in-Some.lent.now right.0 app.store.lie there right.1 in
     let few = c.requires.some in
-    of.can_move c.args.put taken app.store.region.taken _ right.0 c.job_of.ensures (omega (arith, few)) (c.lend.ensures.right ∙ right_found app.store.buffers c.in-Ok.keys.1 c.in-Some.lent.now right.0 there right.1)
-    (right_lies app.store.region.taken app.store.buffers c.in-Ok.keys.1 c.in-Some.lent.now right.0 app.store.lie there right.1) (long ∙ app.memory) (omega (arith, fits, len))
+    rw c.transfer.ensures (of.can_move c.args.put taken app.store.region.taken (its_transfer c.job_of.result _ c.in-Ok.keys.1 c.lend-right.result) right.0 c.job_of.ensures (omega (arith, few)) (c.lend-right.ensures.right ∙ right_found app.store.buffers c.in-Ok.keys.1 c.in-Some.lent.now right.0 there right.1)
+    (right_lies app.store.region.taken app.store.buffers c.in-Ok.keys.1 c.in-Some.lent.now right.0 app.store.lie there right.1) (long ∙ app.memory) (omega (arith, fits, len)))
 
 pub returns-clause-acts : goal.returns-clause-acts
 returns-clause-acts c = λ t.
@@ -57,8 +60,8 @@ returns-clause-acts c = λ t.
     let there : at app.devices.cards c.in-Ok.keys.0.0 ≡ Some c.in-Some-at.one.now = search rules in
     let was : at app.store.buffers c.in-Ok.keys.1 ≡ Some c.in-Some.lent.now = search rules in
     of.post_done c.args.put c.args.card.now c.args.area.now c.args.buffer.now c.args.off c.args.count t app c.in-Ok.keys.0.0 c.in-Ok.keys.1 c.in-Ok.keys.0.1 c.in-Ok.ensures.keys
-    c.in-Some-at.one.now c.in-Some.lent.now there was (search rules) (search rules) (search rules) some (search rules) _ _ c.job_of.ensures refl refl refl refl refl refl
-    (c.lend.ensures.right ∙ right_found app.store.buffers c.in-Ok.keys.1 c.in-Some.lent.now right.0 was right.1 ∙ sym right.1) (c.post.ensures.changes c.in-Some-at.one.now there) (c.lend.ensures.changes c.in-Some.lent.now was) c.lend.ensures.region refl c.post.ensures.doors refl refl
+    c.in-Some-at.one.now c.in-Some.lent.now there was (search rules) (search rules) (search rules) some (search rules) _ (its_transfer c.job_of.result _ c.in-Ok.keys.1 c.lend-right.result) c.job_of.ensures refl refl refl refl refl refl
+    (c.lend-right.ensures.right ∙ right_found app.store.buffers c.in-Ok.keys.1 c.in-Some.lent.now right.0 was right.1 ∙ sym right.1) (subst (λ (d : Descriptor). Changes app.devices.cards c.post.new.self.cards c.in-Ok.keys.0.0 (Some (with_posted d c.in-Some-at.one.now))) c.transfer.ensures (c.post.ensures.changes c.in-Some-at.one.now there)) (c.lend-right.ensures.changes c.in-Some.lent.now was) c.lend-right.ensures.region refl c.post.ensures.doors refl refl
 
 pub invariant_of-app-clause-bound : goal.invariant_of-app-clause-bound
 invariant_of-app-clause-bound c =
