@@ -8,7 +8,13 @@ use example::Example;
 use std::fs;
 
 /// The files of the folder `data` that are played on a new device.
-const NAMES: [&str; 4] = ["afresh.txt", "blocks.txt", "buffers.txt", "refused.txt"];
+const NAMES: [&str; 5] = [
+    "afresh.txt",
+    "blocks.txt",
+    "buffers.txt",
+    "cards.txt",
+    "refused.txt",
+];
 
 /// The one that is played on the device that another one left.
 const AGAIN: (&str, &str) = ("blocks.txt", "again.txt");

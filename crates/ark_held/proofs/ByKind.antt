@@ -5,9 +5,9 @@ use Rattle.ark_caps.specs.declared.capability.CapKind.TheVariants as cap_kind
 use Rattle.ark_caps.specs.declared.capability.Capability.{Capability}
 use Rattle.ark_vic.specs.declared.door.Counts.{Counts}
 use Rattle.ark_machine.specs.Objects
-use Rattle.ark_machine.specs.Objects.{Object, Vsic, as_door, as_vsic}
+use Rattle.ark_machine.specs.Objects.{Object, Vsic, Buffer, as_door, as_vsic}
 use Rattle.ark_held.specs.Around.{Around}
-use Rattle.ark_held.specs.Cards.{IsDoor, IsCard}
+use Rattle.ark_held.specs.Cards.{IsBuffer, IsDoor, IsCard}
 use Rattle.ark_held.specs.Held.{IsObjectOf}
 
 module _ (x : Around) (l : List ℕ) (c : Capability) where
@@ -32,6 +32,17 @@ module _ (x : Around) (l : List ℕ) (c : Capability) where
   card_of (Objects.rate z y) f kind = absurd (cc (kind, f.its_kind))
   card_of (Objects.buffer z) f kind = absurd (cc (kind, f.its_kind))
   card_of (Objects.socket z) f kind = absurd (cc (kind, f.its_kind))
+
+  pub buffer_of : (o : Object) → IsObjectOf x l c o → c.kind ≡ cap_kind.Buf → (b : Buffer) × (o ≡ Objects.buffer b) × IsBuffer x l c b
+  buffer_of (Objects.buffer b) f kind = (b, refl, f)
+  buffer_of (Objects.raw z) f kind = absurd (cc (kind, f.its_kind))
+  buffer_of (Objects.log z) f kind = absurd (cc (kind, f.its_kind))
+  buffer_of (Objects.door z) f kind = absurd (cc (kind, f.its_kind))
+  buffer_of (Objects.vsic z) f kind = absurd (cc (kind, f.its_kind))
+  buffer_of (Objects.vnic z) f kind = absurd (cc (kind, f.its_kind))
+  buffer_of (Objects.filter z y) f kind = absurd (cc (kind, f.its_kind))
+  buffer_of (Objects.rate z y) f kind = absurd (cc (kind, f.its_kind))
+  buffer_of (Objects.socket z) f kind = absurd (cc (kind, f.its_kind))
 
   pub no_door : (o : Object) → IsObjectOf x l c o → (c.kind ≡ cap_kind.Door → ⊥) → as_door o ≡ None
   no_door (Objects.door d) f other = absurd (other f.its_kind)

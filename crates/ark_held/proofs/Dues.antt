@@ -24,7 +24,7 @@ use Rattle.ark_held.proofs.Lists.{by_test}
 -- Bindings.
 
 module _ (x : Around) (one : (i j g : ℕ) → slice_get x.numbers i ≡ Some g → slice_get x.numbers j ≡ Some g → i ≡ j) (n g : ℕ) (its : slice_get x.numbers n ≡ Some g) where
-  same_test : (b s : ℕ) → slice_get x.numbers s ≡ Some b → (b == g) ≡ (s == n)
+  pub same_test : (b s : ℕ) → slice_get x.numbers s ≡ Some b → (b == g) ≡ (s == n)
   same_test b s is = by_test (λ t. (s == n) ≡ t → (b == g) ≡ t) (s == n)
       (λ yes q.
       let same : s ≡ n = grind (arith, nat_tests, q) in

@@ -37,7 +37,7 @@ use Rattle.ark_held.proofs.Staying.{within}
 pub record StandsFor (x : Around) (v : List ℕ) (k : CardKept) (card : Vsic) : Type 0 where
   pub size : card.size ≡ k.ring.size
   pub posted : Each (IsJob x k.log) k.ring.posted card.queue.posted
-  pub unreaped : Each (IsEnded x) k.ring.unreaped card.queue.unreaped
+  pub unreaped : Each (IsEnded x k.log) k.ring.unreaped card.queue.unreaped
   pub moved : card.queue.moved ≡ k.ring.moved
   pub bound : Each (λ g s. slice_get x.numbers s ≡ Some g) k.bound card.bound
   pub pace : Both (IsPaced x) k.pace card.pace
@@ -139,7 +139,7 @@ module _ (x : Around) (v : List ℕ) (c : Capability) (k : CardKept) (card : Vsi
           kept = sets.here;
           size = fits.size;
           posted = each_kept (IsJob x now.log) (IsJob y now.log) (JobWithin any_label any_piece) (job_kept (but v) any_label any_piece x y keeps now.log) now.ring.posted new.queue.posted w.0 fits.posted;
-          unreaped = each_kept (IsEnded x) (IsEnded y) (λ u. JobWithin any_label any_piece u.0) (ended_kept (but v) any_label any_piece x y keeps) now.ring.unreaped new.queue.unreaped w.1 fits.unreaped;
+          unreaped = each_kept (IsEnded x now.log) (IsEnded y now.log) (λ u. JobWithin any_label any_piece u.0) (ended_kept (but v) any_label any_piece x y keeps now.log) now.ring.unreaped new.queue.unreaped w.1 fits.unreaped;
           moved = fits.moved;
           bound = fits.bound;
           pace = paced_kept (but v) any_label any_piece x y keeps now.pace new.pace w.2 fits.pace;
@@ -176,12 +176,12 @@ module _ (x : Around) (v : List ℕ) (c : Capability) (k : CardKept) (card : Vsi
     its_jobs : Each (IsJob x k.log) (d ∷ ds) (j ∷ js)
     its_jobs = subst (λ (zs : List Job). Each (IsJob x k.log) (d ∷ ds) zs) jobs (subst (λ (zs : List Descriptor). Each (IsJob x k.log) zs card.queue.posted) posted on.fits.posted)
 
-    ended_one : (i : Job) → IsJob x k.log d i → IsEnded x (completion_of d o 0) (i, o)
+    ended_one : (i : Job) → IsJob x k.log d i → IsEnded x k.log (completion_of d o 0) (i, o)
     ended_one (transfer t) is = (refl, is.does, is.buffer)
     ended_one flush is = (refl, is.0, is.1)
-    ended_one (phase p) is = refl
+    ended_one (phase p) is = (refl, ap is_some is.0)
 
-    each_last : (cs : List Completion) (us : List (Job × Outcome)) → Each (IsEnded x) cs us → Each (IsEnded x) (cs ++ completion_of d o 0 ∷ []) (us ++ (j, o) ∷ [])
+    each_last : (cs : List Completion) (us : List (Job × Outcome)) → Each (IsEnded x k.log) cs us → Each (IsEnded x k.log) (cs ++ completion_of d o 0 ∷ []) (us ++ (j, o) ∷ [])
     each_last [] [] each = (ended_one j its_jobs.0, tt)
     each_last (a ∷ cs) (b ∷ us) each = (each.0, each_last cs us each.1)
     each_last [] (b ∷ us) each = absurd each

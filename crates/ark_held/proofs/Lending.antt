@@ -91,10 +91,10 @@ module _ (x : Around) (l : List ℕ) (other : (c : Capability) → value_at x.la
   job_none log d flush is = refl
   job_none log d (phase p) is = refl
 
-  ended_none : (c : Completion) (u : Job × Outcome) → IsEnded x c u → bit (job_has l u.0) ≡ 0
-  ended_none c (transfer t, o) is = name_none x l cap_kind.Buf other t.buffer c.tag is.2.named
-  ended_none c (flush, o) is = refl
-  ended_none c (phase p, o) is = refl
+  ended_none : (log : Option ℕ) (c : Completion) (u : Job × Outcome) → IsEnded x log c u → bit (job_has l u.0) ≡ 0
+  ended_none log c (transfer t, o) is = name_none x l cap_kind.Buf other t.buffer c.tag is.2.named
+  ended_none log c (flush, o) is = refl
+  ended_none log c (phase p, o) is = refl
 
   place_none : (tag : ℕ) (given : Option Piece) (p : Place) → IsFramePlace x tag given p → bit (place_has l p) ≡ 0
   place_none tag given (in_buffer b) is = name_none x l cap_kind.Buf other b tag is.named
@@ -112,7 +112,7 @@ module _ (x : Around) (l : List ℕ) (other : (c : Capability) → value_at x.la
   pub none_uses : (k : List ℕ) (c : Capability) (o : Object) → IsObjectOf x k c o → uses l o ≡ 0
   none_uses k c (Objects.vsic v) f =
       let a = each_zero (IsJob x f.card.log) (λ j. bit (job_has l j)) (job_none f.card.log) f.card.ring.posted v.queue.posted f.posted in
-      let b = each_zero (IsEnded x) (λ u. bit (job_has l u.0)) ended_none f.card.ring.unreaped v.queue.unreaped f.unreaped in
+      let b = each_zero (IsEnded x f.card.log) (λ u. bit (job_has l u.0)) (ended_none f.card.log) f.card.ring.unreaped v.queue.unreaped f.unreaped in
       omega (arith, a, b)
   none_uses k c (Objects.vnic v) f =
       let a = each_zero (IsReceiving x) (λ p. bit (place_has l p)) (λ d p is. place_none d.tag d.buf p is.1) f.net.rx.posted v.rx.posted f.rx_posted in

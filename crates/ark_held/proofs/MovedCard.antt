@@ -1,7 +1,6 @@
 -- A move of a card that an application keeps carries what its machine's move does: each case of what is due.
-use Rattle.std.proofs.Common.{◌≡◌, ⊎_elim, ℕ, ◌+◌, ◌*◌, ◌<◌, Bool, true, false, List, [], ◌∷◌, length, get_or, nat_eq, nat_le, refl, sym, ◌∙◌, ap, subst, arith, bytes_eq, Contains}
+use Rattle.std.proofs.Common.{◌≡◌, ⊎_elim, ℕ, ◌+◌, ◌*◌, ◌<◌, Bool, true, false, List, [], ◌∷◌, length, get_or, nat_le, refl, sym, ◌∙◌, ap, subst, arith, bytes_eq, Contains}
 use Rattle.std.specs.Prelude.{if◌then◌else◌, Option, Some, None, IfSome, MatchOption, option_map, slice_get, slice_index_or}
-use Rattle.std.specs.Map.{lookup}
 use Rattle.std.proofs.lemmas.List.Elements.{Contains-get_or}
 use Rattle.ark_base.specs.declared.kind.Outcome.{Outcome}
 use Rattle.ark_base.specs.declared.kind.Outcome.TheVariants as outcome
@@ -33,7 +32,6 @@ use Rattle.ark_machine.specs.Areas.{raw_written}
 use Rattle.ark_machine.specs.Follow.{Follows, MakesAt, Took, end_of, ends_of, ended, fails, goes_on}
 use Rattle.ark_machine.specs.Moves.{Move, move, moves, moved as machine_moved, ends, gated, tried, transferred, transfer_call, raw_numbered, is_bound, first_end}
 use Rattle.ark_machine.specs.Rates.{is_over_burst, may_pass}
-use Rattle.ark_held.specs.Words.{area_in}
 use Rattle.ark_held.specs.Around.{Around, slot_at, blocks_under, Each, piece_of}
 use Rattle.ark_held.specs.Cards.{IsJob, IsTransfer}
 use Rattle.ark_held.specs.Kept.{CardKept}

@@ -1,14 +1,12 @@
 -- A card looks at no area but the one that its oldest descriptor names.
-use Rattle.std.proofs.Common.{◌≡◌, ℕ, zero, suc, ◌<◌, Bool, true, false, cond, List, [], ◌∷◌, length, nat_eq, refl, sym, ◌∙◌, ap, subst, arith, All}
+use Rattle.std.proofs.Common.{◌≡◌, ℕ, zero, suc, ◌<◌, cond, List, [], ◌∷◌, nat_eq, refl, sym, ◌∙◌, ap, subst, arith, All}
 use Rattle.std.specs.Prelude.{Option, Some, None, option_map, find, ◌==◌}
 use Rattle.std.specs.Map.{lookup}
 use Rattle.std.proofs.lemmas.Bool.{eq-eqb, cond_both}
-use Rattle.ark_base.specs.declared.kind.Outcome.TheVariants as outcome
 use Rattle.ark_vic.specs.declared.descriptor.Descriptor.{Descriptor}
 use Rattle.ark_vic.specs.Pace.{Pace}
 use Rattle.ark_vsic.specs.Card.{Card, Areas, is_bound, head_of}
-use Rattle.ark_vsic.specs.Places.{place_of}
-use Rattle.ark_vsic.specs.Moves.{due_of, due_for, due_by, due_in, due_at, due_paced, area_of}
+use Rattle.ark_vsic.specs.Moves.{due_of, due_for, due_by, due_in, due_at, area_of}
 use Rattle.ark_vsic.specs.declared.due.Due.{Due}
 use Rattle.ark_held.specs.Words.{AreaList}
 use Rattle.ark_held.specs.Inside.{AreasInside}

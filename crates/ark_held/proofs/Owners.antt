@@ -14,22 +14,13 @@ use Rattle.ark_machine.specs.Objects
 use Rattle.ark_machine.specs.Objects.{Object}
 use Rattle.ark_machine.specs.Machine.{Held}
 use Rattle.ark_held.specs.Words.{Labels, AreaList}
+use Rattle.ark_held.specs.Bound.{IsNoneOf, AreApart, AreAreasOf}
 use Rattle.ark_held.specs.Around.{Around}
 use Rattle.ark_held.specs.Held.{IsObjectOf, AllMatch, AreDistinctLabels, Holds, is_area, area_labels}
 use Rattle.ark_held.specs.declared.areas.Area.{Area}
 use Rattle.ark_held.proofs.Lists.{by_test, other_name, head_apart, value_first, value_behind}
 
 -- Distinct numbers, each of which a list has, are no more than the list is long.
-
-abbrev AreOthers : ℕ → List ℕ → Type 0
-AreOthers k ks = AllByRecursion (λ z. nat_eq k z ≡ false) ks
-
-abbrev AllApart : List ℕ → Type 0
-AllApart [] = Unit {0}
-AllApart (k ∷ ks) = AreOthers k ks × AllApart ks
-
-abbrev AreIn : AreaList → List ℕ → Type 0
-AreIn es ks = AllByRecursion (λ k. is_some (lookup (nat_eq k) es) ≡ true) ks
 
 abbrev others : ℕ → List ℕ → List ℕ
 others k ks = select (λ z. not (nat_eq k z)) ks
@@ -38,33 +29,33 @@ all_others : (P : ℕ → Type 0) (k : ℕ) (ks : List ℕ) → AllByRecursion P
 all_others P k [] all = tt
 all_others P k (z ∷ zs) all = by_test (λ t. AllByRecursion P (cond (not t) (z ∷ others k zs) (others k zs))) (nat_eq k z) (λ yes. all_others P k zs all.1) (λ no. (all.0, all_others P k zs all.1))
 
-apart_others : (k : ℕ) (ks : List ℕ) → AllApart ks → AllApart (others k ks)
+apart_others : (k : ℕ) (ks : List ℕ) → AreApart ks → AreApart (others k ks)
 apart_others k [] all = tt
-apart_others k (z ∷ zs) all = by_test (λ t. AllApart (cond (not t) (z ∷ others k zs) (others k zs))) (nat_eq k z)
+apart_others k (z ∷ zs) all = by_test (λ t. AreApart (cond (not t) (z ∷ others k zs) (others k zs))) (nat_eq k z)
     (λ yes. apart_others k zs all.1) (λ no. (all_others (λ y. nat_eq z y ≡ false) k zs all.0, apart_others k zs all.1))
 
-none_same : (k : ℕ) (ks : List ℕ) → AreOthers k ks → others k ks ≡ ks
+none_same : (k : ℕ) (ks : List ℕ) → IsNoneOf k ks → others k ks ≡ ks
 none_same k [] all = refl
 none_same k (z ∷ zs) all = ap (λ t. cond (not t) (z ∷ others k zs) (others k zs)) all.0 ∙ ap (λ (r : List ℕ). z ∷ r) (none_same k zs all.1)
 
-same_others : (k z : ℕ) (ks : List ℕ) → nat_eq k z ≡ true → AreOthers z ks → AreOthers k ks
-same_others k z ks same all = let e : z ≡ k = grind (arith, nat_tests, same) in subst (λ (n : ℕ). AreOthers n ks) e all
+same_others : (k z : ℕ) (ks : List ℕ) → nat_eq k z ≡ true → IsNoneOf z ks → IsNoneOf k ks
+same_others k z ks same all = let e : z ≡ k = grind (arith, nat_tests, same) in subst (λ (n : ℕ). IsNoneOf n ks) e all
 
-one_less : (k : ℕ) (ks : List ℕ) → AllApart ks → length ks ≤ suc (length (others k ks))
+one_less : (k : ℕ) (ks : List ℕ) → AreApart ks → length ks ≤ suc (length (others k ks))
 one_less k [] all = omega arith
 one_less k (z ∷ zs) all = by_test (λ t. nat_eq k z ≡ t → suc (length zs) ≤ suc (length (cond (not t) (z ∷ others k zs) (others k zs)))) (nat_eq k z)
     (λ yes q. let same : length (others k zs) ≡ length zs = ap (λ (r : List ℕ). length r) (none_same k zs (same_others k z zs q all.0)) in omega (arith, same))
     (λ no q. let rest = one_less k zs all.1 in omega (arith, rest)) refl
 
-in_rest : (k : ℕ) (a : Area) (es : AreaList) (ks : List ℕ) → AreIn ((k, a) ∷ es) ks → AreIn es (others k ks)
+in_rest : (k : ℕ) (a : Area) (es : AreaList) (ks : List ℕ) → AreAreasOf ((k, a) ∷ es) ks → AreAreasOf es (others k ks)
 in_rest k a es [] all = tt
-in_rest k a es (z ∷ zs) all = by_test (λ t. nat_eq k z ≡ t → AreIn es (cond (not t) (z ∷ others k zs) (others k zs))) (nat_eq k z)
+in_rest k a es (z ∷ zs) all = by_test (λ t. nat_eq k z ≡ t → AreAreasOf es (cond (not t) (z ∷ others k zs) (others k zs))) (nat_eq k z)
     (λ yes q. in_rest k a es zs all.1)
     (λ no q.
     let other : nat_eq z k ≡ false = grind (arith, nat_tests, q) in
     (sym (ap (λ t. is_some (cond t (Some a) (lookup (nat_eq z) es))) other) ∙ all.0, in_rest k a es zs all.1)) refl
 
-pub no_more : (es : AreaList) (ks : List ℕ) → AllApart ks → AreIn es ks → length ks ≤ length es
+pub no_more : (es : AreaList) (ks : List ℕ) → AreApart ks → AreAreasOf es ks → length ks ≤ length es
 no_more [] [] apart all = omega arith
 no_more [] (k ∷ ks) apart all = absurd (false≢true all.0)
 no_more (e ∷ es) ks apart all =
@@ -88,9 +79,9 @@ kept_area x l c (Objects.rate z y) f area = absurd (false≢true (sym (ap is_are
 kept_area x l c (Objects.buffer z) f area = absurd (false≢true (sym (ap is_area f.its_kind) ∙ area))
 kept_area x l c (Objects.socket z) f area = absurd (false≢true (sym (ap is_area f.its_kind) ∙ area))
 
-all_kept : (x : Around) (ps : Labels) (hs : List Held) → AllMatch x ps hs → AreIn x.areas (grants ps)
+all_kept : (x : Around) (ps : Labels) (hs : List Held) → AllMatch x ps hs → AreAreasOf x.areas (grants ps)
 all_kept x [] [] all = tt
-all_kept x (p ∷ ps) (h ∷ hs) all = by_test (λ t. is_area p.1.kind ≡ t → AreIn x.areas (map (λ q. q.1.grant) (cond t (p ∷ area_labels ps) (area_labels ps)))) (is_area p.1.kind)
+all_kept x (p ∷ ps) (h ∷ hs) all = by_test (λ t. is_area p.1.kind ≡ t → AreAreasOf x.areas (map (λ q. q.1.grant) (cond t (p ∷ area_labels ps) (area_labels ps)))) (is_area p.1.kind)
     (λ yes q. (kept_area x p.0 p.1 h.object all.0.object q, all_kept x ps hs all.1)) (λ no q. all_kept x ps hs all.1) refl
 all_kept x [] (h ∷ hs) all = absurd all
 all_kept x (p ∷ ps) [] all = absurd all
@@ -103,20 +94,20 @@ module _ (x : Around) (holds : Holds x) where
   among_rest p ps apart among l c is = among l c (value_behind p ps l c apart is)
 
   -- no other label has the grant
-  grant_apart : (p : List ℕ × Capability) (qs : Labels) → value_at x.labels p.0 ≡ Some p.1 → value_at qs p.0 ≡ None → AreDistinctLabels qs → Among qs → AreOthers p.1.grant (grants qs)
+  grant_apart : (p : List ℕ × Capability) (qs : Labels) → value_at x.labels p.0 ≡ Some p.1 → value_at qs p.0 ≡ None → AreDistinctLabels qs → Among qs → IsNoneOf p.1.grant (grants qs)
   grant_apart p [] there none apart among = tt
   grant_apart p (q ∷ qs) there none apart among =
       let n = head_apart q qs p.0 none in
       let rest = grant_apart p qs there n.1 apart.1 (among_rest q qs apart among) in
       let differ : p.1.grant ≡ q.1.grant → ⊥ = λ e. other_name p.0 q.0 n.0 (holds.own.grants p.0 q.0 p.1 q.1 there (among q.0 q.1 (value_first q qs)) e) in
-      by_test (λ t. AreOthers p.1.grant (map (λ z. z.1.grant) (cond t (q ∷ area_labels qs) (area_labels qs)))) (is_area q.1.kind)
+      by_test (λ t. IsNoneOf p.1.grant (map (λ z. z.1.grant) (cond t (q ∷ area_labels qs) (area_labels qs)))) (is_area q.1.kind)
       (λ yes. (grind (arith, nat_tests, differ), rest)) (λ no. rest)
 
-  grants_apart : (ps : Labels) → AreDistinctLabels ps → Among ps → AllApart (grants ps)
+  grants_apart : (ps : Labels) → AreDistinctLabels ps → Among ps → AreApart (grants ps)
   grants_apart [] apart among = tt
   grants_apart (p ∷ ps) apart among =
       let rest = grants_apart ps apart.1 (among_rest p ps apart among) in
-      by_test (λ t. AllApart (map (λ z. z.1.grant) (cond t (p ∷ area_labels ps) (area_labels ps)))) (is_area p.1.kind)
+      by_test (λ t. AreApart (map (λ z. z.1.grant) (cond t (p ∷ area_labels ps) (area_labels ps)))) (is_area p.1.kind)
       (λ yes. (grant_apart p ps (among p.0 p.1 (value_first p ps)) apart.0 apart.1 (among_rest p ps apart among), rest)) (λ no. rest)
 
   -- a label of an area with this grant
@@ -133,12 +124,12 @@ module _ (x : Around) (holds : Holds x) where
   vsa_of cap_kind.Buf is = absurd (false≢true is)
   vsa_of cap_kind.Sock is = absurd (false≢true is)
 
-  looked : (g : ℕ) (ps : Labels) → AreDistinctLabels ps → Among ps → Owner g ⊎ AreOthers g (grants ps)
+  looked : (g : ℕ) (ps : Labels) → AreDistinctLabels ps → Among ps → Owner g ⊎ IsNoneOf g (grants ps)
   looked g [] apart among = inr tt
   looked g (p ∷ ps) apart among =
       let rest = looked g ps apart.1 (among_rest p ps apart among) in
-      by_test (λ t. is_area p.1.kind ≡ t → Owner g ⊎ AreOthers g (map (λ z. z.1.grant) (cond t (p ∷ area_labels ps) (area_labels ps)))) (is_area p.1.kind)
-      (λ area q. by_test (λ t. nat_eq g p.1.grant ≡ t → Owner g ⊎ (AreOthers g (p.1.grant ∷ grants ps))) (nat_eq g p.1.grant)
+      by_test (λ t. is_area p.1.kind ≡ t → Owner g ⊎ IsNoneOf g (map (λ z. z.1.grant) (cond t (p ∷ area_labels ps) (area_labels ps)))) (is_area p.1.kind)
+      (λ area q. by_test (λ t. nat_eq g p.1.grant ≡ t → Owner g ⊎ (IsNoneOf g (p.1.grant ∷ grants ps))) (nat_eq g p.1.grant)
       (λ yes e. inl (p.0, p.1, among p.0 p.1 (value_first p ps), vsa_of p.1.kind q, (let z : p.1.grant ≡ g = grind (arith, nat_tests, e) in z)))
       (λ no e. ⊎_elim (λ o. inl o) (λ all. inr (e, all)) rest) refl)
       (λ none q. rest) refl

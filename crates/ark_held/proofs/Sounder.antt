@@ -1,6 +1,6 @@
 -- A ring that is sound stays so when its oldest descriptor moves a block or ends.
-use Rattle.std.proofs.Common.{◌≡◌, inl, inr, ℕ, zero, suc, ◌+◌, ◌*◌, ◌<◌, ◌≤◌, Bool, true, false, not, ◌&&◌, nat_le, List, [], ◌∷◌, length, drop, set, refl, sym, ◌∙◌, ap, subst, arith, Contains}
-use Rattle.std.specs.Prelude.{if◌then◌else◌, Option, Some, None, IfSome, MatchOption, slice_get}
+use Rattle.std.proofs.Common.{◌≡◌, inl, inr, ℕ, ◌+◌, ◌*◌, ◌<◌, ◌≤◌, Bool, true, false, nat_le, List, [], ◌∷◌, length, drop, set, refl, sym, ◌∙◌, ap, subst, arith, Contains}
+use Rattle.std.specs.Prelude.{Option, Some, None, IfSome, MatchOption, slice_get}
 use Rattle.std.proofs.lemmas.Bool.Decides.{nat_tests}
 use Rattle.ark_base.specs.declared.kind.Outcome.{Outcome}
 use Rattle.ark_vic.specs.Queue.{Queue, finished}
@@ -8,7 +8,7 @@ use Rattle.ark_vic.specs.declared.descriptor.Descriptor.{Descriptor}
 use Rattle.ark_vic.specs.declared.descriptor.Job.{Job}
 use Rattle.ark_vic.specs.declared.descriptor.Job.TheVariants as vic
 use Rattle.ark_vsic.specs.Card.{Card, head_of}
-use Rattle.ark_vsic.specs.Moves.{CanMove, IsSoundBy, answer_of, answer_for, answer_tried, count_of, is_last, ring_after, outcome_of}
+use Rattle.ark_vsic.specs.Moves.{CanMove, IsSoundBy, answer_of, answer_for, count_of, is_last, ring_after}
 use Rattle.ark_vsic.specs.declared.due.Due.{Due}
 use Rattle.ark_vsic.specs.declared.due.Due.TheVariants as due
 use Rattle.ark_vsic.specs.declared.due.Moved.{Moved}

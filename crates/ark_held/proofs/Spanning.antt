@@ -1,6 +1,6 @@
 -- Other blocks of the area of one grant.
-use Rattle.std.proofs.Common.{◌≡◌, ℕ, zero, suc, ◌<◌, ◌≤◌, true, false, cond, List, [], ◌∷◌, length, set, get_or, nat_eq, refl, sym, ◌∙◌, ap, subst, arith}
-use Rattle.std.specs.Prelude.{Option, Some, None, option_map, find, position, nat_lt, slice_get}
+use Rattle.std.proofs.Common.{◌≡◌, ℕ, zero, suc, ◌<◌, ◌≤◌, true, false, not, cond, ◌&&◌, List, [], ◌∷◌, length, set, get_or, nat_eq, refl, sym, ◌∙◌, ap, subst, arith}
+use Rattle.std.specs.Prelude.{Option, Some, None, is_none, is_some, option_map, find, position, nat_lt, slice_get}
 use Rattle.std.specs.List.{position_or_len}
 use Rattle.std.proofs.lemmas.Option.{slice_get_past}
 use Rattle.std.proofs.lemmas.List.Folds.{find_at}
@@ -8,7 +8,7 @@ use Rattle.std.proofs.lemmas.List.Quantifiers.{position-Some}
 use Rattle.std.specs.Map.{lookup}
 use Rattle.std.proofs.lemmas.Bool.Decides.{nat_tests}
 use Rattle.ark_held.specs.declared.areas.Area.{Area}
-use Rattle.ark_held.specs.Words.{AreaList, with_spans}
+use Rattle.ark_held.specs.Words.{AreaList, are_once, with_spans}
 use Rattle.ark_held.specs.Keeps.{IsSpread}
 use Rattle.ark_held.proofs.Lists.{by_test, some_same}
 use Rattle.ark_held.proofs.Spreading.{spread_same}
@@ -30,6 +30,25 @@ module _ (g : ℕ) (spans : List ℕ) where
   pub spans_counted : (xs : AreaList) → length (with_spans xs g spans) ≡ length xs
   spans_counted [] = refl
   spans_counted (x ∷ xs) = by_test (λ b. length (cond b (spanned x ∷ xs) (x ∷ with_spans xs g spans)) ≡ suc (length xs)) (nat_eq g x.0) (λ yes. refl) (λ no. ap (λ n. suc n) (spans_counted xs))
+
+  -- each grant that has an area has one still, and no other
+  pub spans_has : (k : ℕ) (xs : AreaList) → is_some (lookup (nat_eq k) (with_spans xs g spans)) ≡ is_some (lookup (nat_eq k) xs)
+  spans_has k [] = refl
+  spans_has k (x ∷ xs) = by_test (λ b. is_some (lookup (nat_eq k) (cond b (spanned x ∷ xs) (x ∷ with_spans xs g spans))) ≡ is_some (lookup (nat_eq k) (x ∷ xs))) (nat_eq g x.0)
+      (λ yes. by_test (λ t. is_some (cond t (Some (record x.1 { spans = spans })) (lookup (nat_eq k) xs)) ≡ is_some (cond t (Some x.1) (lookup (nat_eq k) xs))) (nat_eq k x.0) (λ yes. refl) (λ no. refl))
+      (λ no. by_test (λ t. is_some (cond t (Some x.1) (lookup (nat_eq k) (with_spans xs g spans))) ≡ is_some (cond t (Some x.1) (lookup (nat_eq k) xs))) (nat_eq k x.0) (λ yes. refl) (λ no. spans_has k xs))
+
+  none_not : (o : Option Area) → is_none o ≡ not (is_some o)
+  none_not None = refl
+  none_not (Some a) = refl
+
+  spans_none : (k : ℕ) (xs : AreaList) → is_none (lookup (nat_eq k) (with_spans xs g spans)) ≡ is_none (lookup (nat_eq k) xs)
+  spans_none k xs = none_not (lookup (nat_eq k) (with_spans xs g spans)) ∙ ap (λ b. not b) (spans_has k xs) ∙ sym (none_not (lookup (nat_eq k) xs))
+
+  pub spans_once : (xs : AreaList) → are_once (with_spans xs g spans) ≡ are_once xs
+  spans_once [] = refl
+  spans_once (x ∷ xs) = by_test (λ b. are_once (cond b (spanned x ∷ xs) (x ∷ with_spans xs g spans)) ≡ are_once (x ∷ xs)) (nat_eq g x.0)
+      (λ yes. refl) (λ no. (λ i. spans_none x.0 xs i && spans_once xs i))
 
   -- the grant has the area with them, and each other what it had
   pub spans_found : (xs : AreaList) → lookup (nat_eq g) (with_spans xs g spans) ≡ option_map (λ (a : Area). record a { spans = spans }) (lookup (nat_eq g) xs)

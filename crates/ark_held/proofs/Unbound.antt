@@ -159,7 +159,7 @@ module _ (x : Around) (h : Holds x) (l : List ℕ) (n grant : ℕ) (numbered : s
     kept = ap (λ o. option_map (unbound_kept grant) o) f.kept;
     size = f.size;
     posted = each_kept (IsJob x f.card.log) (IsJob y f.card.log) (JobWithin any_label any_piece) (job_kept (λ k. false) any_label any_piece x y changes f.card.log) f.card.ring.posted v.queue.posted (all v).0 f.posted;
-    unreaped = each_kept (IsEnded x) (IsEnded y) (λ u. JobWithin any_label any_piece u.0) (ended_kept (λ k. false) any_label any_piece x y changes) f.card.ring.unreaped v.queue.unreaped (all v).1 f.unreaped;
+    unreaped = each_kept (IsEnded x f.card.log) (IsEnded y f.card.log) (λ u. JobWithin any_label any_piece u.0) (ended_kept (λ k. false) any_label any_piece x y changes f.card.log) f.card.ring.unreaped v.queue.unreaped (all v).1 f.unreaped;
     moved = f.moved;
     bound = each_without x.numbers n grant numbered h.one f.card.bound v.bound f.bound;
     pace = paced_kept (λ k. false) any_label any_piece x y changes f.card.pace v.pace (all v).2 f.pace;

@@ -1,11 +1,8 @@
 -- Moves of the storage cards that an application keeps.
 use Rattle.std.specs.Prelude.{ℕ, List, map, Option, Some, None, option_map, nat_eq}
 use Rattle.std.specs.Map.{lookup}
-use Rattle.ark_vic.specs.Bells.{one_more}
 use Rattle.ark_vic.specs.declared.descriptor.Descriptor.{Descriptor}
 use Rattle.ark_vic.specs.Pace.{with_fill}
-use Rattle.ark_vic.specs.declared.door.Bell.TheVariants as bell
-use Rattle.ark_vic.specs.declared.door.Counts.{Counts}
 use Rattle.ark_vsic.specs.Card.{Card, Areas}
 use Rattle.ark_vsic.specs.Moves.{due_of, pace_after, ring_after}
 use Rattle.ark_vsic.specs.declared.due.Due.{Due}

@@ -1,4 +1,4 @@
-ghost use Rattle.std.specs.Prelude.{◌≡◌, ◌<◌, [], None, length, nat_eq, option_copied, IfOk};
+ghost use Rattle.std.specs.Prelude.{◌≡◌, ◌<◌, ◌≤◌, [], None, length, nat_eq, option_copied, IfOk};
 ghost use Rattle.std.specs.List.{position};
 ghost use Rattle.std.specs.Map.{lookup};
 ghost use Rattle.ark_held.specs.Words.{with_area, with_spans, without_area};
@@ -74,6 +74,7 @@ impl Areas {
     /// The number of areas.
     pub fn len(&self) -> usize
         ensures len { result ≡ length self.now }
+        ensures within { length self.now ≤ 8 }
     {
         self.areas.len()
     }

@@ -2,6 +2,7 @@ ghost use Rattle.std.specs.Prelude.{◌≡◌, ◌<◌, ◌+◌, ℕ, Bool, List
 ghost use Rattle.ark_objects.specs.Held.{Changes, at, held};
 ghost use Rattle.ark_vic.specs.Bells.{counts_of};
 ghost use Rattle.ark_vsic.specs.Moves.{CanMove};
+ghost use Rattle.ark_held.specs.Bound.{HasRoomToBind, with_bound};
 ghost use Rattle.ark_held.specs.Rings.{AreSound, ChangesCard, HasRoomFor, new_card, no_ring, unbound, with_posted, with_reaped};
 
 use crate::card::StorageCard;
@@ -26,6 +27,7 @@ impl Devices {
     /// a new card takes any.
     pub fn new(alloc: Global, frames: u32) -> Result<Devices, Memory>
         ensures cards { IfOk result (λ d. held d.cards ≡ 0) }
+        ensures vacant { IfOk result (λ d. (key : ℕ) → at d.cards key ≡ None) }
         ensures doors { IfOk result (λ d. held d.doors ≡ 0) }
         ensures frames { IfOk result (λ d. d.frames ≡ frames) }
     {
@@ -82,6 +84,28 @@ impl Devices {
         self.cards.at_mut(key).door = door;
     }
 
+    /// Descriptors of the card of a key may use the area of a grant from now on.
+    pub fn bind(&mut self, key: u32, grant: u64)
+        requires room { HasRoomToBind self.old.cards key grant }
+        ensures changes { ChangesCard self.old.cards self.new.cards key (with_bound grant) }
+        ensures held { held self.new.cards ≡ held self.old.cards }
+        ensures doors { self.new.doors ≡ self.old.doors }
+        ensures frames { self.new.frames ≡ self.old.frames }
+    {
+        self.cards.at_mut(key).vsic.bind(grant);
+    }
+
+    /// Descriptors of the card of a key may use the area of a grant no more.
+    pub fn unbind(&mut self, key: u32, grant: u64)
+        requires there { IsSome (at self.old.cards key) }
+        ensures changes { ChangesCard self.old.cards self.new.cards key (unbound grant) }
+        ensures held { held self.new.cards ≡ held self.old.cards }
+        ensures doors { self.new.doors ≡ self.old.doors }
+        ensures frames { self.new.frames ≡ self.old.frames }
+    {
+        self.cards.at_mut(key).vsic.unbind(grant);
+    }
+
     /// Posts a descriptor on the card of a key, behind all that are posted.
     pub fn post(&mut self, key: u32, descriptor: Descriptor)
         requires room { HasRoomFor self.old.cards key }
@@ -120,12 +144,12 @@ impl Devices {
         ensures frames { self.new.frames ≡ self.old.frames }
     {
         if self.cards.at(key).is_some() {
-            self.cards.at_mut(key).vsic.unbind(grant);
+            self.unbind(key, grant);
         }
     }
 
     /// No card has the area of this grant bound any more.
-    pub fn unbind(&mut self, grant: u64)
+    pub fn unbind_all(&mut self, grant: u64)
         ensures cards { (key : ℕ) →
             at self.new.cards key ≡ option_map (unbound grant) (at self.old.cards key) }
         ensures held { held self.new.cards ≡ held self.old.cards }

@@ -27,7 +27,7 @@ impl App {
         ensures buffers { self.new.store.buffers ≡ self.old.store.buffers }
     {
         self.areas.remove(grant);
-        self.devices.unbind(grant);
+        self.devices.unbind_all(grant);
         self.labels.remove(label);
     }
 
@@ -43,7 +43,7 @@ impl App {
         ensures store { self.new.store ≡ self.old.store }
     {
         self.devices.remove_card(key);
-        self.devices.unbind(grant);
+        self.devices.unbind_all(grant);
         self.labels.remove(label);
     }
 
@@ -60,7 +60,7 @@ impl App {
         ensures store { self.new.store ≡ self.old.store }
     {
         let _ = self.devices.doors.take(key);
-        self.devices.unbind(grant);
+        self.devices.unbind_all(grant);
         self.labels.remove(label);
     }
 

@@ -109,7 +109,7 @@ module _ (app : App) (l : List ℕ) (key : ℕ) (is : Ok key ≡ card_key app.la
     pub count_same : held_in v.vsic.queue ≡ members one.vsic.ring
     count_same =
         let posted = each_length (IsJob (around y app) v.fits.card.log) v.fits.card.ring.posted v.vsic.queue.posted v.fits.posted in
-        let unreaped = each_length (IsEnded (around y app)) v.fits.card.ring.unreaped v.vsic.queue.unreaped v.fits.unreaped in
+        let unreaped = each_length (IsEnded (around y app) v.fits.card.log) v.fits.card.ring.unreaped v.vsic.queue.unreaped v.fits.unreaped in
         let count : held_in v.vsic.queue ≡ members v.fits.card.ring = omega (arith, posted, unreaped) in
         count ∙ ap (λ (k : CardKept). members k.ring) entry_same
 
@@ -125,9 +125,9 @@ module _ (app : App) (l : List ℕ) (key : ℕ) (is : Ok key ≡ card_key app.la
       posted_now = subst (λ (k : CardKept). Each (IsJob now k.log) k.ring.posted v.vsic.queue.posted) entry_same
           (each_kept (IsJob (around y app) v.fits.card.log) (IsJob now v.fits.card.log) (JobWithin any_label any_piece) (job_kept (but l) any_label any_piece (around y app) now keeps v.fits.card.log) v.fits.card.ring.posted v.vsic.queue.posted within_all.0 v.fits.posted)
 
-      pub unreaped_now : Each (IsEnded now) one.vsic.ring.unreaped v.vsic.queue.unreaped
-      unreaped_now = subst (λ (k : CardKept). Each (IsEnded now) k.ring.unreaped v.vsic.queue.unreaped) entry_same
-          (each_kept (IsEnded (around y app)) (IsEnded now) (λ u. JobWithin any_label any_piece u.0) (ended_kept (but l) any_label any_piece (around y app) now keeps) v.fits.card.ring.unreaped v.vsic.queue.unreaped within_all.1 v.fits.unreaped)
+      pub unreaped_now : Each (IsEnded now one.log) one.vsic.ring.unreaped v.vsic.queue.unreaped
+      unreaped_now = subst (λ (k : CardKept). Each (IsEnded now k.log) k.ring.unreaped v.vsic.queue.unreaped) entry_same
+          (each_kept (IsEnded (around y app) v.fits.card.log) (IsEnded now v.fits.card.log) (λ u. JobWithin any_label any_piece u.0) (ended_kept (but l) any_label any_piece (around y app) now keeps v.fits.card.log) v.fits.card.ring.unreaped v.vsic.queue.unreaped within_all.1 v.fits.unreaped)
 
       pub bound_now : Each (λ g s. slice_get now.numbers s ≡ Some g) one.vsic.bound v.vsic.bound
       bound_now = subst (λ (k : CardKept). Each (λ g s. slice_get now.numbers s ≡ Some g) k.bound v.vsic.bound) entry_same

@@ -1,7 +1,6 @@
 -- Two buffers, as words on the bytes of both come to their rows.
 use Rattle.std.proofs.Common.{◌≡◌, ℕ, ◌<◌, ◌≤◌, true, not, nat_lt, List, [], ◌∷◌, length, refl, sym, ◌∙◌, ap, subst}
-use Rattle.std.specs.Prelude.{Some, None, Result, Ok, Err, is_none, is_ok, ◌||◌}
-use Rattle.std.proofs.lemmas.Bool.{false≢true}
+use Rattle.std.specs.Prelude.{Some, None, Result, Ok, Err, is_none, ◌||◌}
 use Rattle.ark_base.specs.Conditions.{Conditions, none, early}
 use Rattle.ark_base.specs.declared.refusal.Refusal.{Refusal}
 use Rattle.ark_base.specs.declared.refusal.Refusal.TheVariants as r
@@ -21,6 +20,7 @@ use Rattle.ark_held.specs.declared.buffer.Buffer as kept
 use Rattle.ark_held.proofs.Lists.{lt_true, lt_false}
 use Rattle.ark_held.proofs.Doing.{refused_first, refuses}
 use Rattle.ark_own.specs.Keys.{buffer_key, both_keys}
+use Rattle.ark_own.proofs.Looked.{each_key}
 use Rattle.ark_own.proofs.OfBuffers.{FoundAs, found_buffer, its, never_gone, len_same, lent_same}
 
 -- the conditions of a word on the first buffer's bytes up to `near`, and the second one's up to `far`
@@ -50,22 +50,6 @@ why x b c near far made (Err r.WrongKind) (Err (r.NoGrant l)) p q = rw (q.0, mad
 why x b c near far made (Err r.WrongKind) (Err r.WrongKind) p q = rw (made, p.1, q.1, p.2) refl
 why x b c near far made (Err r.WrongKind) (Err _) p q = absurd q
 why x b c near far made (Err _) q p s = absurd p
-
--- both keys, one by one
-first_of : Result (ℕ × ℕ) Refusal → Result ℕ Refusal
-first_of (Ok keys) = Ok keys.0
-first_of (Err e) = Err e
-
-second_of : Result (ℕ × ℕ) Refusal → Result ℕ Refusal
-second_of (Ok keys) = Ok keys.1
-second_of (Err e) = Err e
-
-each_key : (j k : ℕ) (p q : Result ℕ Refusal) → Ok (j, k) ≡ both_keys p q → (Ok j ≡ p) × (Ok k ≡ q)
-unfolding first_of second_of
-each_key j k (Ok a) (Ok b) is = (ap first_of is, ap second_of is)
-each_key j k (Ok a) (Err e) is = absurd (false≢true (sym (ap is_ok is)))
-each_key j k (Err e) (Ok b) is = absurd (false≢true (sym (ap is_ok is)))
-each_key j k (Err e) (Err f) is = absurd (false≢true (sym (ap is_ok is)))
 
 -- A word with these conditions.
 module _ (t : Told) (app : App) (b c : List ℕ) (near far : ℕ) (row rest : Machine → Given → Row) (is_row : (m : Machine) (g : Given) → row m g ≡ answer m (conditions m b c near far) (rest m g)) where

@@ -1,7 +1,6 @@
 -- The row of `watch`.
-use Rattle.std.proofs.Common.{◌≡◌, ℕ, true, not, List, [], ◌∷◌, refl, sym, ◌∙◌, ap, subst}
-use Rattle.std.specs.Prelude.{Option, Some, None, Result, Ok, Err, ◌||◌, is_ok, is_some}
-use Rattle.std.proofs.lemmas.Bool.{false≢true}
+use Rattle.std.proofs.Common.{◌≡◌, ℕ, not, List, [], ◌∷◌, refl, sym, ◌∙◌, ap, subst}
+use Rattle.std.specs.Prelude.{Option, Some, None, Result, Ok, Err, ◌||◌}
 use Rattle.ark_base.specs.Conditions.{Conditions, none, early}
 use Rattle.ark_base.specs.declared.refusal.Refusal.{Refusal}
 use Rattle.ark_base.specs.declared.refusal.Refusal.TheVariants as r
@@ -31,7 +30,8 @@ use Rattle.ark_held.proofs.Lists.{not_some, some_same}
 use Rattle.ark_held.proofs.Finding.{found}
 use Rattle.ark_held.proofs.Doing.{comes, refused_first, refuses}
 use Rattle.ark_held.proofs.Parts.{CountsAlike}
-use Rattle.ark_own.specs.Keys.{card_key, door_key, door_given, some_key, card_and_door}
+use Rattle.ark_own.specs.Keys.{both_keys, card_key, door_key, door_given, some_key}
+use Rattle.ark_own.proofs.Looked.{each_key}
 use Rattle.ark_own.proofs.OfDoors as doors
 use Rattle.ark_own.proofs.OfDoors.{HasDoor, found_door}
 use Rattle.ark_own.proofs.OfCards as cards
@@ -87,7 +87,7 @@ module _ (y : Beyond) (app : App) (v : List ℕ) (h : Holds (around y app)) wher
   Refuses d q (Ok keys) = Unit {0}
   Refuses d q (Err e) = early (conditions y.machine v d q) ≡ Some e
 
-  why : (d : Option (List ℕ)) (q : Side) (p : Result ℕ Refusal) (s : Result (Option ℕ) Refusal) → cards.FoundAs x v p → FoundGiven x d s → Refuses d q (card_and_door p s)
+  why : (d : Option (List ℕ)) (q : Side) (p : Result ℕ Refusal) (s : Result (Option ℕ) Refusal) → cards.FoundAs x v p → FoundGiven x d s → Refuses d q (both_keys p s)
   why d q (Ok key) (Ok given) p s = tt
   why (Some l) q (Ok key) (Err (r.NoGrant k)) p s = rw (s.0, h.made, p.there, s.1) refl
   why (Some l) side.Io (Ok key) (Err r.WrongKind) p s = rw (h.made, p.there, s.1, p.object, s.2) refl
@@ -129,27 +129,6 @@ module _ (y : Beyond) (app : App) (v : List ℕ) (h : Holds (around y app)) wher
   none_refuses key None (Some k) p s = absurd s
   none_refuses key (Some l) None p s = absurd s
 
--- both keys, one by one
-card_in : Result (ℕ × Option ℕ) Refusal → Result ℕ Refusal
-card_in (Ok keys) = Ok keys.0
-card_in (Err e) = Err e
-
-door_in : Result (ℕ × Option ℕ) Refusal → Result (Option ℕ) Refusal
-door_in (Ok keys) = Ok keys.1
-door_in (Err e) = Err e
-
-each_key : (j : ℕ) (k : Option ℕ) (p : Result ℕ Refusal) (q : Result (Option ℕ) Refusal) → Ok (j, k) ≡ card_and_door p q → (Ok j ≡ p) × (Ok k ≡ q)
-unfolding card_in door_in
-each_key j k (Ok a) (Ok b) is = (ap card_in is, ap door_in is)
-each_key j k (Ok a) (Err e) is = absurd (false≢true (sym (ap is_ok is)))
-each_key j k (Err e) (Ok b) is = absurd (false≢true (sym (ap is_ok is)))
-each_key j k (Err e) (Err f) is = absurd (false≢true (sym (ap is_ok is)))
-
--- a key that has something
-pub some_of : {X : Type 0} (o : Option X) → is_some o ≡ true → (x : X) × (o ≡ Some x)
-some_of (Some x) some = (x, refl)
-some_of None some = absurd (false≢true some)
-
 -- The word.
 
 abbrev watched : List ℕ → Option (List ℕ) → Side → Machine → Row
@@ -162,12 +141,12 @@ module _ (t : Told) (app : App) (v : List ℕ) (d : Option (List ℕ)) (q : Side
   refused : (e : Refusal) → ((y : Beyond) → Holds (around y app) → early (conditions y.machine v d q) ≡ Some e) → Acts t app app row [] (said.Refused e) []
   refused e first = refuses t app row e (λ y g sited h. refused_first y.machine (conditions y.machine v d q) (watched v d q y.machine) e (first y h))
 
-  pub no_keys : (e : Refusal) → Err e ≡ card_and_door (card_key app.labels v) (door_given app.labels d) → Acts t app app row [] (said.Refused e) []
+  pub no_keys : (e : Refusal) → Err e ≡ both_keys (card_key app.labels v) (door_given app.labels d) → Acts t app app row [] (said.Refused e) []
   no_keys e is = refused e (λ y h.
       subst (λ (z : Result (ℕ × Option ℕ) Refusal). Refuses y app v h d q z) (sym is)
       (why y app v h d q (card_key app.labels v) (door_given app.labels d) (found_card (around y app) v h _ refl) (found_given (around y app) d h)))
 
-  module _ (key : ℕ) (given : Option ℕ) (keys : Ok (key, given) ≡ card_and_door (card_key app.labels v) (door_given app.labels d)) where
+  module _ (key : ℕ) (given : Option ℕ) (keys : Ok (key, given) ≡ both_keys (card_key app.labels v) (door_given app.labels d)) where
     is : Ok key ≡ card_key app.labels v
     is = (each_key key given (card_key app.labels v) (door_given app.labels d) keys).0
 
@@ -195,7 +174,7 @@ watches x y (Some l) (Some k) same s = record { cap = s.cap; there = ap (λ (ls 
 watches x y None (Some k) same s = absurd s
 watches x y (Some l) None same s = absurd s
 
-module _ (t : Told) (app app1 : App) (v : List ℕ) (d : Option (List ℕ)) (key : ℕ) (given : Option ℕ) (keys : Ok (key, given) ≡ card_and_door (card_key app.labels v) (door_given app.labels d)) (one : StorageCard) (here : slot app.devices.cards key ≡ Some one)
+module _ (t : Told) (app app1 : App) (v : List ℕ) (d : Option (List ℕ)) (key : ℕ) (given : Option ℕ) (keys : Ok (key, given) ≡ both_keys (card_key app.labels v) (door_given app.labels d)) (one : StorageCard) (here : slot app.devices.cards key ≡ Some one)
     (changes : Changes app.devices.cards app1.devices.cards key (Some (seen given one))) (labels : app1.labels ≡ app.labels) (doors : app1.devices.doors ≡ app.devices.doors) (store : app1.store ≡ app.store) (areas : app1.areas ≡ app.areas) (name : app1.name ≡ app.name) where
   abbrev its_key : Ok key ≡ card_key app.labels v
   its_key = is t app v d side.Io key given keys

@@ -7,7 +7,10 @@ use crate::growing::GROWN;
 use crate::lines::{EMPTY_LINES, LINES};
 use crate::reopened::REOPENED;
 use crate::runs::{Finished, run_on};
-use crate::words::{CARDS_AND_DOORS, DEVICES_GIVEN_UP, EVERY_WORD, FRAMES, TICKS, WORDS_TO_COME};
+use crate::words::{
+    BINDINGS, CARDS_AND_DOORS, DEVICES_GIVEN_UP, EVERY_WORD, FRAMES, TICKS, TRANSFERS,
+    WORDS_TO_COME,
+};
 use ark_base::Status;
 use std::alloc::Global;
 use std::test::Fail;
@@ -94,6 +97,8 @@ fn answers_as_the_tables_say(rt: HostRuntime) -> Result<(), Fail> {
         EVERY_WORD,
         CARDS_AND_DOORS,
         DEVICES_GIVEN_UP,
+        TRANSFERS,
+        BINDINGS,
         GRANTS,
         BLOCKS,
         GIVEN_UP,

@@ -32,7 +32,14 @@ impl Host {
         ensures counts { CountsLine self.old self.new }
     {
         match step {
-            Step::Vsic(name, ..) | Step::Flush(name, ..) | Step::Dev(name, ..) => {
+            Step::Vsic(name, ..)
+            | Step::Bind(name, ..)
+            | Step::Unbind(name, ..)
+            | Step::Get(name, ..)
+            | Step::Put(name, ..)
+            | Step::Flush(name, ..)
+            | Step::Reap(name, ..)
+            | Step::Dev(name, ..) => {
                 self.act_own(name, step, disk, out);
             }
             _ => say(out, Said::Refused(Refusal::UnknownWord)),

@@ -1,5 +1,4 @@
-use Rattle.std.proofs.Common.{◌≡◌, Some, None, IfSome, sym, ◌∙◌, ap, subst}
-use Rattle.ark_extents.specs.Blocks.{AreDistinct}
+use Rattle.std.proofs.Common.{Some, None, sym, ◌∙◌, ap, subst}
 use Rattle.ark_media.specs.Calls.{Went}
 use Rattle.ark_vsic.specs.declared.due.Due.{Due}
 use Rattle.ark_vsic.specs.Moves.{Leaves, answer_of, calls_of, pace_after, worked}

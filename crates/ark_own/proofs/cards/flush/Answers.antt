@@ -2,6 +2,10 @@ use Rattle.std.proofs.Common.{◌<◌, ◌≤◌, rules, refl}
 use Rattle.ark_vic.specs.Queue.{members}
 use Rattle.ark_own.proofs.OfCards.{no_key, no_card_there, is_busy, is_full}
 use Rattle.ark_own.proofs.Flushing.{flushed, full_at, full_there, flush_done}
+use Rattle.ark_held.proofs.Bindings.{bound_same}
+use Rattle.std.proofs.Common.{◌≡◌}
+use Rattle.std.specs.Prelude.{Some}
+use Rattle.ark_objects.specs.Held.{at}
 use Rattle.ark_own.proofs.cards.flush.Goals as goal
 
 pub returns-in-Err-clause-acts : goal.returns-in-Err-clause-acts
@@ -26,3 +30,8 @@ pub returns-clause-acts : goal.returns-clause-acts
 returns-clause-acts c = λ t.
     let under : members c.in-Some.card.now.vsic.ring < c.in-Some.card.now.vsic.ring.size = search rules in
     flush_done t c.args.app.now _ c.args.label.now c.in-Ok.key c.in-Ok.ensures.key c.in-Some.card.now (search rules) (search rules) under _ refl refl (c.post.ensures.changes c.in-Some.card.now (search rules)) refl c.post.ensures.doors refl refl refl
+
+pub invariant_of-app-clause-bound : goal.invariant_of-app-clause-bound
+invariant_of-app-clause-bound c =
+    let here : at c.args.app.now.devices.cards c.in-Ok.key ≡ Some c.in-Some.card.now = search rules in
+    bound_same c.args.app.now.areas c.args.app.now.devices.cards _ c.in-Ok.key c.args.app.now.bound c.in-Some.card.now here _ (c.post.ensures.changes c.in-Some.card.now here) refl

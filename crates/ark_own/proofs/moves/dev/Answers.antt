@@ -2,6 +2,7 @@ use Rattle.std.proofs.Common.{◌≡◌, false, [], refl, sym, ◌∙◌, ap, ru
 use Rattle.std.specs.Prelude.{None, is_none}
 use Rattle.ark_objects.specs.Held.{at}
 use Rattle.ark_base.specs.declared.refusal.Refusal.TheVariants as refusal
+use Rattle.ark_held.proofs.Bindings.{bound_same}
 use Rattle.ark_held.proofs.Storing.{same_in}
 use Rattle.ark_own.proofs.MovingCards.{dev_no_key, dev_no_card, dev_done, some_there}
 use Rattle.ark_own.proofs.moves.dev.Goals as goal
@@ -25,9 +26,12 @@ pub invariant_of-app : goal.invariant_of-app
 invariant_of-app g c =
     let labelled = c.args.app.now.room in
     let cards = c.move_card-moved.ensures.held_cards in
-    let doors = c.move_card-moved.ensures.held_doors in (
+    let doors = c.move_card-moved.ensures.held_doors in
+    let there : is_none (at c.args.app.now.devices.cards c.in-Ok.key) ≡ false = search rules in
+    let one = some_there (at c.args.app.now.devices.cards c.in-Ok.key) there in
+    let bound = bound_same c.args.app.now.areas c.args.app.now.devices.cards c.move_card-moved.new.self.cards c.in-Ok.key c.args.app.now.bound one.0 one.1 _ (c.move_card-moved.ensures.cards one.0 one.1) refl in (
       (same_in c.args.app.now.store.region.taken c.move_card-moved.new.region.taken c.args.app.now.store.buffers c.move_card-moved.ensures.taken c.args.app.now.store.lie, tt),
-      (omega (arith, labelled, cards, doors), (c.move_card-moved.ensures.frames ∙ c.args.app.now.memory ∙ sym (ap (λ (z : List Bool). length z) c.move_card-moved.ensures.taken), tt)),
+      (omega (arith, labelled, cards, doors), (c.move_card-moved.ensures.frames ∙ c.args.app.now.memory ∙ sym (ap (λ (z : List Bool). length z) c.move_card-moved.ensures.taken), (bound, tt))),
     )
 
 pub returns-clause-acts : goal.returns-clause-acts

@@ -1,5 +1,6 @@
 use Rattle.std.proofs.Common.{rules, refl}
 use Rattle.ark_own.proofs.Looking.{no_key, no_door_there, look_done}
+use Rattle.ark_held.proofs.Bindings.{bound_still}
 use Rattle.ark_own.proofs.rates.look.Goals as goal
 
 pub returns-in-Err-clause-acts : goal.returns-in-Err-clause-acts
@@ -10,3 +11,6 @@ returns-in_default-clause-acts c = λ t. no_door_there t c.args.app.now c.args.l
 
 pub returns-clause-acts : goal.returns-clause-acts
 returns-clause-acts c = λ t. look_done t c.args.app.now c.args.label.now c.in-Ok.key c.in-Ok.ensures.key _ c.in-Some.counts (search rules) c.in-Some.ensures.anew refl c.look.ensures.cards refl refl refl
+
+pub invariant_of-app-clause-bound : goal.invariant_of-app-clause-bound
+invariant_of-app-clause-bound c = bound_still c.args.app.now.areas c.args.app.now.devices.cards _ c.look.ensures.cards c.args.app.now.bound

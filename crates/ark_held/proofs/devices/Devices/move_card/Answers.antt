@@ -1,4 +1,4 @@
-use Rattle.std.proofs.Common.{sym, refl}
+use Rattle.std.proofs.Common.{sym}
 use Rattle.std.proofs.Math.Logic.{∥∥₁_map}
 use Rattle.ark_objects.specs.Held.{at}
 use Rattle.ark_held.proofs.Ringing.{no_ring}

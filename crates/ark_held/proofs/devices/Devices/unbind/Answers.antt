@@ -1,17 +1,13 @@
-use Rattle.std.proofs.Common.{◌≢◌, arith, ap, ◌∙◌, below_more}
-use Rattle.std.specs.Prelude.{option_map}
-use Rattle.ark_held.specs.Rings.{unbound}
+use Rattle.std.proofs.Common.{sym, ap, subst}
+use Rattle.std.proofs.Math.Logic.{∥∥₁_map}
+use Rattle.ark_vic.specs.Queue.{Queue}
+use Rattle.ark_vsic.specs.Card.{Card}
+use Rattle.ark_held.specs.Rings.{IsSoundRing}
+use Rattle.ark_held.proofs.Keyed.{changes_set}
+use Rattle.ark_held.proofs.Sounding.{sound_turned}
 use Rattle.ark_held.proofs.devices.Devices.unbind.Goals as goal
 
-pub loop-key-preserved : goal.loop-key-preserved
-loop-key-preserved c =
-    let was = c.loop-key.invariant in
-    let step = c.unbind_card.ensures.changes in
-    record {
-      before = below_more _ _ (λ k lt. let other : k ≢ c.loop-key.key = omega (arith, lt) in step.others k other ∙ was.before k lt)
-          (step.changed ∙ ap (λ o. option_map (unbound c.args.grant) o) (was.behind c.loop-key.key (omega arith)));
-      behind = λ k le. let other : k ≢ c.loop-key.key = omega (arith, le) in step.others k other ∙ was.behind k (omega (arith, le));
-      held = c.unbind_card.ensures.held ∙ was.held;
-      doors = c.unbind_card.ensures.doors ∙ was.doors;
-      frames = c.unbind_card.ensures.frames ∙ was.frames;
-    }
+pub invariant_of-self : goal.invariant_of-self
+invariant_of-self c =
+    let there = sym c.at_mut.ensures.value in
+    record { sound = ∥∥₁_map c.args.self.now.sound (λ all. sound_turned _ _ _ c.args.key _ _ there (changes_set _ _ _ _ there) (λ taken long s. subst (λ (q : Queue). IsSoundRing taken q) (sym (ap (λ (v : Card). v.ring) c.unbind.ensures)) s) all) }

@@ -12,5 +12,5 @@ returns-in_default-clause-answers g c =
       goes_on = g.met.D.Disk.goes_none c.args.disk.now;
       does = quiet_steps c.args.self.now c.args.self.now told _ _ _ _ c.say.ensures.said c.say.ensures.none
           (λ s h st. unbuilt_answered c.args.self.now told.blocks h s c.args.step.now
-          (unbuilt_cards c.args.step.now c.requires.group c.in_default.not-Vsic c.in_default.not-Flush c.in_default.not-Dev) st);
+          (unbuilt_cards c.args.step.now c.requires.group c.in_default.not-Vsic c.in_default.not-Bind c.in_default.not-Unbind c.in_default.not-Get c.in_default.not-Put c.in_default.not-Flush c.in_default.not-Reap c.in_default.not-Dev) st);
     }

@@ -2,7 +2,7 @@ use Rattle.std.proofs.Common.{◌≡◌, ℕ, ◌<◌, ◌≤◌}
 use Rattle.std.specs.Prelude.{option_map}
 use Rattle.ark_objects.specs.Held.{at, held}
 use Rattle.ark_held.specs.Rings.{unbound}
-use Rattle.ark_held.proofs.devices.Devices.unbind.Given as goal
+use Rattle.ark_held.proofs.devices.Devices.unbind_all.Given as goal
 
 abbrev pub invariant-loop-key : goal.invariant-loop-key
 invariant-loop-key l = record {
