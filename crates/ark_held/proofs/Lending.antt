@@ -2,7 +2,6 @@
 use Rattle.std.proofs.Common.{◌≡◌, ℕ, ◌+◌, ◌<◌, Bool, true, false, not, nat_lt, List, [], ◌∷◌, refl, sym, ◌∙◌, ap, arith, bytes_eq}
 use Rattle.std.specs.Prelude.{Option, Some, None, ◌||◌, option_map, unwrap_or}
 use Rattle.std.specs.List.{list_any, AllByRecursion}
-use Rattle.std.proofs.lemmas.Bool.{false≢true}
 use Rattle.std.proofs.lemmas.Bool.Decides.{nat_tests}
 use Rattle.ark_base.specs.declared.kind.Outcome.{Outcome}
 use Rattle.ark_caps.specs.Labels.{value_at}
@@ -29,6 +28,7 @@ use Rattle.ark_held.specs.Held.{IsObjectOf, AllMatch}
 use Rattle.ark_held.specs.Keeps.{JobWithin, PlaceWithin, PacedWithin, LabelWithin, OpenedWithin, Within, any_label}
 use Rattle.ark_held.proofs.Lists.{by_test, name_other, other_name, not_some, some_same}
 use Rattle.ark_held.proofs.Creating.{but}
+use Rattle.ark_held.proofs.Seeing.{none_of_both}
 
 -- Whether a buffer is lent.
 
@@ -174,14 +174,6 @@ narrow : {X : Type 0} (P Q : X → Type 0) (f : X → ℕ) → ((x : X) → f x 
 narrow P Q f step [] none all = tt
 narrow P Q f step (x ∷ xs) none all = (step x (omega (arith, none)) all.0, narrow P Q f step xs (omega (arith, none)) all.1)
 
-or_first : (a b : Bool) → (a || b) ≡ false → a ≡ false
-or_first true b e = e
-or_first false b e = refl
-
-or_second : (a b : Bool) → (a || b) ≡ false → b ≡ false
-or_second true b e = absurd (false≢true (sym e))
-or_second false b e = e
-
 -- What names no label of this kind, or not this one of it, has all else within the others.
 
 module _ (x : Around) (l : List ℕ) (cap : Capability) (there : value_at x.labels l ≡ Some cap) (unpaced : cap.kind ≡ cap_kind.Rate → ⊥) (no_net : cap.kind ≡ cap_kind.Vnic → ⊥) (rests : Piece → Type 0) where
@@ -239,8 +231,8 @@ module _ (x : Around) (l : List ℕ) (cap : Capability) (there : value_at x.labe
     narrow (λ u. PlaceWithin any_label rests u.0) (λ u. PlaceWithin (but l) rests u.0) (λ u. bit (place_has l u.0)) (λ u. place_narrow u.0) v.tx.unreaped (omega (arith, none)) w.3,
     paced_narrow f.net.rx_pace v.rx_pace f.rx_pace,
     paced_narrow f.net.tx_pace v.tx_pace f.tx_pace,
-    door_narrow f.net.rx_door v.rx_door f.rx_door (λ e. or_first (is_label l v.rx_door) (is_label l v.tx_door) (seen e)),
-    door_narrow f.net.tx_door v.tx_door f.tx_door (λ e. or_second (is_label l v.rx_door) (is_label l v.tx_door) (seen e)),
+    door_narrow f.net.rx_door v.rx_door f.rx_door (λ e. (none_of_both (is_label l v.rx_door) (is_label l v.tx_door) (seen e)).0),
+    door_narrow f.net.tx_door v.tx_door f.tx_door (λ e. (none_of_both (is_label l v.rx_door) (is_label l v.tx_door) (seen e)).1),
   )
   narrowed_from k c (Objects.filter z card) f none seen closed w = card_narrow f.live.vnic card f.card
   narrowed_from k c (Objects.door z) f none seen closed w = tt

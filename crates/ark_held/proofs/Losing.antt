@@ -47,7 +47,6 @@ pub record LosesOne (t u : Tables) (cap : Capability) : Type 0 where
 
 -- A card or a door, and no other kind of object.
 pub record IsDevice (cap : Capability) : Type 0 where
-  pub no_area : cap.kind ≡ cap_kind.Vsa → ⊥
   pub no_rate : cap.kind ≡ cap_kind.Rate → ⊥
   pub no_net : cap.kind ≡ cap_kind.Vnic → ⊥
   pub no_buffer : cap.kind ≡ cap_kind.Buf → ⊥

@@ -18,7 +18,7 @@ any_at p (y ∷ ys) zero x is passes = ap (λ b. b || list_any p ys) (ap p (some
 any_at p (y ∷ ys) (suc k) x is passes = or_right (p y) (list_any p ys) (any_at p ys k x is passes)
 
 -- where no member passes, neither the first does nor one behind it
-none_of_both : (a b : Bool) → (a || b) ≡ false → (a ≡ false) × (b ≡ false)
+pub none_of_both : (a b : Bool) → (a || b) ≡ false → (a ≡ false) × (b ≡ false)
 none_of_both true b e = absurd (false≢true (sym e))
 none_of_both false b e = (refl, e)
 

@@ -96,8 +96,8 @@ module _ (host : Host) (size : ℕ) (past : History) (s : System) (a l : List �
         left = subst (λ (z : Object). LeavesAs past t.blocks t.kind (Some z)) (sym same) left;
       }))
 
-  none_shared : (c : Capability) (k : CapKind) → value_at app.labels l ≡ Some c → c.kind ≡ k → is_shared_kind k ≡ false → Under (slot_of_kind app.areas k c.grant) → Under (slot_of_kind app.areas c.kind c.grant)
-  none_shared c k is its other u = subst (λ (z : CapKind). Under (slot_of_kind app.areas z c.grant)) (sym its) u
+  of_kind : (c : Capability) (k : CapKind) → c.kind ≡ k → Under (slot_of_kind app.areas k c.grant) → Under (slot_of_kind app.areas c.kind c.grant)
+  of_kind c k its u = subst (λ (z : CapKind). Under (slot_of_kind app.areas z c.grant)) (sym its) u
 
   plain : (c : Capability) (k : CapKind) → value_at app.labels l ≡ Some c → c.kind ≡ k → is_shared_kind k ≡ false → is_shared (value_at app.labels l) ≡ false
   plain c k is its other = ap is_shared is ∙ ap is_shared_kind its ∙ other
@@ -108,13 +108,13 @@ module _ (host : Host) (size : ℕ) (past : History) (s : System) (a l : List �
       (subst (λ (k : Kind). LeavesAs past f.slot.blocks k (Some (Objects.raw z))) (sym f.raw) (λ k lt c left. f.fits.maybe k lt c left))
   by_object c g (Objects.log z) is there same f =
       area_found c g (Objects.log z) f.slot is there same f.its_kind f.kept f.there (unopened c.grant z.opened f.opened) (as_log f.slot.blocks f.slot.kind z f.same_kind f.no_raw f.listed.left)
-  by_object c g (Objects.vsic z) is there same f = none_shared c cap_kind.Vsic is f.its_kind refl (plain c cap_kind.Vsic is f.its_kind refl)
-  by_object c g (Objects.vnic z) is there same f = none_shared c cap_kind.Vnic is f.its_kind refl (plain c cap_kind.Vnic is f.its_kind refl)
+  by_object c g (Objects.vsic z) is there same f = of_kind c cap_kind.Vsic f.its_kind (plain c cap_kind.Vsic is f.its_kind refl)
+  by_object c g (Objects.vnic z) is there same f = of_kind c cap_kind.Vnic f.its_kind (plain c cap_kind.Vnic is f.its_kind refl)
   by_object c g (Objects.filter z q) is there same f = absurd (not_some None f.live refl f.kept)
-  by_object c g (Objects.door z) is there same f = none_shared c cap_kind.Door is f.its_kind refl (plain c cap_kind.Door is f.its_kind refl)
-  by_object c g (Objects.rate z q) is there same f = none_shared c cap_kind.Rate is f.its_kind refl (plain c cap_kind.Rate is f.its_kind refl)
-  by_object c g (Objects.buffer z) is there same f = none_shared c cap_kind.Buf is f.its_kind refl (plain c cap_kind.Buf is f.its_kind refl)
-  by_object c g (Objects.socket z) is there same f = none_shared c cap_kind.Sock is f.its_kind refl (plain c cap_kind.Sock is f.its_kind refl)
+  by_object c g (Objects.door z) is there same f = of_kind c cap_kind.Door f.its_kind (plain c cap_kind.Door is f.its_kind refl)
+  by_object c g (Objects.rate z q) is there same f = of_kind c cap_kind.Rate f.its_kind (plain c cap_kind.Rate is f.its_kind refl)
+  by_object c g (Objects.buffer z) is there same f = of_kind c cap_kind.Buf f.its_kind (plain c cap_kind.Buf is f.its_kind refl)
+  by_object c g (Objects.socket z) is there same f = of_kind c cap_kind.Sock f.its_kind (plain c cap_kind.Sock is f.its_kind refl)
 
   by_label : (c : Option Capability) (o : Option Held) → value_at app.labels l ≡ c → at (machine_of s a) l ≡ o → AtLabel x l c o → Under (slot_of_cap app.areas l c)
   by_label None None is there m = (refl, there)

@@ -38,6 +38,7 @@ use Rattle.ark_held.proofs.Doing.{comes_quiet, never, refused_first, refuses}
 use Rattle.ark_held.proofs.Finding.{found}
 use Rattle.ark_held.proofs.Losing.{IsDevice, LosesOne, lost_all}
 use Rattle.ark_held.proofs.Parts.{CountsNothing}
+use Rattle.ark_held.proofs.Seeing.{none_of_both}
 use Rattle.ark_held.proofs.Unbound.{unbound_tables, kept_unbound, tables_unbound}
 use Rattle.ark_own.specs.Keys.{cap_under, card_key, card_under, key_if_card, door_key, door_under, key_if_door}
 use Rattle.ark_own.proofs.OfCards as cards
@@ -140,22 +141,14 @@ module _ (t : Told) (app : App) (l : List ℕ) where
 -- A card that is in use, or goes.
 
 card_device : (cap : Capability) → cap.kind ≡ cap_kind.Vsic → IsDevice cap
-card_device cap kind = record { no_area = λ e. cc (kind, e); no_rate = λ e. cc (kind, e); no_net = λ e. cc (kind, e); no_buffer = λ e. cc (kind, e); plain = ap is_area kind; stored = ap has_key kind }
+card_device cap kind = record { no_rate = λ e. cc (kind, e); no_net = λ e. cc (kind, e); no_buffer = λ e. cc (kind, e); plain = ap is_area kind; stored = ap has_key kind }
 
 door_device : (cap : Capability) → cap.kind ≡ cap_kind.Door → IsDevice cap
-door_device cap kind = record { no_area = λ e. cc (kind, e); no_rate = λ e. cc (kind, e); no_net = λ e. cc (kind, e); no_buffer = λ e. cc (kind, e); plain = ap is_area kind; stored = ap has_key kind }
+door_device cap kind = record { no_rate = λ e. cc (kind, e); no_net = λ e. cc (kind, e); no_buffer = λ e. cc (kind, e); plain = ap is_area kind; stored = ap has_key kind }
 
 some_items : {X : Type 0} (f : X → ℕ) (xs : List X) → length xs ≡ 0 → total f xs ≡ 0
 some_items f [] none = refl
 some_items f (x ∷ xs) none = absurd (let z : ⊥ = omega (arith, none) in z)
-
-or_first : (a b : Bool) → (a || b) ≡ false → a ≡ false
-or_first true b e = e
-or_first false b e = refl
-
-or_second : (a b : Bool) → (a || b) ≡ false → b ≡ false
-or_second true b e = absurd (false≢true (sym e))
-or_second false b e = e
 
 pub busy_by_log : (one : StorageCard) → is_some one.log ≡ true → (is_some one.log || nat_lt 0 (members one.vsic.ring)) ≡ true
 busy_by_log one is = ap (λ b. b || nat_lt 0 (members one.vsic.ring)) is
@@ -221,7 +214,7 @@ module _ (t : Told) (app app1 : App) (l : List ℕ) (cap : Capability) (label : 
 
       empty : (y : Beyond) (v : HasCard (around y app) l cap.key) → held_in v.vsic.queue ≡ 0
       empty y v =
-          let none : members one.vsic.ring ≡ 0 = let b = or_second (is_some one.log) (nat_lt 0 (members one.vsic.ring)) unused in grind (arith, nat_tests, b) in
+          let none : members one.vsic.ring ≡ 0 = let b = (none_of_both (is_some one.log) (nat_lt 0 (members one.vsic.ring)) unused).1 in grind (arith, nat_tests, b) in
           count_same app l cap.key is_key one here y v ∙ none
 
       nothing : (y : Beyond) (v : HasCard (around y app) l cap.key) → CountsNothing v.held.object
@@ -241,7 +234,7 @@ module _ (t : Told) (app app1 : App) (l : List ℕ) (cap : Capability) (label : 
           let v = its y h in
           without_it y app app1 l cap.grant tables labels areas tables_now
           (lost_all (around y app) h l cap label v.held v.there (card_device cap kind) (nothing y v) (λ door. cc (kind, door))
-          (λ card. log_same app l cap.key is_key one here y v ∙ or_first (is_some one.log) (nat_lt 0 (members one.vsic.ring)) unused) tables one_less)
+          (λ card. log_same app l cap.key is_key one here y v ∙ (none_of_both (is_some one.log) (nat_lt 0 (members one.vsic.ring)) unused).0) tables one_less)
 
       pub card_done : Acts t app app1 (row l) [] said.Ok []
       card_done = comes_quiet t app app1 (row l) said.Ok [] areas name (λ y g came sited h.
