@@ -19,6 +19,17 @@ fn synced_at(world: &MemoryWorld, front: u32) -> u32 {
     synced
 }
 
+// How many choices there are of the writes since the last sync, each of them kept or lost.
+fn choices_at(world: &MemoryWorld, front: u32) -> u32 {
+    let mut choices: u32 = 1;
+    for i in synced_at(world, front)..front {
+        if matches!(world.event(i), Some(Event::Write { .. })) {
+            choices = choices.saturating_mul(2);
+        }
+    }
+    choices
+}
+
 // Puts a block into an image.
 fn put_block(image: &mut [u8], n: u32, block: &[u8]) {
     let from = 512 * n as usize;
@@ -67,7 +78,7 @@ fn leaves_each_choice_of_writes(rt: HostRuntime) -> Result<(), Failure> {
     );
     assert_eq!(rt; done.world.events(), 18);
     for front in 0..=18u32 {
-        for choice in 0..16u32 {
+        for choice in 0..choices_at(&done.world, front) {
             let kept = [
                 choice & 1 != 0,
                 choice & 2 != 0,
