@@ -2,6 +2,7 @@
 use Rattle.std.proofs.Common.{◌≡◌, ◌⊎◌, inl, inr, ⊎_elim, ℕ, ◌<◌, ◌≤◌, ◌==◌, Bool, true, false, not, cond, ◌||◌, eqb-true, List, [], ◌∷◌, ◌++◌, length, get_or, refl, sym, ◌∙◌, ap, subst, arith, Contains}
 use Rattle.std.specs.Prelude.{Option, Some, None, is_some, unwrap_or, Any}
 use Rattle.std.proofs.lemmas.Bool.{false≢true}
+use Rattle.std.proofs.lemmas.Bool.Decides.{nat_tests}
 use Rattle.std.proofs.lemmas.List.Elements.{Contains-append_left, Contains-append_right, Contains-get_or}
 use Rattle.ark_base.specs.declared.kind.Kind.{Kind}
 use Rattle.ark_base.specs.declared.kind.Kind.TheVariants as kind
@@ -69,11 +70,6 @@ not_unsettled size slots (Some (drops v o)) n beside granted = refl
 index_apart : (slots : List Slot) (v t : Slot) → has_index slots v.index ≡ false → Contains slots t → (v.index == t.index) ≡ false
 index_apart slots v t none slot = by_test (v.index == t.index) (λ b. (v.index == t.index) ≡ b → b ≡ false)
     (λ yes q. absurd (false≢true (sym none ∙ ap (λ i. has_index slots i) (eqb-true v.index t.index q) ∙ has_in slots t (contains_in slots t slot)))) (λ no q. refl) refl
-not_dropped : (size : ℕ) (slots : List Slot) (u : Option Change) (t : Slot) (o : Option Object) → StandsBeside size slots u → unwrap_or (dropped_object t u) o ≡ o
-not_dropped size slots None t o beside = refl
-not_dropped size slots (Some (makes v)) t o beside = refl
-not_dropped size slots (Some (grows v more)) t o beside = refl
-not_dropped size slots (Some (drops v x)) t o beside = absurd beside
 
 not_made : (size : ℕ) (slots : List Slot) (u : Option Change) (t : Slot) → StandsBeside size slots u → Contains slots t → is_new t u ≡ false
 not_made size slots None t beside slot = refl

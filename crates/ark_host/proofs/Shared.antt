@@ -104,7 +104,7 @@ module _ (size : ℕ) (table : Table) (free : List ℕ) (failed : Bool) (sh : Is
         let f = slot_there size sh.slots (i - 1) area sh.apart.fit (ap (λ (t : Table). slot_in t i) (sym sh.table) ∙ used) in
         (f.0, in_contains sh.slots f.0 f.1, omega (arith, f.2, low), f.3)
 
-    grown : Slot
+    abbrev grown : Slot
     grown = growing.0
 
     lowest_more : lowest (slots_on size sh.slots) n ≡ more
