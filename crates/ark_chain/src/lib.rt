@@ -3,6 +3,8 @@
 
 mod next;
 mod reading;
+mod single;
 mod surveying;
 
+pub use single::entry_of;
 pub use surveying::{Seen, SurveyFault, survey};
