@@ -14,7 +14,7 @@ use Rattle.ark_entry.specs.Entry.{entry_blocks, length_in, ring_bytes, is_head, 
 use Rattle.ark_entry.proofs.Entries.{blocks_hold, length-ring_bytes}
 use Rattle.ark_chain.specs.Survey.{block_at, reads_at}
 use Rattle.ark_chain.specs.Walking.{IsHead, IsNoHead}
-use Rattle.ark_chain.specs.Single.{AddsBlock, AreRead, HasReadEntry, HasReadOn, behind}
+use Rattle.ark_chain.specs.Single.{AddsBlock, AreRead, HasReadEntry, HasReadOn, HasReadBlocks, behind}
 
 pub blocks_more : (ring : List (List ℕ)) (p n : ℕ) → ring_bytes ring p (suc n) ≡ ring_bytes ring p n ++ block ring ((p + n) % length ring)
 blocks_more ring p zero = let e : p ≡ p + 0 = omega arith in append-nil (block ring (p % length ring)) ∙ ap (λ q. block ring (q % length ring)) e
@@ -93,6 +93,11 @@ pub read_on_stop : {D T : Type 0} (goes : D → List Event → D → Type 0) (ro
     → Went goes (reads_at room start (behind count)) false old new → HasReadOn goes room start blocks result old new
 read_on_stop goes room start blocks count (Ok x) old new bad few went = absurd (cc (bad))
 read_on_stop goes room start blocks count (Err e) old new bad few went = record { count = count; few = few; all = tt; went = went }
+
+pub read_stop : {D T : Type 0} (goes : D → List Event → D → Type 0) (room start blocks count : ℕ) (result : Result T DiskFailed) (old new : D) → IsErr result → count ≤ blocks
+    → Went goes (reads_at room start (0 ∷ behind count)) false old new → HasReadBlocks goes room start blocks result old new
+read_stop goes room start blocks count (Ok x) old new bad few went = absurd (cc (bad))
+read_stop goes room start blocks count (Err e) old new bad few went = record { count = count; few = few; all = tt; went = went }
 
 module _ (image : List (List ℕ)) (room p number : ℕ) (long : length (drop 1 image) ≡ room) (inside : p < room) (first : List ℕ) (is : block image (block_at room p 0) ≡ first) where
   abbrev ring : List (List ℕ)

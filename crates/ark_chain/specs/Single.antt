@@ -35,6 +35,13 @@ pub record HasReadOn {D : Type 0} (goes : D → List Event → D → Type 0) (ro
   pub all : OnOk result (count ≡ blocks)
   pub went : Went goes (reads_at room start (behind count)) (is_ok result) old new
 
+-- the blocks from the first on were read in turn, up to the first read that failed
+pub record HasReadBlocks {D : Type 0} (goes : D → List Event → D → Type 0) (room start blocks : ℕ) {T : Type 0} (result : Result T DiskFailed) (old new : D) : Type 0 where
+  pub count : ℕ
+  pub few : count ≤ blocks
+  pub all : OnOk result (count ≡ blocks)
+  pub went : Went goes (reads_at room start (0 ∷ behind count)) (is_ok result) old new
+
 -- behind the bytes of k blocks stands now the block of the ring that is k behind the start
 abbrev pub AddsBlock : ℕ → ℕ → ℕ → List ℕ → List ℕ → List (List ℕ) → Type 0
 AddsBlock room start k old new image = take (512 * k + 512) new ≡ take (512 * k) old ++ block image (block_at room start k)

@@ -6,5 +6,6 @@ mod reading;
 mod single;
 mod surveying;
 
-pub use single::entry_of;
+pub use reading::Reading;
+pub use single::{entry_of, read_blocks};
 pub use surveying::{Seen, SurveyFault, survey};
