@@ -1,5 +1,7 @@
-//! Surveys of logs over a device in memory, with each answer.
+//! Surveys of logs over a device in memory, with each answer; commands that an open log accepts or refuses.
 #![tactic(auto)]
 
+#[cfg(test)]
+mod opened;
 #[cfg(test)]
 mod surveys;
