@@ -4,3 +4,5 @@ pub mod Looking
 pub mod Nexts
 pub mod Walked
 pub mod Finding
+pub mod Payloads
+pub mod Reread

@@ -3,6 +3,9 @@
 
 mod next;
 mod reading;
+mod single;
 mod surveying;
 
+pub use reading::Reading;
+pub use single::{entry_of, read_blocks};
 pub use surveying::{Seen, SurveyFault, survey};

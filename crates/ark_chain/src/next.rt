@@ -9,8 +9,8 @@ use crate::reading::Reading;
 use ark_entry::{entry_blocks, marked, read_entry_head};
 use ark_media::{Disk, DiskFailed};
 
-// The length that a block says as the first of the entry of this number, where the entry's blocks fit the ring.
-fn head_len(from: &Reading, block: &[u8; 512], used: u32, number: u64) -> Option<u32>
+/// The length that a block says as the first of the entry of this number, where the entry's blocks fit the ring.
+pub fn head_len(from: &Reading, block: &[u8; 512], used: u32, number: u64) -> Option<u32>
     requires within { used ≤ from.now.room }
     requires some { 0 < from.now.room }
     ensures head { IfSome result (IsHead from.now.room from.now.start used number block.now) }

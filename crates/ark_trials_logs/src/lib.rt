@@ -1,6 +1,8 @@
-//! Surveys of logs, and reports of a device, over a device in memory, with each answer.
+//! Surveys of logs and reports of a device in memory, with each answer; commands that an open log accepts or refuses.
 #![tactic(auto)]
 
+#[cfg(test)]
+mod opened;
 #[cfg(test)]
 mod reports;
 #[cfg(test)]

@@ -1,0 +1,10 @@
+pub mod Turns
+pub mod NewBuffers
+pub mod Accepted
+pub mod Standing
+pub mod Placed
+pub mod Acking
+pub mod Lent
+pub mod Ended
+pub mod Headers
+pub mod Whole

@@ -1,0 +1,11 @@
+pub mod Open
+pub mod Buffers
+pub mod Refused
+pub mod Waits
+pub mod Closed
+pub mod Stands
+pub mod Walked
+pub mod Acked
+pub mod Oldest
+pub mod Stages
+pub mod Polled
