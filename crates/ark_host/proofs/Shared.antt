@@ -118,10 +118,10 @@ module _ (size : ℕ) (table : Table) (free : List ℕ) (failed : Bool) (sh : Is
         let from = of_map (longer grown more) sh.slots u (contains_in (with_longer grown more sh.slots) u among) in
         subst (λ (x : Slot). length (runs_of x.blocks) ≤ max_runs) from.2
         (by_test (from.0.index == grown.index) (λ b. (from.0.index == grown.index) ≡ b → length (runs_of (cond b (with_more from.0 more) from.0).blocks) ≤ max_runs)
-          (λ yes q.
-            let index : grown.index ≡ from.0.index = grind (arith, nat_tests, q) in
-            subst (λ (x : Slot). length (runs_of (x.blocks ++ more)) ≤ max_runs) (one_index sh.slots grown from.0 sh.apart.apart (contains_in sh.slots grown growing.1) from.1 index) grown_compact)
-          (λ no q. sh.few from.0 (in_contains sh.slots from.0 from.1)) refl)
+        (λ yes q.
+        let index : grown.index ≡ from.0.index = grind (arith, nat_tests, q) in
+        subst (λ (x : Slot). length (runs_of (x.blocks ++ more)) ≤ max_runs) (one_index sh.slots grown from.0 sh.apart.apart (contains_in sh.slots grown growing.1) from.1 index) grown_compact)
+        (λ no q. sh.few from.0 (in_contains sh.slots from.0 from.1)) refl)
 
     pub grown_shared : (rest : List ℕ) (now : Table) → rest ≡ drop n free → now ≡ with_slot table i (Some (grown_area area more)) → IsShared size now rest failed
     grown_shared rest now left is =

@@ -7,8 +7,8 @@ use Rattle.ark_held.proofs.areas.Areas.set_spans.Goals as goal
 pub invariant_of-self : goal.invariant_of-self
 invariant_of-self c =
     let set_here : set c.self.inside.areas.items c.in-Some.place (c.index_mut.result.now.0, record c.index_mut.result.now.1 { spans = c.args.spans }) ≡ with_spans c.self.inside.areas.items c.args.grant c.args.spans =
-        ap (λ (d : ℕ × Area). set c.self.inside.areas.items c.in-Some.place (d.0, record d.1 { spans = c.args.spans })) c.index_mut.ensures.value
-        ∙ spans_placed c.args.grant c.args.spans c.self.inside.areas.items c.in-Some.place c.index_mut.result.now (search rules) in
+    ap (λ (d : ℕ × Area). set c.self.inside.areas.items c.in-Some.place (d.0, record d.1 { spans = c.args.spans })) c.index_mut.ensures.value
+    ∙ spans_placed c.args.grant c.args.spans c.self.inside.areas.items c.in-Some.place c.index_mut.result.now (search rules) in
     let once : are_once c.self.inside.areas.items ≡ true = c.self.invariant.2 in
     (search rules, c.self.invariant.1, ap are_once set_here ∙ spans_once c.args.grant c.args.spans c.self.inside.areas.items ∙ once)
 
