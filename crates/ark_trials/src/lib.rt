@@ -7,6 +7,8 @@ mod areas;
 #[cfg(test)]
 mod commands;
 #[cfg(test)]
+mod cycles;
+#[cfg(test)]
 mod failures;
 #[cfg(test)]
 mod formatted;

@@ -107,3 +107,30 @@ fn fails_with_each_call_of_its_opening(rt: HostRuntime) -> Result<(), Failure> {
     }
     Ok(())
 }
+
+// The last sync of a grant fails: it is not held, and the table has failed. On the device that stands a later run finds the grant,
+// whose slot was written; a stop may leave it there or not.
+#[test]
+fn finds_a_grant_that_failed(rt: HostRuntime) -> Result<(), Failure> {
+    let script = b"app a\nvsa a s 2 raw\npeek a s 0\nvsa a t 1 raw\n";
+    let plan = [Fail {
+        call: 10,
+        took: false,
+        part: 0,
+    }];
+    let done = run(rt.alloc(), script, &plan)?;
+    assert_eq!(rt;
+        done.world.out(),
+        b"ready 200 0\nok\nrefused 21 device fault\nrefused 5 no grant s\nrefused 22 table failed\n".as_slice()
+    );
+    let before = run(rt.alloc(), b"app a\n", &[])?;
+    for (image, ready) in [
+        (done.world.image(), "ready 200 1\n"),
+        (before.world.image(), "ready 200 0\n"),
+    ] {
+        assert!(rt; done.world.may_leave(done.world.events(), image));
+        let later = run_on(rt.alloc(), image, "run,d", b"", &[])?;
+        assert_eq!(rt; later.world.out(), ready.as_bytes());
+    }
+    Ok(())
+}

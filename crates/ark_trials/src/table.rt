@@ -1,8 +1,9 @@
 //! Tables of runs. A run is a block of rows, and an empty row stands between two. Its first row has the words of the command
 //! with the first reply behind them, and each other row a line of the script with its reply, if it has one.
 
-use crate::areas::{BLOCKS, GIVEN_UP, GRANTS};
+use crate::areas::{BLOCKS, GIVEN_UP, GRANTS, SCATTERED};
 use crate::commands::{COMMANDS, OTHER_WORDS};
+use crate::cycles::CYCLES;
 use crate::growing::GROWN;
 use crate::lines::{EMPTY_LINES, LINES};
 use crate::reopened::REOPENED;
@@ -102,6 +103,8 @@ fn answers_as_the_tables_say(rt: HostRuntime) -> Result<(), Fail> {
         GRANTS,
         BLOCKS,
         GIVEN_UP,
+        SCATTERED,
+        CYCLES,
         GROWN,
     ] {
         let whole = other_row(alloc, table, LastLine::Whole, Status::Done)?;
