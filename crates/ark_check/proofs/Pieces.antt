@@ -18,14 +18,14 @@ failed_behind : (es fs : List Event) → HasFailed fs → HasFailed (es ++ fs)
 failed_behind [] fs bad = bad
 failed_behind (e ∷ es) fs bad = inr (failed_behind es fs bad)
 
-reads_append : (es fs : List Event) → AreReads es → AreReads fs → AreReads (es ++ fs)
+pub reads_append : (es fs : List Event) → AreReads es → AreReads fs → AreReads (es ++ fs)
 reads_append [] fs are next = next
 reads_append (Read n ok ∷ es) fs are next = reads_append es fs are next
 reads_append (Write n content took ok ∷ es) fs are next = absurd are
 reads_append (Sync ok ∷ es) fs are next = absurd are
 reads_append (Out bytes ∷ es) fs are next = absurd are
 
-reads_alone : (es : List Event) → AreReads es → device_events es ≡ es
+pub reads_alone : (es : List Event) → AreReads es → device_events es ≡ es
 reads_alone [] are = refl
 reads_alone (Read n ok ∷ es) are = ap (λ (l : List Event). Read n ok ∷ l) (reads_alone es are)
 reads_alone (Write n content took ok ∷ es) are = absurd are
@@ -33,7 +33,7 @@ reads_alone (Sync ok ∷ es) are = absurd are
 reads_alone (Out bytes ∷ es) are = absurd are
 
 -- reads and output leave the image
-reads_leave : (es : List Event) (base : List (List ℕ)) (j : List Event) → AreReads (device_events es) → current base (onto es j) ≡ current base j
+pub reads_leave : (es : List Event) (base : List (List ℕ)) (j : List Event) → AreReads (device_events es) → current base (onto es j) ≡ current base j
 reads_leave [] base j are = refl
 reads_leave (Read n ok ∷ es) base j are = reads_leave es base (Read n ok ∷ j) are
 reads_leave (Out bytes ∷ es) base j are = reads_leave es base (Out bytes ∷ j) are

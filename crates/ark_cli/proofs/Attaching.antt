@@ -34,7 +34,7 @@ come_well (Reads n) e is = ap has_succeeded is
 come_well (Writes n content) e is = ap has_succeeded is.2
 come_well Syncs e is = ap has_succeeded is
 
-made_well : (plan : List Call) (es : List Event) → Makes plan true es → HasFailed es → ⊥
+pub made_well : (plan : List Call) (es : List Event) → Makes plan true es → HasFailed es → ⊥
 made_well [] [] made bad = bad
 made_well [] (e ∷ es) made bad = made
 made_well (c ∷ cs) [] made bad = bad
@@ -71,8 +71,8 @@ since_read device image es t0 t1 t2 b0 b1 b2 opened tells keeps = since_then (ol
 -- What came of reading the table.
 
 module _ (image : List (List ℕ)) (count : ℕ) (es : List Event) where
-  -- why no host was loaded
-  pub load_fails : (e : LoadFault) (told : Told) → Makes (read_calls count) (is_read {T = Host} (Err e)) es → ((h : History) → told.history ≡ Some h → h ≡ after (as_found image) es) → IsFirstDamaged {T = Host} told (Err e)
+  -- why no table was loaded
+  pub load_fails : {T : Type 0} (e : LoadFault) (told : Told) → Makes (read_calls count) (is_read {T = T} (Err e)) es → ((h : History) → told.history ≡ Some h → h ≡ after (as_found image) es) → IsFirstDamaged {T = T} told (Err e)
       → Fails (old_device image) told (status_for e) es × HeedsDamage (old_device image) told (status_for e) es
   load_fails fault.DeviceFault told made begins damaged =
       let bad = makes_failed (read_calls count) es made in
@@ -92,10 +92,10 @@ module _ (image : List (List ℕ)) (count : ℕ) (es : List Event) where
           subst (λ (x : List (List ℕ)). slots_of x ≡ Err bad) (current_reads image es [] (reads_of count true es made))
           (subst (λ (x : History). slots_of (current x.base x.journal) ≡ Err bad) found (damaged bad refl h is))
 
-  pub load_cause : (e : LoadFault) (t0 t1 : Told) (b0 b1 : Beside) → Makes (read_calls count) (is_read {T = Host} (Err e)) es → (HasFailed es → Rose t0.faults t1.faults) → IsCause t0 t1 b0 b1 (status_for e)
-  load_cause fault.DeviceFault t0 t1 b0 b1 made cause = inr (cause (makes_failed (read_calls count) es made))
-  load_cause fault.Memory t0 t1 b0 b1 made cause = tt
-  load_cause (fault.Damaged bad) t0 t1 b0 b1 made cause = tt
+  pub load_cause : (T : Type 0) (e : LoadFault) (t0 t1 : Told) (b0 b1 : Beside) → Makes (read_calls count) (is_read {T = T} (Err e)) es → (HasFailed es → Rose t0.faults t1.faults) → IsCause t0 t1 b0 b1 (status_for e)
+  load_cause T fault.DeviceFault t0 t1 b0 b1 made cause = inr (cause (makes_failed (read_calls count) es made))
+  load_cause T fault.Memory t0 t1 b0 b1 made cause = tt
+  load_cause T (fault.Damaged bad) t0 t1 b0 b1 made cause = tt
 
   -- The host stands for the system of its slots, also behind the device's line.
   module _ (host : Host) (ok : Bool) (t2 t3 : Told) (loaded : IsLoaded t2 host) (made : Makes (read_calls count) ok es) (begins : (h : History) → t2.history ≡ Some h → h ≡ after (as_found image) es) where

@@ -6,9 +6,9 @@ use Rattle.ark_base.specs.declared.status.Status.TheVariants.{Damaged}
 use Rattle.ark_media.specs.Calls.{Told, Beside}
 use Rattle.ark_media.specs.Parts.{parts}
 use Rattle.ark_words.specs.Sorted.{Sorted, sorted}
-use Rattle.ark_cli.specs.Words.{IsRun}
+use Rattle.ark_cli.specs.Words.{IsRun, IsCheck}
 use Rattle.ark_cli.specs.Opening.{Start, new_device, old_device, blocks_asked}
-use Rattle.ark_cli.specs.Ending.{Ends, IsClosed, Does, no_command, unread, no_memory, no_device, runs}
+use Rattle.ark_cli.specs.Ending.{Ends, IsClosed, Does, no_command, unread, no_memory, no_device, runs, checks}
 
 abbrev new_words : Option Sorted → List (List ℕ)
 new_words o = unwrap_or (option_map (λ s. s.new) o) []
@@ -20,6 +20,10 @@ not_both words size device other a b =
     let new : decimal size ∷ [] ≡ [] = ap new_words (sym a.0.2 ∙ ap sorted rest ∙ b.0.2) in
     absurd (cc new)
 
+-- nor are they those of `check`
+not_check : (words : List (List ℕ)) (size : ℕ) (device other : List ℕ) → IsRun words (Some size) device → IsCheck words other → ⊥
+not_check words size device other a b = absurd (cc (a.0.1, b.0.1))
+
 module _ (words : List (List ℕ)) (t0 t1 : Told) (b0 b1 : Beside) (status : Status) (block : ℕ) (is : status ≡ Damaged block) (size : ℕ) (device : List ℕ) (command : IsRun words (Some size) device) where
   none_made : (start : Start) (name : List ℕ) → IsRun words (blocks_asked start) name → IsClosed start name t0 t1 b0 b1 status → ⊥
   none_made (new_device n) name run c = (subst (λ (e : Status). Ends (new_device n) t1 e c.script (parts c.events).whole c.rest) is c.ends).1.0
@@ -29,5 +33,6 @@ module _ (words : List (List ℕ)) (t0 t1 : Told) (b0 b1 : Beside) (status : Sta
   damaged_only (no_command usage none quiet) = absurd (cc (is, usage))
   damaged_only (unread memory quiet) = absurd (cc (is, memory))
   damaged_only (no_memory blocks name memory run quiet) = absurd (cc (is, memory))
-  damaged_only (no_device blocks name failed run refused) = absurd (cc (is, failed))
+  damaged_only (no_device blocks name failed asked refused) = absurd (cc (is, failed))
   damaged_only (runs start name run closed) = none_made start name run closed
+  damaged_only (checks image name closing check closes r) = not_check words size device name command check

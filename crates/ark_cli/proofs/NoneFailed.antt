@@ -1,13 +1,13 @@
 -- Calls that did not fail, one after another; and events of which none failed.
-use Rattle.std.proofs.Common.{◌≡◌, ◌⊎◌, inl, inr, ℕ, List, [], ◌∷◌, refl, ◌∙◌, subst}
+use Rattle.std.proofs.Common.{◌≡◌, ◌⊎◌, inl, inr, ℕ, List, [], ◌∷◌, ◌++◌, refl, ◌∙◌, subst}
 use Rattle.ark_base.specs.declared.status.Status.{Status}
 use Rattle.ark_base.specs.declared.status.Status.TheVariants.{Done}
 use Rattle.ark_media.specs.Journal.{Event, History, HasFailed, onto}
 use Rattle.ark_media.specs.Calls.{Told, Beside, Rose, KeepsBeside, KeepsAtAttach, KeepsAtFetch, KeepsAtPut}
 use Rattle.ark_cli.specs.Session.{NoneFailed}
 use Rattle.ark_cli.specs.Complete.{HasNoFault}
-use Rattle.ark_cli.specs.Opening.{Start, Since}
-use Rattle.ark_cli.specs.Ending.{Does, no_command, unread, no_memory, no_device, runs}
+use Rattle.ark_cli.specs.Opening.{Start, old_device, Since}
+use Rattle.ark_cli.specs.Ending.{Does, no_command, unread, no_memory, no_device, runs, checks}
 
 pub none_failed : (b : Beside) → NoneFailed b b
 none_failed b = record { attach = refl; source = refl; sink = refl }
@@ -55,5 +55,6 @@ module _ (words : List (List ℕ)) (t0 t1 : Told) (b0 b1 : Beside) (still : Rose
   no_fault status done (no_command is none quiet) = absurd (cc (done, is))
   no_fault status done (unread is quiet) = absurd (cc (done, is))
   no_fault status done (no_memory blocks device is run quiet) = absurd (cc (done, is))
-  no_fault status done (no_device blocks device is run refused) = absurd (cc (done, is))
+  no_fault status done (no_device blocks device is asked refused) = absurd (cc (done, is))
   no_fault status done (runs start device run closed) = since_unfailed start device closed.events closed.script closed.since
+  no_fault status done (checks image device closing check closes r) = since_unfailed (old_device image) device (r.events ++ closing) [] r.since

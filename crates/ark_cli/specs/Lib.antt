@@ -1,7 +1,9 @@
 pub mod Words
+pub mod Asked
 pub mod Line
 pub mod Cut
 pub mod Session
 pub mod Opening
 pub mod Ending
 pub mod Complete
+pub mod Checking

@@ -1,6 +1,7 @@
 //! The command line of the control plane: all that the program does, over an outside.
 #![tactic(auto)]
 
+mod checking;
 mod command;
 mod line;
 mod opening;

@@ -45,8 +45,8 @@ pub fn open_new<W: Outside>(
     }
 }
 
-// The status of a device whose table can't be loaded.
-fn status_of(fault: LoadFault) -> Status
+/// The status of a device whose table can't be loaded.
+pub(crate) fn status_of(fault: LoadFault) -> Status
     ensures { result ≡ status_for fault }
 {
     match fault {

@@ -1,22 +1,23 @@
 -- How a run ended, read off what it does.
-use Rattle.std.proofs.Common.{◌≡◌, ℕ, ◌+◌, Bool, true, false, List, [], ◌∷◌, ◌++◌, length, refl, sym, ◌∙◌, ap, subst, append-nil}
+use Rattle.std.proofs.Common.{◌≡◌, ℕ, ◌+◌, Bool, true, false, List, [], ◌∷◌, ◌++◌, length, refl, sym, ◌∙◌, ap, subst, append-nil, inl, inr}
 use Rattle.std.specs.Prelude.{Some}
 use Rattle.ark_base.specs.declared.status.Status.{Status}
 use Rattle.ark_base.specs.declared.status.Status.TheVariants.{Done, Usage, Source, Sink, Device, Memory, Damaged, Long}
-use Rattle.ark_media.specs.Journal.{Event, History, onto}
+use Rattle.ark_media.specs.Journal.{Event, History, onto, output_of}
 use Rattle.ark_media.specs.Calls.{Opening, Script, Adds, Takes}
 use Rattle.ark_media.specs.Parts.{parts}
 use Rattle.ark_script.specs.Lines.{lines_of}
 use Rattle.ark_cli.specs.Words.{IsRun}
+use Rattle.ark_cli.specs.Checking.{IsReported, Shows}
 use Rattle.ark_script.specs.Text.{text}
 use Rattle.ark_script.specs.declared.said.Said.TheVariants.{Ready}
-use Rattle.ark_cli.specs.Opening.{Start, asking, blocks_of, blocks_asked}
+use Rattle.ark_cli.specs.Opening.{Start, old_device, asking, blocks_of, blocks_asked, HeedsDamage}
 use Rattle.ark_cli.proofs.Openings.{slots_told}
 use Rattle.ark_cli.specs.Ending as ending
 use Rattle.ark_cli.specs.Ending.{Does, HasRun, Ends, Closes, IsQuiet, IsDeviceRefused, IsClosed}
 use Rattle.ark_record.specs.Replay.{Model}
 use Rattle.ark_record.specs.Watch.{told_if, told_of, beside_of}
-use Rattle.ark_file.specs.Ended.{IsUnopened, EndsBy, IsRunOn, HasEnded, no_command, no_memory, no_device, ran, IsDone}
+use Rattle.ark_file.specs.Ended.{IsUnopened, EndsBy, IsRunOn, HasEnded, no_command, no_memory, no_device, ran, checked, IsCheckedOn, IsDone, IsFinished}
 
 if_some : {A : Type 0} (b : Bool) (x y : A) → told_if b x ≡ Some y → x ≡ y
 if_some true x y is = cc is
@@ -124,12 +125,32 @@ module _ (old now : Model) (honest : now.is_honest ≡ true) where
         short = c.short;
       }
 
+  checked_on : (image : List (List ℕ)) (device : List ℕ) (closing : List Event) (status : Status) → Closes status old.sink_faults now.sink_faults closing
+      → IsReported image device closing (told_of old) (told_of now) (beside_of old) (beside_of now) status → IsCheckedOn device status old now
+  checked_on image device closing status closes r =
+      let begins = r.since.begins h told in
+      let base : now.base ≡ image = ap (λ (x : History). x.base) begins in
+      record {
+        events = r.events;
+        closing = closing;
+        openings = r.since.asks;
+        journal = ap (λ (x : History). x.journal) begins;
+        faults = r.since.cause;
+        taken = taken [] r.since.takes ∙ append-nil old.taken;
+        reads = r.reads;
+        shows = subst (λ (x : List (List ℕ)). Shows x status (output_of r.events)) (sym base) (r.shows h told);
+        ends = r.ends;
+        heeds = subst (λ (x : List (List ℕ)). HeedsDamage (old_device x) (told_of now) status r.events) (sym base) r.heeds;
+        closes = closes;
+      }
+
   pub ended : (words : List (List ℕ)) (status : Status) → Does words (told_of old) (told_of now) (beside_of old) (beside_of now) status → HasEnded words old now status
   ended words status (ending.no_command usage none quiet) = no_command usage none (unopened status quiet)
   ended words status (ending.unread memory quiet) = no_memory memory (unopened status quiet)
   ended words status (ending.no_memory blocks device memory command quiet) = no_memory memory (unopened status quiet)
   ended words status (ending.no_device blocks device failed command r) = no_device blocks device failed command (refused (asking blocks device false) status r)
   ended words status (ending.runs start device command closed) = ran start device command (run_on start device status closed)
+  ended words status (ending.checks image device closing command closes r) = checked device command (checked_on image device closing status closes r)
 
 -- a run with status 0
 done_on : (words : List (List ℕ)) (old now : Model) (start : Start) (device : List ℕ) → IsRun words (blocks_asked start) device → IsRunOn start device Done old now → IsDone words old now
@@ -151,11 +172,12 @@ done_on words old now start device command r =
       left = none;
     }
 
-done_by : (words : List (List ℕ)) (old now : Model) → HasEnded words old now Done → IsDone words old now
+done_by : (words : List (List ℕ)) (old now : Model) → HasEnded words old now Done → IsFinished words old now
 done_by words old now (no_command usage none silent) = absurd (cc usage)
 done_by words old now (no_memory memory silent) = absurd (cc memory)
 done_by words old now (no_device blocks device failed command silent) = absurd (cc failed)
-done_by words old now (ran start device command r) = done_on words old now start device command r
+done_by words old now (ran start device command r) = inl (done_on words old now start device command r)
+done_by words old now (checked device command r) = inr (device, command, r)
 
-pub done : (words : List (List ℕ)) (old now : Model) (status : Status) → status ≡ Done → HasEnded words old now status → IsDone words old now
+pub done : (words : List (List ℕ)) (old now : Model) (status : Status) → status ≡ Done → HasEnded words old now status → IsFinished words old now
 done words old now status is e = done_by words old now (subst (λ x. HasEnded words old now x) is e)

@@ -1,5 +1,5 @@
 -- How a run over a real outside ended, where all that it answered was what is supposed.
-use Rattle.std.specs.Prelude.{◌≡◌, ◌+◌, ◌≤◌, ℕ, true, false, List, [], ◌∷◌, ◌++◌, length, Option}
+use Rattle.std.specs.Prelude.{◌≡◌, ◌+◌, ◌≤◌, ◌⊎◌, ℕ, true, false, List, [], ◌∷◌, ◌++◌, length, Option, None}
 use Rattle.ark_base.specs.Status.{code_of}
 use Rattle.ark_base.specs.declared.status.Status.{Status}
 use Rattle.ark_base.specs.declared.status.Status.TheVariants.{Done, Usage, Sink, Device, Memory, Long}
@@ -10,10 +10,13 @@ use Rattle.ark_script.specs.Lines.{lines_of}
 use Rattle.ark_script.specs.Text.{text}
 use Rattle.ark_script.specs.declared.said.Said.TheVariants.{Ready}
 use Rattle.ark_machine.specs.System.{System}
-use Rattle.ark_cli.specs.Words.{IsRun}
+use Rattle.ark_check.specs.Reading.{AreReads}
+use Rattle.ark_cli.specs.Words.{IsRun, IsCheck, AsksFor}
+use Rattle.ark_cli.specs.Checking as checking
+use Rattle.ark_cli.specs.Checking.{Shows}
 use Rattle.ark_cli.specs.Line.{limit}
 use Rattle.ark_cli.specs.Cut.{CutReplies, CutConfined}
-use Rattle.ark_cli.specs.Opening.{Start, base_of, blocks_of, blocks_asked, asking, Starts, HeedsDamage}
+use Rattle.ark_cli.specs.Opening.{Start, old_device, base_of, blocks_of, blocks_asked, asking, Starts, HeedsDamage}
 use Rattle.ark_cli.specs.Ending.{Does, HasRun, Ends, Closes, RecoversAtFronts}
 use Rattle.ark_record.specs.Replay.{Past, Model, model_of}
 use Rattle.ark_record.specs.Watch.{told_of, told_by, beside_by}
@@ -66,13 +69,30 @@ pub record IsRunOn (start : Start) (device : List ℕ) (status : Status) (old no
   pub long : status ≡ Long → length script ≡ limit + 1
   pub short : (status ≡ Long → ⊥) → length script ≤ limit
 
+-- A device that was there was read, and its report put.
+pub record IsCheckedOn (device : List ℕ) (status : Status) (old now : Model) : Type 0 where
+  -- the events of the command in order, and the closing line behind them
+  pub events : List Event
+  pub closing : List Event
+  -- this device alone was asked for, and these events came on it, and no others
+  pub openings : now.openings ≡ old.openings ++ asking None device true ∷ []
+  pub journal : now.journal ≡ onto (events ++ closing) []
+  pub faults : HasFailed (events ++ closing) → Rose old.disk_faults now.disk_faults
+  pub taken : now.taken ≡ old.taken
+  pub reads : AreReads (device_events events)
+  pub shows : Shows now.base status (output_of events)
+  pub ends : checking.EndsBy status events
+  pub heeds : HeedsDamage (old_device now.base) (told_of now) status events
+  pub closes : Closes status old.sink_faults now.sink_faults closing
+
 -- From one model of the outside to another: the words were no command, memory was wanting before a device was asked for, the
--- device could not be made or attached, or the script was run.
+-- device could not be made or attached, the script was run, or the report put.
 pub data HasEnded (words : List (List ℕ)) (old now : Model) (status : Status) : Type 0 where
-  no_command : status ≡ Usage → ((blocks : Option ℕ) (device : List ℕ) → IsRun words blocks device → ⊥) → IsUnopened [] status old now → HasEnded words old now status
+  no_command : status ≡ Usage → ((blocks : Option ℕ) (device : List ℕ) → AsksFor words blocks device → ⊥) → IsUnopened [] status old now → HasEnded words old now status
   no_memory : status ≡ Memory → IsUnopened [] status old now → HasEnded words old now status
-  no_device : (blocks : Option ℕ) (device : List ℕ) → status ≡ Device → IsRun words blocks device → IsUnopened (asking blocks device false ∷ []) status old now → HasEnded words old now status
+  no_device : (blocks : Option ℕ) (device : List ℕ) → status ≡ Device → AsksFor words blocks device → IsUnopened (asking blocks device false ∷ []) status old now → HasEnded words old now status
   ran : (start : Start) (device : List ℕ) → IsRun words (blocks_asked start) device → IsRunOn start device status old now → HasEnded words old now status
+  checked : (device : List ℕ) → IsCheck words device → IsCheckedOn device status old now → HasEnded words old now status
 
 -- The whole script was run, on a device that was made, or was there.
 pub record IsDone (words : List (List ℕ)) (old now : Model) : Type 0 where
@@ -90,10 +110,14 @@ pub record IsDone (words : List (List ℕ)) (old now : Model) : Type 0 where
   pub unfinished : (parts events).unfinished ≡ []
   pub left : now.rest.script ≡ []
 
+-- The command came to its end: the whole script was run, or the whole report put.
+abbrev pub IsFinished : List (List ℕ) → Model → Model → Type 0
+IsFinished words old now = IsDone words old now ⊎ ((device : List ℕ) × IsCheck words device × IsCheckedOn device Done old now)
+
 -- The process ends with this status: that of a run for the words.
 pub record Exits (words : List (List ℕ)) (was now : Past) (exit : ℕ) : Type 0 where
   pub status : Status
   pub code : exit ≡ code_of status
   pub does : Does words (told_by was) (told_by now) (beside_by was) (beside_by now) status
   pub ended : IsHonest now → HasEnded words (model_of was) (model_of now) status
-  pub done : status ≡ Done → IsHonest now → IsDone words (model_of was) (model_of now)
+  pub done : status ≡ Done → IsHonest now → IsFinished words (model_of was) (model_of now)

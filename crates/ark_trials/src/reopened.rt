@@ -78,10 +78,12 @@ fn tells_the_damaged_block(rt: HostRuntime) -> Result<(), Failure> {
             *changed = byte;
         }
         device.truncate(len);
-        let done = run_on(rt.alloc(), &device, "run,d", b"app a\n", &[])?;
-        assert!(rt; matches!(done.status, Status::Damaged(_)));
-        assert_eq!(rt; done.world.out(), line.as_bytes());
-        assert_eq!(rt; done.world.image(), device.as_slice());
+        for words in ["run,d", "check,d"] {
+            let done = run_on(rt.alloc(), &device, words, b"app a\n", &[])?;
+            assert!(rt; matches!(done.status, Status::Damaged(_)));
+            assert_eq!(rt; done.world.out(), line.as_bytes());
+            assert_eq!(rt; done.world.image(), device.as_slice());
+        }
     }
     Ok(())
 }

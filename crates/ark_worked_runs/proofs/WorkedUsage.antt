@@ -1,6 +1,6 @@
 -- Words that are no command, worked out: output and status.
 use Rattle.std.specs.Fmt.{digits}
-use Rattle.std.proofs.Common.{◌≡◌, ℕ, List, [], ◌∷◌, codes, refl, sym, ap, subst, arith, lit≤}
+use Rattle.std.proofs.Common.{◌≡◌, ℕ, List, [], ◌∷◌, codes, inl, inr, refl, sym, ap, subst, arith, lit≤}
 use Rattle.std.proofs.lemmas.Fmt.{decimal_injective}
 use Rattle.std.specs.Prelude.{Option, Some, None, decimal}
 use Rattle.ark_base.specs.declared.status.Status.TheVariants.{Usage}
@@ -9,7 +9,7 @@ use Rattle.ark_media.specs.Journal.{Event, Out, History, fresh, onto, output_of}
 use Rattle.ark_media.specs.Calls.{Rests}
 use Rattle.ark_media.proofs.Composing.{goes_put}
 use Rattle.ark_words.specs.Sorted.{Sorted, sorted}
-use Rattle.ark_cli.specs.Words.{IsRun}
+use Rattle.ark_cli.specs.Words.{IsRun, AsksFor}
 use Rattle.ark_cli.specs.Ending.{Does, no_command}
 use Rattle.ark_worked_runs.proofs.WorkedRuns.{line, told_of, beside_first, some_is, whole_line}
 
@@ -34,6 +34,10 @@ too_small (Some size) device h =
     let same : size ≡ 129 = decimal_injective size 129 (omega arith) (omega arith) (sym spelled) in
     absurd (omega (arith, h.1.0, same))
 
+no_command_words : (blocks : Option ℕ) (device : List ℕ) → AsksFor small_words blocks device → ⊥
+no_command_words blocks device (inl run) = too_small blocks device run
+no_command_words blocks device (inr check) = absurd (cc (check.1.0.1))
+
 abbrev usage_line : List Event
 usage_line = Out (line (codes "fault usage")) ∷ []
 
@@ -50,7 +54,7 @@ rests_usage = record {
 }
 
 usage_run : (script : List ℕ) → Does small_words (told_of []) (told_of usage_line) (beside_first script) (beside_first script) Usage
-usage_run script = no_command refl too_small (record {
+usage_run script = no_command refl no_command_words (record {
   closing = usage_line;
   closes = whole_line (codes "fault usage") 0 0;
   goes = goes_put (told_of []) (told_of usage_line) (beside_first script) (beside_first script) (line (codes "fault usage")) rests_usage

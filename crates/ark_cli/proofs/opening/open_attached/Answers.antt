@@ -7,6 +7,7 @@ use Rattle.ark_media.proofs.Composing.{told_before}
 use Rattle.ark_table.specs.Loading.{read_calls}
 use Rattle.ark_script.specs.Text.{text}
 use Rattle.ark_script.specs.declared.said.Said.TheVariants.{Ready}
+use Rattle.ark_host.specs.declared.host.Host.{Host}
 use Rattle.ark_cli.specs.Opening.{old_device, Fails, HeedsDamage}
 use Rattle.ark_cli.specs.Ending.{IsCause}
 use Rattle.ark_cli.proofs.Openings.{ready_line, since_ready, opens_unshown}
@@ -46,7 +47,7 @@ returns-in-Err-load-clause-cause g c =
     let opened = since_attached c.args.device.now (g.W.Disk.told w0) (g.W.Disk.told w1) (g.W.Outside.beside w0) (g.W.Outside.beside w1) c.in-Ok.ensures.begun (λ h is. g.met.W.Disk.size_is w1 h is) c.attach.ensures.disk c.in-Ok.ensures.asked c.in-Ok.ensures.cause.worked c.attach.ensures.keeps in
     let since = since_read c.args.device.now (image_of (g.W.Disk.told w1)) f.events (g.W.Disk.told w0) (g.W.Disk.told w1) (g.W.Disk.told w2) (g.W.Outside.beside w0) (g.W.Outside.beside w1) (g.W.Outside.beside w2) opened (g.met.W.Disk.goes_told w1 w2 f.events f.goes_on) (g.met.W.Outside.goes_means w1 w2 f.events f.goes_on) in
     subst (λ (s : Status). IsCause (g.W.Disk.told w0) (g.W.Disk.told w2) (g.W.Outside.beside w0) (g.W.Outside.beside w2) s) (sym c.status_of.ensures)
-    (load_cause (image_of (g.W.Disk.told w1)) read.count f.events c.in-Err-load.fault (g.W.Disk.told w0) (g.W.Disk.told w2) (g.W.Outside.beside w0) (g.W.Outside.beside w2) f.makes since.cause)
+    (load_cause (image_of (g.W.Disk.told w1)) read.count f.events Host c.in-Err-load.fault (g.W.Disk.told w0) (g.W.Disk.told w2) (g.W.Outside.beside w0) (g.W.Outside.beside w2) f.makes since.cause)
 
 pub returns-in-Err-put-clause-failed : goal.returns-in-Err-put-clause-failed
 returns-in-Err-put-clause-failed g c =
