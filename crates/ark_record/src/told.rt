@@ -17,6 +17,7 @@ impl<H: Host> Disk for Watched<H> {
         self.size()
     }
 
+    #[inline(always)]
     fn read(&mut self, n: u32, out: &mut [u8]) -> Result<(), DiskFailed> {
         match self.call_read(n) {
             Ok(block) => {
