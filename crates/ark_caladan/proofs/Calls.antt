@@ -12,7 +12,7 @@ use Rattle.ark_media.proofs.Stopping.{now_may}
 use Rattle.ark_entry.specs.Entry.{AreWhole}
 use Rattle.ark_entry.specs.Found.{Found, found_of}
 use Rattle.ark_caladan.specs.Views.{OnDisk, contents_at}
-use Rattle.ark_caladan.specs.Listed.{MayShow, IsFoundIn, AllFull}
+use Rattle.ark_caladan.specs.Listed.{MayShow, IsFoundIn, AreFull}
 use Rattle.ark_caladan.specs.Stages.{Stage, reads, writes, decides, syncs, calls_of, call_of, event_took, Moment, resting, after_calls, took_by, moment_at, IsAt}
 use Rattle.ark_caladan.specs.Leading.{AllIn, IsBetween, IsFound, IsFoundEither, list_at, Leads}
 use Rattle.ark_caladan.proofs.Places.{ring_at}
@@ -70,7 +70,7 @@ module _ (kind : Kind) (x y : Found) where
         by true e = inr e
         by false e = inl e
 
-    module _ (history : History) (on_disk : OnDisk blocks history.base) (full : AllFull history) where
+    module _ (history : History) (on_disk : OnDisk blocks history.base) (full : AreFull history blocks) where
       -- the area as it stands, and as a stop may leave it
       now_between : (a b : ℕ → List ℕ) → ((k : ℕ) → k < length blocks → (now history k ≡ a k) ⊎ (now history k ≡ b k))
           → IsBetween (length blocks) a b (shown history)
@@ -84,13 +84,13 @@ module _ (kind : Kind) (x y : Found) where
           whole u lt =
               let low : u < length blocks = omega (arith, lt, length-map blocks (λ n. block (device history) n)) in
               ap (λ (c : List ℕ). length c) (ring_at (device history) blocks u low)
-              ∙ full (pos u) (on_disk.inside u low) (now history u) (now_may Whole (λ c. refl) history.base history.journal (pos u) (on_disk.inside u low))
+              ∙ full u low (now history u) (now_may Whole (λ c. refl) history.base history.journal (pos u) (on_disk.inside u low))
 
       left_between : (f : Moment) → Left history f
           → (contents : List (List ℕ)) → MayShow history blocks contents → IsBetween (length blocks) f.old f.new contents
       left_between f left contents show = record {
         size = show.size;
-        whole = λ u lt. let low : u < length blocks = omega (arith, lt, show.size) in full (pos u) (on_disk.inside u low) (block contents u) (show.each u low);
+        whole = λ u lt. let low : u < length blocks = omega (arith, lt, show.size) in full u low (block contents u) (show.each u low);
         each = λ k lt. left k lt (block contents k) (show.each k lt);
       }
 
@@ -164,7 +164,7 @@ module _ (kind : Kind) (x y : Found) where
       at_turn f (decides b p ∷ ss) plan at = at_begins history blocks on_disk f at plan.0 b (p ∷ []) f.took
       at_turn f (syncs ∷ ss) plan at = at
 
-    module _ (history : History) (on_disk : OnDisk blocks history.base) (e : Event) (full : AllFull (after history (e ∷ []))) where
+    module _ (history : History) (on_disk : OnDisk blocks history.base) (e : Event) (full : AreFull (after history (e ∷ [])) blocks) where
       event_is : (n : ℕ) (c : List ℕ) → Comes (Writes n c) false e → e ≡ Write n c (event_took e) false
       event_is n c came = came.2 ∙ ap (λ (t : Bool). Write n c t false) (sym (ap event_took came.2))
 

@@ -14,7 +14,7 @@ use Rattle.ark_entry.proofs.Headers.{read_was_written}
 use Rattle.ark_caladan.specs.Chain.{Command, append, trim, pop, after_command, blocks_of, stored_after, list_choices}
 use Rattle.ark_caladan.specs.Leaves.{LiesInRing}
 use Rattle.ark_caladan.specs.Views.{OnDisk, Elsewhere, AreApart, view_of}
-use Rattle.ark_caladan.specs.Listed.{IsFoundIn, AllFull, SameAt}
+use Rattle.ark_caladan.specs.Listed.{IsFoundIn, AreFull, SameAt}
 use Rattle.ark_caladan.specs.Stages.{Stage, reads, writes, decides, syncs, calls_of, call_of, Moment, resting, after_calls, took_by, event_took, moment_at, IsAt}
 use Rattle.ark_caladan.specs.Leading.{IsFound, Leads}
 use Rattle.ark_caladan.specs.Plans.{stages_of, added_by, AreShort, CanWait}
@@ -136,7 +136,7 @@ module _ (kind : Kind) (room : ℕ) (blocks : List ℕ) (p : Layout) (l : Entrie
   one_of x y false = refl
 
   -- At each moment: what stands is the stored list, and what a stop may leave is listed.
-  pub open_kept : (history : History) (cs : List Command) (done n : ℕ) → AllFull history → IsOpenWith kind room history blocks p l cs done n
+  pub open_kept : (history : History) (cs : List Command) (done n : ℕ) → AreFull history blocks → IsOpenWith kind room history blocks p l cs done n
       → IsFoundIn kind history blocks (stored_after (found l) (oldest cs (log_moment kind room p l cs done n).took)) (list_choices (found l) (oldest cs (log_moment kind room p l cs done n).took))
   open_kept history [] done n full opened =
       kept_found kind (found l) (found l) blocks (found l ∷ []) (0, omega arith, refl) (0, omega arith, refl) history opened.on_disk full (resting first_view false) (found l) (0, omega arith, refl)
@@ -156,7 +156,7 @@ module _ (kind : Kind) (room : ℕ) (blocks : List ℕ) (p : Layout) (l : Entrie
   took_same f syncs (suc n) e lt = absurd (omega (arith, lt))
 
   -- A call of its own that fails: what stands and what a stop may leave is as the failed log has it from then on.
-  pub open_failed : (history : History) (c : Command) (cs : List Command) (done n : ℕ) (e : Event) → AllFull (after history (e ∷ [])) → n < calls_of (get_or (stages c) done syncs)
+  pub open_failed : (history : History) (c : Command) (cs : List Command) (done n : ℕ) (e : Event) → AreFull (after history (e ∷ [])) blocks → n < calls_of (get_or (stages c) done syncs)
       → Comes (call_of blocks (get_or (stages c) done syncs) n) false e → IsOpenWith kind room history blocks p l (c ∷ cs) done n
       → let took = took_by (log_moment kind room p l (c ∷ cs) done n).took (get_or (stages c) done syncs) e in
       IsFoundIn kind (after history (e ∷ [])) blocks (stored_after (found l) (Some (c, took))) (list_choices (found l) (Some (c, took)))
@@ -241,7 +241,7 @@ module _ (kind : Kind) (room : ℕ) (blocks : List ℕ) (p : Layout) (l : Entrie
   waiting_moved history [] done n e some lt came opened = absurd (omega (arith, some))
   waiting_moved history (c ∷ cs) done n e some lt came opened = (open_moved history c cs done n e lt came opened, took_moved history c cs done n e lt came opened)
 
-  pub waiting_failed : (history : History) (xs : List Command) (done n : ℕ) (e : Event) → 0 < length xs → AllFull (after history (e ∷ [])) → n < calls_of (next_stage xs done) → Comes (call_of blocks (next_stage xs done) n) false e
+  pub waiting_failed : (history : History) (xs : List Command) (done n : ℕ) (e : Event) → 0 < length xs → AreFull (after history (e ∷ [])) blocks → n < calls_of (next_stage xs done) → Comes (call_of blocks (next_stage xs done) n) false e
       → IsOpenWith kind room history blocks p l xs done n
       → let last = oldest xs (took_by (took_at xs done n) (next_stage xs done) e) in IsFoundIn kind (after history (e ∷ [])) blocks (stored_after (found l) last) (list_choices (found l) last)
   waiting_failed history [] done n e some full lt came opened = absurd (omega (arith, some))

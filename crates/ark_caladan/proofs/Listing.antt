@@ -11,7 +11,7 @@ use Rattle.ark_media.proofs.Stopping.{sync_narrows}
 use Rattle.ark_entry.specs.Found.{Found, found, damaged, found_of}
 use Rattle.ark_caladan.specs.Chain.{Command, Log, Opened, pending, in_progress, stored_after, list_choices}
 use Rattle.ark_caladan.specs.Views.{OnDisk, Elsewhere, contents_at}
-use Rattle.ark_caladan.specs.Listed.{IsFoundIn, IsListed, AllFull, WritesFull, SameAt}
+use Rattle.ark_caladan.specs.Listed.{IsFoundIn, IsListed, AreFull, WritesFull, SameAt}
 use Rattle.ark_caladan.proofs.Events.{left_elsewhere, stays}
 use Rattle.ark_caladan.proofs.Places.{ring_at}
 
@@ -38,11 +38,12 @@ pub output_same : (history : History) (blocks : List ℕ) (bytes : List ℕ) →
 output_same history blocks bytes k lt = (refl, λ c left. left)
 
 -- blocks of 512 bytes stay so
-pub full_kept : (history : History) (call : Call) (ok : Bool) (e : Event) → WritesFull call → Comes call ok e → AllFull history → AllFull (after history (e ∷ []))
-full_kept history (Reads m) ok e is came full n lt c left = full n lt c (subst (λ (ev : Event). MayStand (after history (ev ∷ [])) n c) came left)
-full_kept history (Writes m content) ok e is came full n lt c left =
-    ⊎_elim (λ here. ap (λ (x : List ℕ). length x) here.1 ∙ is) (λ before. full n lt c before) (subst (λ (ev : Event). MayStand (after history (ev ∷ [])) n c) came.2 left)
-full_kept history Syncs ok e is came full n lt c left = full n lt c (sync_narrows Whole (λ x. refl) history.base history.journal ok n lt c (subst (λ (ev : Event). MayStand (after history (ev ∷ [])) n c) came left))
+pub full_kept : (history : History) (blocks : List ℕ) → OnDisk blocks history.base → (call : Call) (ok : Bool) (e : Event) → WritesFull call → Comes call ok e → AreFull history blocks → AreFull (after history (e ∷ [])) blocks
+full_kept history blocks on_disk (Reads m) ok e is came full k lt c left = full k lt c (subst (λ (ev : Event). MayStand (after history (ev ∷ [])) (get_or blocks k 0) c) came left)
+full_kept history blocks on_disk (Writes m content) ok e is came full k lt c left =
+    ⊎_elim (λ here. ap (λ (x : List ℕ). length x) here.1 ∙ is) (λ before. full k lt c before) (subst (λ (ev : Event). MayStand (after history (ev ∷ [])) (get_or blocks k 0) c) came.2 left)
+full_kept history blocks on_disk Syncs ok e is came full k lt c left =
+    full k lt c (sync_narrows Whole (λ x. refl) history.base history.journal ok (get_or blocks k 0) (on_disk.inside k lt) c (subst (λ (ev : Event). MayStand (after history (ev ∷ [])) (get_or blocks k 0) c) came left))
 
 -- Where no write since the last sync may change the area, as at the start of a run or behind the sync of a new area, what stands
 -- is what a stop leaves, whatever is found in it.

@@ -20,7 +20,7 @@ use Rattle.ark_entry.proofs.Repairing.{at_read, length-read, finds_fit, read_sta
 use Rattle.ark_caladan.specs.Chain.{blocks_of}
 use Rattle.ark_caladan.specs.Leaves.{AreRingBlocks, LiesInRing}
 use Rattle.ark_caladan.specs.Views.{OnDisk, contents_at, view_of, repaired}
-use Rattle.ark_caladan.specs.Listed.{IsFoundIn, AllFull}
+use Rattle.ark_caladan.specs.Listed.{IsFoundIn, AreFull}
 use Rattle.ark_caladan.specs.Stages.{Stage, syncs, calls_of, call_of, Moment, resting, after_calls, took_by, IsAt}
 use Rattle.ark_caladan.specs.Leading.{IsBetween, IsFound, Leads}
 use Rattle.ark_caladan.specs.Plans.{CanWait}
@@ -232,7 +232,7 @@ module _ (kind : Kind) (room : ℕ) (blocks : List ℕ) where
       either false = refl
 
       -- at each moment of it the list that it found stands, and a stop leaves nothing else
-      pub repair_kept : (choices : List Found) → Contains choices (found r.list) → AllFull history → IsFoundIn kind history blocks (found r.list) choices
+      pub repair_kept : (choices : List Found) → Contains choices (found r.list) → AreFull history blocks → IsFoundIn kind history blocks (found r.list) choices
       repair_kept choices has full =
           let s = at_stage in
           subst (λ (z : Found). IsFoundIn kind history blocks z choices) (either (after_calls s.before (get_or stages done syncs) n).took)
@@ -253,7 +253,7 @@ module _ (kind : Kind) (room : ℕ) (blocks : List ℕ) where
                 s.before (get_or stages done syncs) s.behind s.plan n lt e came (subst (λ (f : Moment). IsAt history blocks f) (s.head n) inside.at));
           }
 
-      pub repair_failed : (choices : List Found) → Contains choices (found r.list) → (e : Event) → AllFull (after history (e ∷ [])) → n < calls_of (get_or stages done syncs)
+      pub repair_failed : (choices : List Found) → Contains choices (found r.list) → (e : Event) → AreFull (after history (e ∷ [])) blocks → n < calls_of (get_or stages done syncs)
           → Comes (call_of blocks (get_or stages done syncs) n) false e → IsFoundIn kind (after history (e ∷ [])) blocks (found r.list) choices
       repair_failed choices has e full lt came =
           let s = at_stage in

@@ -7,7 +7,7 @@ use Rattle.ark_media.specs.Calls.{Comes}
 use Rattle.ark_entry.specs.Found.{Entries, Found, found}
 use Rattle.ark_caladan.specs.Chain.{Command, after_command, Waiting, Opened, Log, commands, entries, oldest_of, pending, in_progress, stored, stored_after, lists, list_choices}
 use Rattle.ark_caladan.specs.Views.{OnDisk, Elsewhere, AreApart}
-use Rattle.ark_caladan.specs.Listed.{IsFoundIn, IsListed, AllFull, SameAt}
+use Rattle.ark_caladan.specs.Listed.{IsFoundIn, IsListed, AreFull, SameAt}
 use Rattle.ark_caladan.specs.Stages.{Stage, syncs, calls_of, call_of, took_by}
 use Rattle.ark_caladan.specs.Plans.{stages_of, CanWait}
 use Rattle.ark_caladan.specs.Open.{Layout, layout_after, oldest_stages, log_moment, oldest, IsOpenWith}
@@ -23,7 +23,7 @@ module _ (blocks : List ℕ) (g : Log) (p : Layout) where
   oldest_is (w ∷ ws) took = refl
 
   -- an open log that goes on is as listed
-  pub proceeds_listed : (history : History) (o : Opened) (progress : Progress) → g.opened ≡ Some o → AllFull history → Proceeds history blocks g o p progress → IsListed history blocks g
+  pub proceeds_listed : (history : History) (o : Opened) (progress : Progress) → g.opened ≡ Some o → AreFull history blocks → Proceeds history blocks g o p progress → IsListed history blocks g
   proceeds_listed history o progress is full goes =
       let took : Bool = (log_moment g.kind (g.blocks - 1) p (entries g.list) (commands o) o.done (calls_made (stage_at g o p) progress)).took in
       let c : oldest (commands o) took ≡ in_progress g = oldest_is o.waiting took ∙ ap (λ (t : Bool). oldest_of o.waiting t) (sym goes.decided) ∙ ap (λ (x : Option Opened). pending x g.left) (sym is) in
@@ -32,7 +32,7 @@ module _ (blocks : List ℕ) (g : Log) (p : Layout) where
       (open_kept g.kind (g.blocks - 1) blocks p (entries g.list) history (commands o) o.done (calls_made (stage_at g o p) progress) full goes.is_open))
 
   -- At each moment, whatever the log does: what stands is its stored list, and what a stop may leave is listed.
-  pub stands_listed : (history : History) (progress : Progress) (x : Option Opened) → g.opened ≡ x → AllFull history → LogStandsAs history blocks g p progress x → IsListed history blocks g
+  pub stands_listed : (history : History) (progress : Progress) (x : Option Opened) → g.opened ≡ x → AreFull history blocks → LogStandsAs history blocks g p progress x → IsListed history blocks g
   stands_listed history progress None is full here = here
   stands_listed history progress (Some o) is full here = by (makes_calls o progress) here
     where
@@ -77,7 +77,7 @@ module _ (blocks : List ℕ) (g : Log) (p : Layout) where
         }
 
     -- It fails: the log makes no more calls.
-    pub call_failed : (e : Event) → AllFull (after history (e ∷ [])) → calls < calls_of stage → Comes (call_of blocks stage calls) false e → IsListed (after history (e ∷ [])) blocks (with (after_event o stage e))
+    pub call_failed : (e : Event) → AreFull (after history (e ∷ [])) blocks → calls < calls_of stage → Comes (call_of blocks stage calls) false e → IsListed (after history (e ∷ [])) blocks (with (after_event o stage e))
     call_failed e full lt came =
         let took : Bool = took_by (log_moment g.kind (g.blocks - 1) p (entries g.list) (commands o) o.done calls).took stage e in
         let same : oldest (commands o) (took_by (log_moment g.kind (g.blocks - 1) p (entries g.list) (commands o) o.done calls).took stage e) ≡ oldest_of o.waiting (took_by o.decided stage e) =
@@ -149,7 +149,7 @@ module _ (blocks : List ℕ) (g : Log) (p : Layout) where
       }
 
   -- A log that makes no more calls, with a descriptor that ended without one or because it is closed, is as listed.
-  pub stops : (history : History) (o : Opened) (progress : Progress) → AllFull history → g.opened ≡ Some o → Proceeds history blocks g o p progress
+  pub stops : (history : History) (o : Opened) (progress : Progress) → AreFull history blocks → g.opened ≡ Some o → Proceeds history blocks g o p progress
       → IsListed history blocks g × IsListed history blocks (record g { left = in_progress g; opened = None })
   stops history o progress full is goes = (proceeds_listed history o progress is full goes, proceeds_listed history o progress is full goes)
 

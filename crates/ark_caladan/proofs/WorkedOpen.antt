@@ -1,5 +1,5 @@
 -- A log in five blocks of a device with two commands that wait, worked out: what the laws of an open log ask for can be met.
-use Rattle.std.proofs.Common.{inl, ℕ, Bool, true, false, List, [], ◌∷◌, length, Some, None, refl, ◌∙◌, ap, arith}
+use Rattle.std.proofs.Common.{inl, ℕ, Bool, true, false, List, [], ◌∷◌, length, get_or, Some, None, refl, ◌∙◌, ap, arith}
 use Rattle.std.specs.Prelude.{Contains}
 use Rattle.ark_base.specs.declared.kind.Kind.TheVariants.{Log}
 use Rattle.ark_media.specs.Blocks.{blocks_in}
@@ -13,7 +13,7 @@ use Rattle.ark_entry.proofs.WorkedRings.{payload, stored}
 use Rattle.ark_caladan.specs.Chain.{Command, append, trim, after_command, Opened, lists}
 use Rattle.ark_caladan.specs.Chain as chain
 use Rattle.ark_caladan.specs.Views.{contents_at, view_of}
-use Rattle.ark_caladan.specs.Listed.{IsListed, AllFull}
+use Rattle.ark_caladan.specs.Listed.{IsListed, AreFull}
 use Rattle.ark_caladan.specs.Stages.{Stage, call_of, resting, IsAt}
 use Rattle.ark_caladan.specs.Plans.{CanWait}
 use Rattle.ark_caladan.specs.Open.{Layout}
@@ -33,8 +33,8 @@ at_first = record { base = device; journal = [] }
 pub at_rest : IsAt at_first blocks (resting (view_of 4 zero_block 0 stored) false)
 at_rest = record { left = λ k lt c is. inl (is ∙ stands k lt); there = λ i lt. absurd (omega (arith, lt)); others = λ k lt none. stands k lt }
 
-pub full : AllFull at_first
-full n lt c is = ap (λ (x : List ℕ). length x) is ∙ whole n lt
+pub full : AreFull at_first blocks
+full k lt c is = ap (λ (x : List ℕ). length x) is ∙ whole (get_or blocks k 0) ((on_device device refl).inside k lt)
 
 abbrev pub opened_with : List chain.Waiting → Opened
 opened_with ws = record { card = []; failed = false; header_frame = 0; waiting = ws; done = 0; decided = false }
@@ -86,9 +86,9 @@ made = call_made blocks (log_with appending) layout at_first appending (posted 0
 abbrev second_write : Event
 second_write = event_of (call_of blocks body 1) true false
 
-full_then : AllFull (after at_second (second_write ∷ []))
+full_then : AreFull (after at_second (second_write ∷ [])) blocks
 unfolding blocks_in
-full_then = full_kept at_second (call_of blocks body 1) false second_write refl (true, (λ x. absurd (cc)), refl) (full_kept at_first (call_of blocks body 0) true first_write refl (true, (λ x. x), refl) full)
+full_then = full_kept at_second blocks (on_device device refl) (call_of blocks body 1) false second_write refl (true, (λ x. absurd (cc)), refl) (full_kept at_first blocks (on_device device refl) (call_of blocks body 0) true first_write refl (true, (λ x. x), refl) full)
 
 abbrev failed_log : chain.Log
 failed_log = log_with (after_event (after_event appending body first_write) body second_write)

@@ -5,7 +5,7 @@ use Rattle.ark_media.specs.Journal.{Event, History, Write, Sync, zero_block}
 use Rattle.ark_media.specs.Standing.{after}
 use Rattle.ark_entry.specs.Found.{found}
 use Rattle.ark_caladan.specs.Chain.{trim, after_command, Opened}
-use Rattle.ark_caladan.specs.Listed.{IsListed, AllFull}
+use Rattle.ark_caladan.specs.Listed.{IsListed, AreFull}
 use Rattle.ark_caladan.specs.Stages.{Stage, call_of}
 use Rattle.ark_caladan.specs.Plans.{CanWait}
 use Rattle.ark_caladan.specs.Open.{layout_after}
@@ -37,8 +37,8 @@ heading = stage_at (log_with trimming) trimming layout
 abbrev header_write : Bool → Event
 header_write ok = event_of (call_of blocks heading 0) true ok
 
-header_full : (ok : Bool) → AllFull (after at_first (header_write ok ∷ []))
-header_full ok = full_kept at_first (call_of blocks heading 0) ok (header_write ok) refl (true, (λ x. refl), refl) full
+header_full : (ok : Bool) → AreFull (after at_first (header_write ok ∷ [])) blocks
+header_full ok = full_kept at_first blocks (on_device device refl) (call_of blocks heading 0) ok (header_write ok) refl (true, (λ x. refl), refl) full
 
 header_failed : IsListed (after at_first (header_write false ∷ [])) blocks (log_with (after_event trimming heading (header_write false)))
 header_failed = call_failed blocks (log_with trimming) layout at_first trimming (posted 0) (starts blocks (log_with trimming) layout at_first trimming trims) (omega arith)

@@ -26,9 +26,10 @@ IsListed history blocks g = IsFoundIn g.kind history blocks (stored g) (lists g)
 abbrev pub OpensToLists : History → List ℕ → Log → Type 0
 OpensToLists history blocks g = (contents : List (List ℕ)) → MayShow history blocks contents → Contains (lists g) (found_of g.kind contents)
 
--- each content that a stop may leave of a block has 512 bytes
-abbrev pub AllFull : History → Type 0
-AllFull history = (n : ℕ) → n < length history.base → (content : List ℕ) → MayStand history n content → length content ≡ 512
+-- each content that a stop may leave of these blocks has 512 bytes
+abbrev pub AreFull : History → List ℕ → Type 0
+AreFull history blocks = (k : ℕ) → k < length blocks → (content : List ℕ)
+    → MayStand history (get_or blocks k 0) content → length content ≡ 512
 
 -- a call that writes a block writes 512 bytes
 abbrev pub WritesFull : Call → Type 0

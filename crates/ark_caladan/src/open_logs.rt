@@ -17,7 +17,7 @@ ghost use Rattle.ark_caladan.specs.Chain.{entries, commands, stored, lists, in_p
 ghost use Rattle.ark_caladan.specs.Numbers.{CanFollow};
 ghost use Rattle.ark_caladan.specs.Leaves.{LiesInRing, freed_by};
 ghost use Rattle.ark_caladan.specs.Views.{OnDisk, Elsewhere, AreApart, contents_at, repaired};
-ghost use Rattle.ark_caladan.specs.Listed.{IsListed, AllFull, WritesFull, SameAt};
+ghost use Rattle.ark_caladan.specs.Listed.{IsListed, AreFull, WritesFull, SameAt};
 ghost use Rattle.ark_caladan.specs.Stages.{syncs, calls_of, call_of};
 ghost use Rattle.ark_caladan.specs.Plans.{stages_of, phase_of, ring_place, added_by, CanWait};
 ghost use Rattle.ark_caladan.specs.Postings.{flushes, posted_call, postings_of, place_behind};
@@ -32,7 +32,7 @@ ghost use Rattle.ark_caladan.specs.Standing.{Proceeds, LogStands};
 /// Blocks of 512 bytes stay so. Where no write since the last sync may change an area, a log that is not open there is what is found.
 pub fn log_laws()
     ensures listed { (history : History) (blocks : List ℕ) (g : Log) (p : Layout)
-        (progress : Progress) → AllFull history → LogStands history blocks g p progress
+        (progress : Progress) → AreFull history blocks → LogStands history blocks g p progress
         → IsListed history blocks g }
     ensures left_found { (history : History) (blocks : List ℕ) (g : Log)
         → OnDisk blocks history.base → IsListed history blocks g
@@ -46,8 +46,9 @@ pub fn log_laws()
         → SameAt history (after history (e ∷ [])) blocks }
     ensures output { (history : History) (blocks bytes : List ℕ)
         → SameAt history (after history (Out bytes ∷ [])) blocks }
-    ensures full { (history : History) (call : Call) (ok : Bool) (e : Event) → WritesFull call
-        → Comes call ok e → AllFull history → AllFull (after history (e ∷ [])) }
+    ensures full { (history : History) (blocks : List ℕ) → OnDisk blocks history.base
+        → (call : Call) (ok : Bool) (e : Event) → WritesFull call → Comes call ok e
+        → AreFull history blocks → AreFull (after history (e ∷ [])) blocks }
     ensures settled { (history : History) (blocks : List ℕ) (g : Log) → OnDisk blocks history.base
         → ((k : ℕ) → k < length blocks → (c : List ℕ) → MayStand history (get_or blocks k 0) c
         → c ≡ block (current history.base history.journal) (get_or blocks k 0))
@@ -70,7 +71,7 @@ pub fn call_laws()
         Proceeds (after history (e ∷ [])) blocks (record g { opened = Some o2 }) o2 p further }
     ensures failed { (blocks : List ℕ) (g : Log) (p : Layout) (history : History) (o : Opened)
         (progress : Progress) → Proceeds history blocks g o p progress → 0 < length (commands o)
-        → (e : Event) → AllFull (after history (e ∷ [])) → let s = stage_at g o p in
+        → (e : Event) → AreFull (after history (e ∷ [])) blocks → let s = stage_at g o p in
         calls_made s progress < calls_of s
         → Comes (call_of blocks s (calls_made s progress)) false e
         → IsListed (after history (e ∷ [])) blocks
@@ -102,7 +103,7 @@ pub fn call_laws()
         → let o2 = record o { waiting = o.waiting ++ w ∷ [] } in
         Proceeds history blocks (record g { opened = Some o2 }) o2 p progress }
     ensures stops { (blocks : List ℕ) (g : Log) (p : Layout) (history : History) (o : Opened)
-        (progress : Progress) → AllFull history → g.opened ≡ Some o
+        (progress : Progress) → AreFull history blocks → g.opened ≡ Some o
         → Proceeds history blocks g o p progress → IsListed history blocks g
         × IsListed history blocks (record g { left = in_progress g; opened = None }) }
 {}
@@ -126,7 +127,7 @@ pub fn repair_laws()
         → Repairing kind room (after history (e ∷ [])) blocks r 0 0 }
     ensures listed { (kind : Kind) (room : ℕ) (blocks : List ℕ) (r : Repair) (history : History)
         (done n : ℕ) → Repairing kind room history blocks r done n
-        → (g : Log) → g.kind ≡ kind → stored g ≡ found r.list → AllFull history
+        → (g : Log) → g.kind ≡ kind → stored g ≡ found r.list → AreFull history blocks
         → IsListed history blocks g }
     ensures made { (kind : Kind) (room : ℕ) (blocks : List ℕ) (r : Repair) (history : History)
         (done n : ℕ) → Repairing kind room history blocks r done n
@@ -136,7 +137,7 @@ pub fn repair_laws()
     ensures failed { (kind : Kind) (room : ℕ) (blocks : List ℕ) (r : Repair) (history : History)
         (done n : ℕ) → Repairing kind room history blocks r done n
         → (g : Log) → g.kind ≡ kind → stored g ≡ found r.list
-        → (e : Event) → AllFull (after history (e ∷ []))
+        → (e : Event) → AreFull (after history (e ∷ [])) blocks
         → let s = get_or (repair_stages room r) done syncs in n < calls_of s
         → Comes (call_of blocks s n) false e → IsListed (after history (e ∷ [])) blocks g }
     ensures written { (kind : Kind) (room : ℕ) (blocks : List ℕ) (r : Repair) (history : History)

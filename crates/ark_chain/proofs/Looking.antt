@@ -4,11 +4,11 @@ use Rattle.std.specs.Prelude.{Result, Ok, Err, is_ok}
 use Rattle.std.specs.Result.{IsErr}
 use Rattle.std.proofs.lemmas.List.{map-append}
 use Rattle.ark_media.specs.Journal.{Event, History, onto, current}
-use Rattle.ark_media.specs.Calls.{Call, Reads, Told, Tells, Makes, Went}
+use Rattle.ark_media.specs.Calls.{Call, Reads, Told, Tells, Makes, Went, OnTold}
 use Rattle.ark_media.proofs.Planning.{went_then}
 use Rattle.ark_media.proofs.Stopping.{length-current}
 use Rattle.ark_media.specs.declared.outside.DiskFailed.{DiskFailed}
-use Rattle.ark_chain.specs.Survey.{OnTold, block_at, reads, reads_at, last_of, ends_of, Rise}
+use Rattle.ark_chain.specs.Survey.{block_at, reads, reads_at, last_of, ends_of, Rise}
 use Rattle.ark_chain.specs.Walking.{HasLooked}
 use Rattle.ark_chain.proofs.Places.{last_none, last_some}
 

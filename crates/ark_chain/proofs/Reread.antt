@@ -2,9 +2,9 @@
 use Rattle.std.proofs.Common.{◌≡◌, ℕ, ◌+◌, ◌-◌, ◌*◌, ◌%◌, ◌<◌, ◌≤◌, List, [], true, false, Some, None, length, map, take, drop, slice_range, refl, sym, ◌∙◌, ap, arith}
 use Rattle.std.proofs.lemmas.List.{length-drop, get_or-drop}
 use Rattle.ark_media.specs.Journal.{Event, History, AllBlocks, block, current}
-use Rattle.ark_media.specs.Calls.{Told, Tells, Went}
+use Rattle.ark_media.specs.Calls.{Told, Tells, Went, OnTold}
 use Rattle.ark_entry.specs.Entry.{entry_blocks, is_marked, entry_at, AreWhole, ring_bytes}
-use Rattle.ark_chain.specs.Survey.{OnTold, block_at, reads_at}
+use Rattle.ark_chain.specs.Survey.{block_at, reads_at}
 use Rattle.ark_chain.specs.Walking.{IsHead}
 use Rattle.ark_chain.specs.Single.{AddsBlock, AreRead}
 use Rattle.ark_chain.proofs.Looking.{still_told, same_blocks, image_long}

@@ -1,18 +1,14 @@
 -- What a survey of a log's or queue's area reads, and what it tells.
 use Rattle.std.specs.Prelude.{◌≡◌, ◌⊎◌, ◌≤◌, ◌<◌, ℕ, zero, suc, ◌+◌, ◌-◌, ◌%◌, ◌^◌, List, [], ◌∷◌, ◌++◌, All, length, take, map, sum_by, Bool, true, false, Some, Result, Ok, Err}
 use Rattle.ark_base.specs.declared.kind.Kind.{Kind}
-use Rattle.ark_media.specs.Journal.{Event, History, AllBlocks, block, current}
-use Rattle.ark_media.specs.Calls.{Call, Reads, Told, Went}
+use Rattle.ark_media.specs.Journal.{Event, AllBlocks, block}
+use Rattle.ark_media.specs.Calls.{Call, Reads, Told, Went, OnTold}
 use Rattle.ark_entry.specs.Header.{header_of}
 use Rattle.ark_entry.specs.Entry.{entry_blocks}
 use Rattle.ark_entry.specs.Found.{Entries, found, damaged, found_of}
 use Rattle.ark_chain.specs.declared.surveying.Seen.{Seen}
 use Rattle.ark_chain.specs.declared.surveying.SurveyFault.{SurveyFault}
 use Rattle.ark_chain.specs.declared.surveying.SurveyFault.TheVariants.{DeviceFault, Damaged}
-
--- of the current image, where it is told
-abbrev pub OnTold : Told → (List (List ℕ) → Type 0) → Type 0
-OnTold told Holds = (h : History) → told.history ≡ Some h → Holds (current h.base h.journal)
 
 -- the area's block that stands so far behind the start of a list in the ring; block 0 is the header's
 abbrev pub block_at : ℕ → ℕ → ℕ → ℕ

@@ -1,8 +1,8 @@
 ghost use Rattle.std.specs.Prelude.{◌≡◌, ◌<◌, ◌≤◌, ◌+◌, ◌-◌, ◌^◌, None, is_ok, IfOk, IfSome};
-ghost use Rattle.ark_media.specs.Calls.{Went};
+ghost use Rattle.ark_media.specs.Calls.{Went, OnTold};
 ghost use Rattle.ark_media.specs.Journal.{block};
 ghost use Rattle.ark_entry.specs.Entry as spec;
-ghost use Rattle.ark_chain.specs.Survey.{OnTold, block_at, last_of, reads_at};
+ghost use Rattle.ark_chain.specs.Survey.{block_at, last_of, reads_at};
 ghost use Rattle.ark_chain.specs.Walking.{IsHead, IsNoHead, IsNext, FitsAt, HasLooked};
 
 use crate::reading::Reading;

@@ -1,7 +1,7 @@
 ghost use Rattle.std.specs.Prelude.{◌≡◌, ◌≤◌, ◌<◌, ◌+◌, ◌*◌, ◌^◌, [], ◌∷◌, length, take, drop, is_ok, IfOk, OnOk};
-ghost use Rattle.ark_media.specs.Calls.{Went};
+ghost use Rattle.ark_media.specs.Calls.{Went, OnTold};
 ghost use Rattle.ark_entry.specs.Entry as spec;
-ghost use Rattle.ark_chain.specs.Survey.{OnTold, reads_at};
+ghost use Rattle.ark_chain.specs.Survey.{reads_at};
 ghost use Rattle.ark_chain.specs.Single.{HasReadBlocks, HasReadEntry, HasReadOn, AddsBlock, AreRead, IsEntryOf};
 
 use crate::next::head_len;

@@ -1,6 +1,6 @@
 ghost use Rattle.std.specs.Prelude.{◌≡◌, ◌≤◌, ◌<◌, ◌+◌, ◌^◌, [], ◌∷◌, is_ok, length, IfOk, OnOk};
-ghost use Rattle.ark_media.specs.Calls.{Went, Reads};
-ghost use Rattle.ark_chain.specs.Survey.{OnTold, HasSurveyed, IsSurvey, IsSeen, is_read};
+ghost use Rattle.ark_media.specs.Calls.{Went, Reads, OnTold};
+ghost use Rattle.ark_chain.specs.Survey.{HasSurveyed, IsSurvey, IsSeen, is_read};
 ghost use Rattle.ark_chain.specs.Walking.{HasWalked, HasEntries, IsHeader, IsHeadOf, AreFound};
 
 use crate::next::next_entry;

@@ -9,7 +9,7 @@ use Rattle.ark_base.specs.declared.kind.Kind.{Kind}
 use Rattle.ark_base.specs.declared.kind.Kind.TheVariants.{Raw, Log, Queue}
 use Rattle.ark_base.specs.Name.{is_name}
 use Rattle.ark_media.specs.Journal.{History, AllBlocks, block, current}
-use Rattle.ark_media.specs.Calls.{Told}
+use Rattle.ark_media.specs.Calls.{Told, OnTold}
 use Rattle.ark_media.proofs.Stopping.{length-current}
 use Rattle.ark_extents.specs.Blocks.{runs_of, blocks_of}
 use Rattle.ark_extents.specs.Runs.{are_spans}
@@ -28,7 +28,6 @@ use Rattle.ark_table.proofs.Spelling.{count_is}
 use Rattle.ark_entry.specs.Found.{damaged, found_of}
 use Rattle.ark_chain.specs.declared.surveying.Seen.{Seen}
 use Rattle.ark_chain.specs.declared.surveying.SurveyFault.{SurveyFault}
-use Rattle.ark_chain.specs.Survey as survey
 use Rattle.ark_chain.specs.Survey.{HasFound, IsSurvey, IsAnswer}
 use Rattle.ark_check.specs.declared.contents.Contents.TheVariants.{Found, Damaged}
 use Rattle.ark_check.specs.Report.{contents, found_words}
@@ -101,7 +100,7 @@ view_whole blocks image whole inside =
 
 -- what a survey of the view told, of the disk's image
 pub view_surveyed : (kind : Kind) (result : Result Seen SurveyFault) (lengths spans blocks : List ℕ) (new last : Told) → spans ≡ blocks → new ≡ last → ArePlaced spans → All (λ n. n < new.blocks) spans
-    → ((h : History) → new.history ≡ Some h → length h.base ≡ new.blocks) → survey.OnTold (view_told spans new) (IsSurvey kind result lengths)
+    → ((h : History) → new.history ≡ Some h → length h.base ≡ new.blocks) → OnTold (view_told spans new) (IsSurvey kind result lengths)
     → (h : History) → last.history ≡ Some h → AllBlocks (current h.base h.journal) → IsAnswer kind result lengths (view_image blocks (current h.base h.journal))
 view_surveyed kind result lengths spans blocks new last same end placed inside size surveyed h told whole =
     let here : new.history ≡ Some h = ap (λ (t : Told). t.history) end ∙ told in

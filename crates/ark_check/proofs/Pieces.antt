@@ -3,12 +3,11 @@ use Rattle.std.proofs.Common.{◌≡◌, ◌∙◌, inr, ⊎_elim, ℕ, Bool, tr
 use Rattle.std.specs.Prelude.{Result}
 use Rattle.ark_base.specs.declared.status.Status.{Status}
 use Rattle.ark_base.specs.declared.status.Status.TheVariants.{Done, Usage, Source, Sink, Device, Memory, Damaged, Long}
-use Rattle.ark_media.specs.Journal.{Event, Read, Write, Sync, Out, AllBlocks, onto, current, output_of, device_events, HasFailed}
-use Rattle.ark_media.specs.Calls.{Told, Beside, Tells, KeepsBeside, Rose}
+use Rattle.ark_media.specs.Journal.{Event, Read, Write, Sync, Out, AllBlocks, onto, current, output_of, device_events, HasFailed, AreReads}
+use Rattle.ark_media.specs.Calls.{Told, Beside, Tells, KeepsBeside, Rose, OnTold}
 use Rattle.ark_media.specs.Going.{failed_append}
 use Rattle.ark_media.proofs.Composing.{goes_none, goes_kept, goes_then, output_of-append, device_events-append, devices_silent}
-use Rattle.ark_table.specs.Loading.{OnTold}
-use Rattle.ark_check.specs.Reading.{AreReads, IsReading}
+use Rattle.ark_check.specs.Reading.{IsReading}
 use Rattle.ark_check.specs.Putting.{CameOut, EndedBy, PutsText}
 
 abbrev Text : Type 0

@@ -2,11 +2,11 @@
 use Rattle.std.proofs.Common.{◌≡◌, ℕ, Bool, true, false, List, [], ◌∷◌, inl, inr, ⊎_elim, refl, sym, subst}
 use Rattle.std.specs.Prelude.{map}
 use Rattle.std.proofs.lemmas.Bool.{false≢true}
-use Rattle.ark_media.specs.Journal.{Event, Read, Write, Sync, Out, HasFailed}
+use Rattle.ark_media.specs.Journal.{Event, Read, Write, Sync, Out, HasFailed, AreReads}
 use Rattle.ark_media.specs.Calls.{Makes, GoesBy}
 use Rattle.ark_extents.specs.Views.{outer, GoesOver}
 use Rattle.ark_chain.specs.Survey.{reads}
-use Rattle.ark_check.specs.Reading.{AreReads, IsReading}
+use Rattle.ark_check.specs.Reading.{IsReading}
 
 pub none_read : IsReading true []
 none_read = record { reads = tt; failed = λ no. absurd (false≢true (sym no)); worked = λ yes bad. bad }

@@ -2,14 +2,12 @@
 use Rattle.std.specs.Prelude.{◌≡◌, ℕ, List, [], ◌∷◌, ◌++◌, Option, Some, None, Result, Ok, Err}
 use Rattle.ark_base.specs.declared.status.Status.{Status}
 use Rattle.ark_base.specs.declared.status.Status.TheVariants.{Device, Sink}
-use Rattle.ark_media.specs.Journal.{Event, AllBlocks, output_of, device_events, HasFailed}
-use Rattle.ark_media.specs.Calls.{Told, Beside, Goes, Rose}
+use Rattle.ark_media.specs.Journal.{Event, AllBlocks, output_of, device_events, HasFailed, AreReads}
+use Rattle.ark_media.specs.Calls.{Told, Beside, Goes, Rose, OnTold}
 use Rattle.ark_table.specs.Area.{Area}
-use Rattle.ark_table.specs.Loading.{OnTold}
 use Rattle.ark_table.specs.Slots.{slot_at}
 use Rattle.ark_table.specs.Table.{slots_in}
 use Rattle.ark_check.specs.Report.{slot_line, lines_with, text_of}
-use Rattle.ark_check.specs.Reading.{AreReads}
 
 -- all of a text came out, or where it ended before that a prefix
 abbrev pub CameOut : Result (Unit {0}) Status → List ℕ → List ℕ → Type 0

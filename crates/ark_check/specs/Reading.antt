@@ -1,18 +1,12 @@
 -- How the contents of areas are read for a report.
 use Rattle.std.specs.Prelude.{◌≡◌, ℕ, Bool, true, false, List, [], ◌∷◌, ◌++◌, codes, decimal}
 use Rattle.ark_base.specs.declared.kind.Kind.{Kind}
-use Rattle.ark_media.specs.Journal.{Event, Read, HasFailed}
+use Rattle.ark_media.specs.Journal.{Event, HasFailed, AreReads}
 use Rattle.ark_table.specs.declared.slot.Slot as slot
 use Rattle.ark_table.specs.Slots.{Slot}
 use Rattle.ark_check.specs.declared.contents.Contents.{Contents}
 use Rattle.ark_check.specs.declared.contents.Contents.TheVariants.{Raw, Found, Damaged}
 use Rattle.ark_check.specs.Report.{contents}
-
--- reads, and nothing else
-abbrev pub AreReads : List Event → Type 0
-AreReads [] = Unit {0}
-AreReads (Read n ok ∷ es) = AreReads es
-AreReads _ = ⊥
 
 -- reads, of which one failed or none
 pub record IsReading (ok : Bool) (es : List Event) : Type 0 where

@@ -1,9 +1,8 @@
 ghost use Rattle.std.specs.Prelude.{◌≡◌, ◌≤◌, ◌+◌, true, is_ok, length, IfOk};
 ghost use Rattle.ark_media.specs.Journal.{AllBlocks};
-ghost use Rattle.ark_media.specs.Calls.{GoesBy};
+ghost use Rattle.ark_media.specs.Calls.{GoesBy, OnTold};
 ghost use Rattle.ark_extents.specs.Views.{view_image};
 ghost use Rattle.ark_table.specs.Area.{is_area};
-ghost use Rattle.ark_table.specs.Loading.{OnTold};
 ghost use Rattle.ark_table.specs.Stated.{stated};
 ghost use Rattle.ark_check.specs.Reading.{IsReading, AreContents};
 

@@ -3,8 +3,8 @@ use Rattle.std.proofs.Common.{◌≡◌, ◌∙◌, inl, inr, ℕ, Bool, true, L
 use Rattle.std.specs.Prelude.{Option, Result}
 use Rattle.ark_base.specs.declared.status.Status.{Status}
 use Rattle.ark_base.specs.declared.status.Status.TheVariants.{Done, Usage, Source, Sink, Device, Memory, Damaged, Long}
-use Rattle.ark_media.specs.Journal.{Event, Read, Write, Sync, Out, History, AllBlocks, onto, current, output_of, device_events, HasFailed}
-use Rattle.ark_media.specs.Calls.{Told, Beside, Makes}
+use Rattle.ark_media.specs.Journal.{Event, Read, Write, Sync, Out, History, AllBlocks, onto, current, output_of, device_events, HasFailed, AreReads}
+use Rattle.ark_media.specs.Calls.{Told, Beside, Makes, OnTold}
 use Rattle.ark_media.specs.Going.{failed_append}
 use Rattle.ark_media.specs.Standing.{after}
 use Rattle.ark_media.proofs.Composing.{output_of-append, device_events-append, devices_silent}
@@ -12,28 +12,19 @@ use Rattle.ark_media.proofs.Planning.{makes_devices}
 use Rattle.ark_table.specs.Area.{Area}
 use Rattle.ark_table.specs.Slots.{Slot, slots_of}
 use Rattle.ark_table.specs.Table.{HasTable, slots_in}
-use Rattle.ark_table.specs.Loading.{OnTold, IsFirstDamaged, read_calls, is_read}
+use Rattle.ark_table.specs.Loading.{IsFirstDamaged, read_calls, is_read}
 use Rattle.ark_table.specs.declared.fault.LoadFault.{LoadFault}
 use Rattle.ark_table.specs.declared.fault.LoadFault.TheVariants as fault
 use Rattle.ark_table.proofs.Tables.{table_is_read}
 use Rattle.ark_check.specs.Report.{report_lines, lines_with}
-use Rattle.ark_check.specs.Reading.{AreReads}
 use Rattle.ark_check.specs.Putting.{CameOut, EndedBy, PutsText, report_text}
 use Rattle.ark_check.proofs.Pieces.{reads_append, reads_leave, so_before}
-use Rattle.ark_host.specs.Loaded as loaded
 use Rattle.ark_host.specs.Loaded.{as_found}
 use Rattle.ark_host.proofs.Reading.{reads_of}
 use Rattle.ark_cli.specs.Opening.{old_device, Since, HeedsDamage, status_for}
 use Rattle.ark_cli.specs.Checking.{Shows, EndsBy, IsReported}
 use Rattle.ark_cli.proofs.Attaching.{load_fails, made_well}
 use Rattle.ark_cli.proofs.Openings.{since_then}
-
-are_reads : (es : List Event) → loaded.AreReads es → AreReads es
-are_reads [] are = tt
-are_reads (Read n ok ∷ es) are = are_reads es are
-are_reads (Write n content took ok ∷ es) are = absurd are
-are_reads (Sync ok ∷ es) are = absurd are
-are_reads (Out bytes ∷ es) are = absurd are
 
 module _ (image : List (List ℕ)) (device : List ℕ) (t0 t1 : Told) (b0 b1 : Beside) (count : ℕ) (ok : Bool) (es : List Event) (made : Makes (read_calls count) ok es) (since : Since (old_device image) device es [] t0 t1 b0 b1) where
   alone : device_events es ≡ es
@@ -43,7 +34,7 @@ module _ (image : List (List ℕ)) (device : List ℕ) (t0 t1 : Told) (b0 b1 : B
   silent = devices_silent es alone
 
   reads : AreReads (device_events es)
-  reads = subst AreReads (sym alone) (are_reads es (reads_of count ok es made))
+  reads = subst AreReads (sym alone) (reads_of count ok es made)
 
   -- no line came out
   nothing : (status : Status) → EndsBy status es → HeedsDamage (old_device image) t1 status es → ((h : History) → t1.history ≡ Some h → Shows image status []) → IsReported image device [] t0 t1 b0 b1 status

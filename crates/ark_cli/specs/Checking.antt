@@ -2,10 +2,9 @@
 use Rattle.std.specs.Prelude.{◌≡◌, ◌⊎◌, ℕ, List, [], ◌∷◌, ◌++◌, Some, Ok, Err}
 use Rattle.ark_base.specs.declared.status.Status.{Status}
 use Rattle.ark_base.specs.declared.status.Status.TheVariants.{Done, Sink, Device, Memory, Damaged}
-use Rattle.ark_media.specs.Journal.{Event, History, output_of, device_events, HasFailed}
+use Rattle.ark_media.specs.Journal.{Event, History, output_of, device_events, HasFailed, AreReads}
 use Rattle.ark_media.specs.Calls.{Told, Beside}
 use Rattle.ark_check.specs.Report.{report, text_of}
-use Rattle.ark_check.specs.Reading.{AreReads}
 use Rattle.ark_cli.specs.Opening.{old_device, Since, HeedsDamage}
 
 -- nothing came out, or the first bytes of the report

@@ -3,14 +3,13 @@ use Rattle.std.specs.Prelude.{◌≡◌, ◌+◌, ◌≤◌, ◌⊎◌, ℕ, tru
 use Rattle.ark_base.specs.Status.{code_of}
 use Rattle.ark_base.specs.declared.status.Status.{Status}
 use Rattle.ark_base.specs.declared.status.Status.TheVariants.{Done, Usage, Sink, Device, Memory, Long}
-use Rattle.ark_media.specs.Journal.{Event, onto, output_of, device_events, HasFailed}
+use Rattle.ark_media.specs.Journal.{Event, onto, output_of, device_events, HasFailed, AreReads}
 use Rattle.ark_media.specs.Calls.{Opening, Told, Rose}
 use Rattle.ark_media.specs.Parts.{parts}
 use Rattle.ark_script.specs.Lines.{lines_of}
 use Rattle.ark_script.specs.Text.{text}
 use Rattle.ark_script.specs.declared.said.Said.TheVariants.{Ready}
 use Rattle.ark_machine.specs.System.{System}
-use Rattle.ark_check.specs.Reading.{AreReads}
 use Rattle.ark_cli.specs.Words.{IsRun, IsCheck, AsksFor}
 use Rattle.ark_cli.specs.Checking as checking
 use Rattle.ark_cli.specs.Checking.{Shows}

@@ -4,7 +4,7 @@ use Rattle.std.specs.Prelude.{Option, Some, None, Ok, option_map}
 use Rattle.std.proofs.lemmas.List.Elements.{Contains-append_left, Contains-get_or}
 use Rattle.ark_base.specs.declared.kind.Kind.{Kind}
 use Rattle.ark_base.specs.declared.kind.Kind.TheVariants as kind
-use Rattle.ark_media.specs.Journal.{Event, Read, History, block, onto}
+use Rattle.ark_media.specs.Journal.{Event, Read, History, block, onto, AreReads}
 use Rattle.ark_media.specs.Calls.{Call, Reads, Writes, Syncs, Makes}
 use Rattle.ark_media.specs.Stops.{MayHold, MayLeave, Whole}
 use Rattle.ark_media.specs.Standing.{after}
@@ -26,7 +26,7 @@ use Rattle.ark_machine.specs.Recovers.{Recovers, object_of, object_maybe, object
 use Rattle.ark_laws.proofs.Stored.{stored_apart}
 use Rattle.ark_held.proofs.Fronts.{shows}
 use Rattle.ark_host.specs.Stored.{IsStoredArea}
-use Rattle.ark_host.specs.Loaded.{AreReads, as_found}
+use Rattle.ark_host.specs.Loaded.{as_found}
 use Rattle.ark_host.proofs.Fronts.{place_of}
 use Rattle.ark_host.proofs.Storing.{stored_found}
 use Rattle.ark_host.proofs.Tabling.{fit_in}

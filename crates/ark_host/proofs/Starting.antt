@@ -8,7 +8,7 @@ use Rattle.std.proofs.lemmas.List.{length-map, get_or-map, get_or_past}
 use Rattle.std.proofs.lemmas.List.Elements.{Contains-get_or}
 use Rattle.ark_base.specs.declared.kind.Kind.{Kind}
 use Rattle.ark_base.specs.declared.kind.Kind.TheVariants as kind
-use Rattle.ark_media.specs.Journal.{Event, Read, Write, Sync, Out, History, block, current, onto}
+use Rattle.ark_media.specs.Journal.{Event, Read, Write, Sync, Out, History, block, current, onto, AreReads}
 use Rattle.ark_media.specs.Calls.{Told}
 use Rattle.ark_media.specs.Stops.{MayHold, Whole}
 use Rattle.ark_media.specs.Standing.{after}
@@ -41,7 +41,7 @@ use Rattle.ark_host.specs.declared.host.Host.{Host}
 use Rattle.ark_host.specs.Tabled.{table_of, slot_count}
 use Rattle.ark_host.specs.Stored.{IsStoredArea, AllStored, HoldsStored, stored_slots}
 use Rattle.ark_host.specs.Stands.{IsUnmade, AtApp, app_of, area_count}
-use Rattle.ark_host.specs.Loaded.{AreReads, as_found, IsUnused, StandsLoaded, IsLoaded}
+use Rattle.ark_host.specs.Loaded.{as_found, IsUnused, StandsLoaded, IsLoaded}
 use Rattle.ark_host.proofs.Machines.{by_test}
 use Rattle.ark_host.proofs.Lists.{find_in, in_select}
 use Rattle.ark_host.proofs.Entries.{table_again, free_same}

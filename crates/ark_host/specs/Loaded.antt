@@ -1,6 +1,6 @@
 -- What a host is made of that is loaded from a device that was there.
 use Rattle.std.specs.Prelude.{◌≡◌, ◌≤◌, ◌<◌, ◌↔◌, ℕ, List, [], ◌∷◌, length, Option, Result, Ok, Some, None, OnOk, Contains}
-use Rattle.ark_media.specs.Journal.{Event, Read, History}
+use Rattle.ark_media.specs.Journal.{Event, History, AreReads}
 use Rattle.ark_media.specs.Calls.{Told, Went}
 use Rattle.ark_media.specs.Standing.{after}
 use Rattle.ark_extents.specs.Blocks.{blocks_of, runs_of, AreAmong, AreDistinct}
@@ -17,12 +17,6 @@ use Rattle.ark_machine.specs.Grants.{SlotsAgree}
 use Rattle.ark_machine.specs.Start.{start_system}
 use Rattle.ark_host.specs.declared.host.Host.{Host}
 use Rattle.ark_host.specs.Stands.{Stands}
-
--- reads alone
-abbrev pub AreReads : List Event → Type 0
-AreReads [] = Unit {0}
-AreReads (Read n ok ∷ es) = AreReads es
-AreReads _ = ⊥
 
 -- a device as it was found
 abbrev pub as_found : List (List ℕ) → History

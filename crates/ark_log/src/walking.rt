@@ -1,6 +1,6 @@
 ghost use Rattle.std.specs.Prelude.{◌≡◌, ◌≤◌, ◌+◌, ◌*◌, length, IfSome, IfNone, IfOk, IfErr, OnOk};
+ghost use Rattle.ark_media.specs.Calls.{OnTold};
 ghost use Rattle.ark_entry.specs.Entry as spec;
-ghost use Rattle.ark_chain.specs.Survey.{OnTold};
 ghost use Rattle.ark_chain.specs.Single.{AreRead};
 ghost use Rattle.ark_log.specs.Refused.{length_of};
 ghost use Rattle.ark_log.specs.Walked.{HasAt, IsEntryAt, IsNotRead, WentToRead, blocks_before, place_of};

@@ -27,6 +27,10 @@ pub record Told : Type 0 where
   pub blocks : ℕ
   pub faults : ℕ
 
+-- of the current image, where it is told
+abbrev pub OnTold : Told → (List (List ℕ) → Type 0) → Type 0
+OnTold told Holds = (h : History) → told.history ≡ Some h → Holds (current h.base h.journal)
+
 -- bytes of the script, taken and left
 pub record Script : Type 0 where
   pub taken : List ℕ

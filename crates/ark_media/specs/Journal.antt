@@ -54,6 +54,12 @@ abbrev pub HasFailed : List Event → Type 0
 HasFailed [] = ⊥
 HasFailed (e ∷ es) = (has_succeeded e ≡ false) ⊎ HasFailed es
 
+-- reads, and nothing else
+abbrev pub AreReads : List Event → Type 0
+AreReads [] = Unit {0}
+AreReads (Read n ok ∷ es) = AreReads es
+AreReads _ = ⊥
+
 -- a block of an image
 abbrev pub block : List (List ℕ) → ℕ → List ℕ
 block image n = get_or image n []

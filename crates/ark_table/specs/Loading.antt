@@ -1,7 +1,7 @@
 -- How a table is read from its device.
 use Rattle.std.specs.Prelude.{◌≡◌, ◌≤◌, ℕ, zero, suc, ◌+◌, List, [], ◌∷◌, ◌++◌, All, Bool, true, false, not, ◌&&◌, Result, Ok, Err, Option, Some, None, OnOk}
-use Rattle.ark_media.specs.Journal.{Event, History, block, current}
-use Rattle.ark_media.specs.Calls.{Call, Reads, Told, Went}
+use Rattle.ark_media.specs.Journal.{Event, block}
+use Rattle.ark_media.specs.Calls.{Call, Reads, Told, Went, OnTold}
 use Rattle.ark_table.specs.declared.fault.LoadFault.{LoadFault}
 use Rattle.ark_table.specs.declared.fault.LoadFault.TheVariants.{DeviceFault, Damaged, Memory}
 use Rattle.ark_table.specs.declared.slot.Slot.{Slot}
@@ -11,10 +11,6 @@ use Rattle.ark_table.specs.Area.{Area, area_in, is_area, is_free, is_used}
 use Rattle.ark_table.specs.Slots.{goes_with, share_no_block, is_same, slots_of}
 use Rattle.ark_table.specs.Table.{IsSlotBlock, held_in}
 use Rattle.ark_table.specs.Stated.{stated, stated_if, areas}
-
--- of the current image, where it is told
-abbrev pub OnTold : Told → (List (List ℕ) → Type 0) → Type 0
-OnTold told Holds = (h : History) → told.history ≡ Some h → Holds (current h.base h.journal)
 
 -- where a block is told to be damaged, it is the first one of the current image
 abbrev pub IsFirstDamaged : {T : Type 0} → Told → Result T LoadFault → Type 0

@@ -1,10 +1,10 @@
 ghost use Rattle.std.specs.Prelude.{◌≡◌, ◌≤◌, ◌<◌, ◌∷◌, [], Some, true, false, is_ok, length, Err, IfOk, OnOk, ℕ, Option, ◌++◌};
 ghost use Rattle.ark_media.specs.Journal.{block};
-ghost use Rattle.ark_media.specs.Calls.{Went, Reads};
+ghost use Rattle.ark_media.specs.Calls.{Went, Reads, OnTold};
 ghost use Rattle.ark_table.specs.Slots.{is_device};
 ghost use Rattle.ark_table.specs.Table.{HasTable};
 ghost use Rattle.ark_table.specs.Stated.{areas};
-ghost use Rattle.ark_table.specs.Loading.{HasRead, OnTold, IsFirstDamaged, IsNext, IsMore, IsDamagedAt, AreRight, SaysRight, is_read};
+ghost use Rattle.ark_table.specs.Loading.{HasRead, IsFirstDamaged, IsNext, IsMore, IsDamagedAt, AreRight, SaysRight, is_read};
 
 use crate::fault::LoadFault;
 use crate::going::goes_into;

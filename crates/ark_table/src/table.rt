@@ -1,9 +1,9 @@
 ghost use Rattle.std.specs.Prelude.{◌≡◌, ◌≤◌, ◌<◌, Err, All, ◌⊎◌, ◌↔◌, ℕ, Some, None, length, replicate, is_ok, IfOk, IfSome, OnOk, OnErr, MatchOption, not, is_some, count_by};
 ghost use Rattle.std.specs.List.{position};
-ghost use Rattle.ark_media.specs.Calls.{Went};
+ghost use Rattle.ark_media.specs.Calls.{Went, OnTold};
 ghost use Rattle.ark_table.specs.Area.{Area};
 ghost use Rattle.ark_table.specs.Table.{HasTable, slots_in};
-ghost use Rattle.ark_table.specs.Loading.{HasRead, OnTold, IsFirstDamaged, AreRight};
+ghost use Rattle.ark_table.specs.Loading.{HasRead, IsFirstDamaged, AreRight};
 ghost use Rattle.ark_table.specs.Plans.{create_calls, remove_calls};
 ghost use Rattle.ark_table.specs.Standing.{slot_in, with_slot, grown_area, grow_calls};
 ghost use Rattle.ark_table.specs.Stated.{stated};

@@ -1,11 +1,11 @@
 ghost use Rattle.std.specs.Prelude.{◌≡◌, ◌≤◌, false, ℕ, List, IfOk, IfErr, OnOk, length};
 ghost use Rattle.std.specs.List.Sorted.{IsStrictlyIncreasing};
-ghost use Rattle.ark_media.specs.Journal.{Event};
+ghost use Rattle.ark_media.specs.Journal.{Event, AreReads};
 ghost use Rattle.ark_table.specs.Loading.{IsFirstDamaged};
 ghost use Rattle.ark_table.specs.Standing.{slot_in};
 ghost use Rattle.ark_table.specs.Table.{HasTable};
 ghost use Rattle.ark_host.specs.Inside.{IsInside, IsShared};
-ghost use Rattle.ark_host.specs.Loaded.{AreReads, FailsEntry, IsLoaded, IsMisfit, IsUnused, ReadsTable, SpellsEntry, StandsLoaded, TakesEntry};
+ghost use Rattle.ark_host.specs.Loaded.{FailsEntry, IsLoaded, IsMisfit, IsUnused, ReadsTable, SpellsEntry, StandsLoaded, TakesEntry};
 ghost use Rattle.ark_host.specs.Time.{IsSound};
 
 use super::Host;

@@ -1,6 +1,6 @@
 use Rattle.std.proofs.Common.{◌≡◌, true}
-use Rattle.ark_media.specs.Calls.{Went}
-use Rattle.ark_chain.specs.Survey.{OnTold, reads_at}
+use Rattle.ark_media.specs.Calls.{Went, OnTold}
+use Rattle.ark_chain.specs.Survey.{reads_at}
 use Rattle.ark_chain.specs.Single.{AreRead, behind}
 use Rattle.ark_chain.proofs.single.read_on.Given as goal
 

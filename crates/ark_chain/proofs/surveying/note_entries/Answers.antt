@@ -1,8 +1,8 @@
+use Rattle.ark_media.specs.Calls.{OnTold}
 use Rattle.std.proofs.Common.{◌≡◌, ◌+◌, ◌∙◌, ℕ, [], true, false, Option, Ok, length, refl, sym, ap, subst, arith}
 use Rattle.std.specs.Prelude.{IfSome}
 use Rattle.circular_buffer.specs.Buffer.{Buffer}
 use Rattle.ark_media.specs.Journal.{current}
-use Rattle.ark_chain.specs.Survey.{OnTold}
 use Rattle.ark_chain.specs.Walking.{IsNext, FitsAt, HasLooked}
 use Rattle.ark_chain.proofs.Looking.{none_read, still_told, same_blocks}
 use Rattle.ark_chain.proofs.Walked.{AreStanding, none_stands, none_entries, none_once, none_went, pushed, step_count, step_entries, step_once, step_went, step_standing, standing_found, none_behind, walk_ends}

@@ -1,6 +1,6 @@
 use Rattle.std.proofs.Common.{◌≡◌, true, length}
-use Rattle.ark_media.specs.Calls.{Went}
-use Rattle.ark_chain.specs.Survey.{OnTold, reads_at, all_ends, Rise}
+use Rattle.ark_media.specs.Calls.{Went, OnTold}
+use Rattle.ark_chain.specs.Survey.{reads_at, all_ends, Rise}
 use Rattle.ark_chain.specs.Walking.{HasEntries}
 use Rattle.ark_chain.proofs.Walked.{AreStanding}
 use Rattle.ark_chain.proofs.surveying.note_entries.Given as goal
