@@ -6,3 +6,4 @@ pub mod Walked
 pub mod Finding
 pub mod Payloads
 pub mod Reread
+pub mod Clearing

@@ -8,7 +8,10 @@ use Rattle.ark_media.specs.Calls.{Call, Reads, Told, Tells, Makes, Went, OnTold}
 use Rattle.ark_media.proofs.Planning.{went_then}
 use Rattle.ark_media.proofs.Stopping.{length-current}
 use Rattle.ark_media.specs.declared.outside.DiskFailed.{DiskFailed}
-use Rattle.ark_chain.specs.Survey.{block_at, reads, reads_at, last_of, ends_of, Rise}
+use Rattle.ark_base.specs.declared.kind.Kind.{Kind}
+use Rattle.ark_chain.specs.declared.surveying.Seen.{Seen}
+use Rattle.ark_chain.specs.declared.surveying.SurveyFault.{SurveyFault}
+use Rattle.ark_chain.specs.Survey.{block_at, reads, reads_at, is_read, last_of, ends_of, Rise, HasSurveyed}
 use Rattle.ark_chain.specs.Walking.{HasLooked}
 use Rattle.ark_chain.proofs.Places.{last_none, last_some}
 
@@ -61,3 +64,8 @@ module _ {D : Type 0} (goes : D → List Event → D → Type 0) (told : D → T
   pub image_long : ((d : D) (h : History) → (told d).history ≡ Some h → length h.base ≡ (told d).blocks) → (plan : List Call) (ok : Bool) (a b : D) → Went goes plan ok a b → (blocks : ℕ) → blocks ≡ (told a).blocks
       → (h : History) → (told b).history ≡ Some h → length (current h.base h.journal) ≡ blocks
   image_long size_is plan ok a b went blocks are h is = length-current h.base h.journal ∙ size_is b h is ∙ same_blocks plan ok a b went ∙ sym are
+
+-- a survey's reads leave the number of blocks
+pub survey_blocks : {D : Type 0} (goes : D → List Event → D → Type 0) (told : D → Told) (tells : (a b : D) (es : List Event) → goes a es b → Tells es (told a) (told b)) (kind : Kind) (result : Result Seen SurveyFault) (lengths : List ℕ) (a b : D)
+    → HasSurveyed goes told kind result lengths a b → (told b).blocks ≡ (told a).blocks
+survey_blocks goes told tells kind result lengths a b surveyed = same_blocks goes told tells (Reads 0 ∷ reads_at surveyed.room surveyed.start surveyed.places) (is_read result) a b surveyed.went

@@ -1,3 +1,4 @@
 pub mod Survey
 pub mod Walking
 pub mod Single
+pub mod Repair

@@ -95,6 +95,7 @@ IsSurvey kind result lengths image = AllBlocks image → IsAnswer kind result le
 pub record IsSeen (blocks : ℕ) (lengths : List ℕ) (seen : Seen) : Type 0 where
   pub count : seen.count ≡ length lengths
   pub short : All (λ len. len ≤ 32768) lengths
+  pub used : seen.used ≡ blocks_used lengths
   pub fits : blocks_used lengths < blocks
   pub start : seen.start + 1 < blocks
   pub end : seen.end + 1 ≡ block_at (blocks - 1) seen.start (blocks_used lengths)

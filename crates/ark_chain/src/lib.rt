@@ -3,9 +3,11 @@
 
 mod next;
 mod reading;
+mod repairing;
 mod single;
 mod surveying;
 
 pub use reading::Reading;
+pub use repairing::{inspect, repair};
 pub use single::{entry_of, read_blocks};
 pub use surveying::{Seen, SurveyFault, survey};

@@ -1,4 +1,4 @@
-ghost use Rattle.std.specs.Prelude.{◌≡◌, ◌<◌, ◌+◌, ◌%◌, ◌^◌};
+ghost use Rattle.std.specs.Prelude.{◌≡◌, ◌<◌, ◌+◌, ◌-◌, ◌%◌, ◌^◌};
 ghost use Rattle.ark_chain.specs.Survey.{block_at};
 
 /// A ring of `room` blocks, seen from its block `start` on.
@@ -25,5 +25,14 @@ impl Reading {
         ensures inside { result < self.now.room + 1 }
     {
         self.index(behind) + 1
+    }
+
+    /// How far behind the start block `q` of the ring stands.
+    pub fn behind(&self, q: u32) -> u32
+        requires start { self.now.start < self.now.room }
+        ensures { result ≡ (q + self.now.room - self.now.start) % self.now.room }
+    {
+        let past = u64::from(q) + u64::from(self.room) - u64::from(self.start);
+        (past % u64::from(self.room)) as u32
     }
 }

@@ -12,12 +12,13 @@ use circular_buffer::HeapCircularBuffer;
 use thiserror::Error;
 
 /// What is found in the blocks of a log or queue: the number of its first entry, the entry's block in the ring, how many entries
-/// there are, and the block of the ring behind them.
+/// there are, how many blocks they have, and the block of the ring behind them.
 #[derive(Clone, Copy, Debug, PartialEq, Eq)]
 pub struct Seen {
     pub first: u64,
     pub start: u32,
     pub count: u32,
+    pub used: u32,
     pub end: u32,
 }
 
@@ -125,6 +126,7 @@ pub fn survey<D: Disk>(
         first: head.first,
         start: head.start,
         count,
+        used,
         end: from.index(used),
     })
 }

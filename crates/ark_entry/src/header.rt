@@ -83,7 +83,8 @@ fn is_right(head: &ChainHead, ring: u32) -> bool
         && after <= AFTER_LAST
 }
 
-fn is_zero(block: &[u8; 512]) -> bool
+/// Whether the block has zeros alone.
+pub fn is_zero(block: &[u8; 512]) -> bool
     ensures { result ≡ spec.is_zero block.now }
 {
     block.iter().all(|byte| *byte == 0)

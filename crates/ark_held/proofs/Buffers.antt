@@ -16,6 +16,7 @@ use Rattle.ark_held.specs.Kept.{BufferKept}
 use Rattle.ark_objects.specs.Held.{at as key_at}
 use Rattle.ark_held.specs.Stored.{buffer_kept}
 use Rattle.ark_held.specs.Rings.{card_kept}
+use Rattle.ark_held.specs.Pacing.{rate_kept}
 use Rattle.ark_held.specs.Held.{IsObjectOf, Holds}
 use Rattle.ark_held.specs.Keeps.{Keeps}
 use Rattle.ark_held.specs.Beyond.{Beyond, around}
@@ -51,7 +52,7 @@ module _ (r : Beyond) (app app1 : App) (numbers : List ℕ) (machine : Machine) 
     cards = λ k c stays is kind. ap (λ (d : Devices). card_kept d.cards c.key) devices;
     nets = λ k c stays is kind. refl;
     doors = λ k c stays is kind. ap (λ (d : Devices). key_at d.doors c.key) devices;
-    rates = λ k c stays is kind. refl;
+    rates = λ k c stays is kind. ap (λ (d : Devices). rate_kept d.rates c.key) devices;
     sockets = λ k c stays is kind. refl;
     rules = λ k c stays is kind. refl;
     areas = λ k c stays is kind. ap (λ (es : AreaList). lookup (nat_eq c.grant) es) areas;

@@ -5,9 +5,9 @@ use Rattle.ark_caps.specs.declared.capability.CapKind.TheVariants as cap_kind
 use Rattle.ark_caps.specs.declared.capability.Capability.{Capability}
 use Rattle.ark_vic.specs.declared.door.Counts.{Counts}
 use Rattle.ark_machine.specs.Objects
-use Rattle.ark_machine.specs.Objects.{Object, Vsic, Buffer, as_door, as_vsic}
+use Rattle.ark_machine.specs.Objects.{Object, Vsic, Buffer, as_door, as_rate, as_vsic}
 use Rattle.ark_held.specs.Around.{Around}
-use Rattle.ark_held.specs.Cards.{IsBuffer, IsDoor, IsCard}
+use Rattle.ark_held.specs.Cards.{IsBuffer, IsDoor, IsRate, IsCard}
 use Rattle.ark_held.specs.Held.{IsObjectOf}
 
 module _ (x : Around) (l : List ℕ) (c : Capability) where
@@ -21,6 +21,17 @@ module _ (x : Around) (l : List ℕ) (c : Capability) where
   door_of (Objects.rate z y) f kind = absurd (cc (kind, f.its_kind))
   door_of (Objects.buffer z) f kind = absurd (cc (kind, f.its_kind))
   door_of (Objects.socket z) f kind = absurd (cc (kind, f.its_kind))
+
+  pub rate_of : (o : Object) → IsObjectOf x l c o → c.kind ≡ cap_kind.Rate → (q : ℕ × ℕ) × (o ≡ Objects.rate q.0 q.1) × IsRate x c q.0 q.1
+  rate_of (Objects.rate q b) f kind = ((q, b), refl, f)
+  rate_of (Objects.raw z) f kind = absurd (cc (kind, f.its_kind))
+  rate_of (Objects.log z) f kind = absurd (cc (kind, f.its_kind))
+  rate_of (Objects.vsic z) f kind = absurd (cc (kind, f.its_kind))
+  rate_of (Objects.vnic z) f kind = absurd (cc (kind, f.its_kind))
+  rate_of (Objects.filter z y) f kind = absurd (cc (kind, f.its_kind))
+  rate_of (Objects.door z) f kind = absurd (cc (kind, f.its_kind))
+  rate_of (Objects.buffer z) f kind = absurd (cc (kind, f.its_kind))
+  rate_of (Objects.socket z) f kind = absurd (cc (kind, f.its_kind))
 
   pub card_of : (o : Object) → IsObjectOf x l c o → c.kind ≡ cap_kind.Vsic → (v : Vsic) × (o ≡ Objects.vsic v) × IsCard x l c v
   card_of (Objects.vsic v) f kind = (v, refl, f)
@@ -51,3 +62,7 @@ module _ (x : Around) (l : List ℕ) (c : Capability) where
   pub no_card : (o : Object) → IsObjectOf x l c o → (c.kind ≡ cap_kind.Vsic → ⊥) → as_vsic o ≡ None
   no_card (Objects.vsic v) f other = absurd (other f.its_kind)
   no_card _ f other = refl
+
+  pub no_rate : (o : Object) → IsObjectOf x l c o → (c.kind ≡ cap_kind.Rate → ⊥) → as_rate o ≡ None
+  no_rate (Objects.rate q b) f other = absurd (other f.its_kind)
+  no_rate _ f other = refl

@@ -20,11 +20,13 @@ use Rattle.ark_held.specs.Totals.{bit, uses, object_covers, lent_count, open_cou
 use Rattle.ark_held.specs.Kept.{BufferKept, CardKept}
 use Rattle.ark_held.specs.Stored.{place_kept, kept_of, buffer_kept}
 use Rattle.ark_held.specs.Rings.{kept_card, card_kept}
+use Rattle.ark_held.specs.Pacing.{rate_kept}
 use Rattle.ark_held.specs.Around.{Around, Each, Both, piece_of}
 use Rattle.ark_held.specs.Cards.{IsBuffer, IsCard, IsJob, IsEnded, IsPaced, IsWatched}
 use Rattle.ark_held.specs.Held.{IsObjectOf, Matches, Holds, has_key}
 use Rattle.ark_held.specs.Keeps.{Keeps, JobWithin, Within, any_label, any_piece}
 use Rattle.ark_held.specs.Beyond.{Beyond, around}
+use Rattle.ark_held.specs.declared.allowance.Allowance.{Allowance}
 use Rattle.ark_held.specs.declared.app.App.{App}
 use Rattle.ark_held.specs.declared.buffer.Buffer as kept
 use Rattle.ark_held.specs.declared.card.StorageCard.{StorageCard}
@@ -62,7 +64,7 @@ with_queue q v = record v { queue = q }
 module _ (r : Beyond) (app app1 : App) (v b : List ℕ) (h : Holds (around r app)) (both : HasBoth (around r app) v b) (one : StorageCard) (here : key_at app.devices.cards both.card.key ≡ Some one) (lent : kept.Buffer)
     (was : key_at app.store.buffers both.cap.key ≡ Some lent) (ring : Queue) (queue : Objects.Queue Job (Job × Outcome)) (right : Option Piece)
     (cards : Changes app.devices.cards app1.devices.cards both.card.key (Some (with_ring ring one))) (buffers : Changes app.store.buffers app1.store.buffers both.cap.key (Some (record lent { buf = right })))
-    (region : app1.store.region ≡ app.store.region) (labels : app1.labels ≡ app.labels) (doors : app1.devices.doors ≡ app.devices.doors) (areas : app1.areas ≡ app.areas)
+    (region : app1.store.region ≡ app.store.region) (labels : app1.labels ≡ app.labels) (doors : app1.devices.doors ≡ app.devices.doors) (rates : app1.devices.rates ≡ app.devices.rates) (areas : app1.areas ≡ app.areas)
     (used : (k : List ℕ) → bytes_eq k b ≡ false → uses k (Objects.vsic (with_queue queue both.vsic)) ≡ uses k (Objects.vsic both.vsic)) where
   abbrev x : Around
   x = around r app
@@ -133,7 +135,7 @@ module _ (r : Beyond) (app app1 : App) (v b : List ℕ) (h : Holds (around r app
     cards = other_card;
     nets = λ k c stays is kind. refl;
     doors = λ k c stays is kind. ap (λ (ds : List (Option Counts)). key_at ds c.key) doors;
-    rates = λ k c stays is kind. refl;
+    rates = λ k c stays is kind. ap (λ (rs : List (Option Allowance)). rate_kept rs c.key) rates;
     sockets = λ k c stays is kind. refl;
     rules = λ k c stays is kind. refl;
     areas = λ k c stays is kind. ap (λ (es : AreaList). lookup (nat_eq c.grant) es) areas;

@@ -16,7 +16,7 @@ use Rattle.ark_machine.specs.Objects
 use Rattle.ark_machine.specs.Objects.{Object, Job, transfer, flush, phase, Place, named as in_buffer, taken, Paced}
 use Rattle.ark_machine.specs.Machine.{Machine, Held}
 use Rattle.ark_machine.specs.Buffers.{is_lent, has_buffer, job_has, place_has}
-use Rattle.ark_machine.specs.Control.{has_log, is_label, is_open_on, is_watched}
+use Rattle.ark_machine.specs.Control.{has_log, is_label, is_open_on, is_paced, is_paced_by, is_watched}
 use Rattle.ark_held.specs.Words.{Labels}
 use Rattle.ark_held.specs.Totals.{bit, total, uses, lent_count, open_count}
 use Rattle.ark_held.specs.Kept.{PaceKept, ChainKept}
@@ -176,7 +176,7 @@ narrow P Q f step (x ∷ xs) none all = (step x (omega (arith, none)) all.0, nar
 
 -- What names no label of this kind, or not this one of it, has all else within the others.
 
-module _ (x : Around) (l : List ℕ) (cap : Capability) (there : value_at x.labels l ≡ Some cap) (unpaced : cap.kind ≡ cap_kind.Rate → ⊥) (no_net : cap.kind ≡ cap_kind.Vnic → ⊥) (rests : Piece → Type 0) where
+module _ (x : Around) (l : List ℕ) (cap : Capability) (there : value_at x.labels l ≡ Some cap) (no_net : cap.kind ≡ cap_kind.Vnic → ⊥) (rests : Piece → Type 0) where
   name_apart : (b : List ℕ) (c : Capability) (kind : CapKind) → value_at x.labels b ≡ Some c → c.kind ≡ kind → (cap.kind ≡ kind → bytes_eq l b ≡ false) → but l b ≡ true
   name_apart b c kind at is other =
       ap not (name_other l b (λ e. other_name l b
@@ -191,11 +191,11 @@ module _ (x : Around) (l : List ℕ) (cap : Capability) (there : value_at x.labe
   place_narrow (in_buffer b) none w = bit_zero (bytes_eq l b) none
   place_narrow (taken b) none w = w
 
-  paced_narrow : (k : Option PaceKept) (p : Option Paced) → Both (IsPaced x) k p → PacedWithin (but l) rests p
-  paced_narrow None None is = tt
-  paced_narrow (Some k) (Some p) is = name_apart p.rate is.rate.cap cap_kind.Rate is.rate.there is.rate.its_kind (λ e. absurd (unpaced e))
-  paced_narrow None (Some p) is = absurd is
-  paced_narrow (Some k) None is = absurd is
+  paced_narrow : (k : Option PaceKept) (p : Option Paced) → Both (IsPaced x) k p → (cap.kind ≡ cap_kind.Rate → is_paced_by l p ≡ false) → PacedWithin (but l) rests p
+  paced_narrow None None is unpaced = tt
+  paced_narrow (Some k) (Some p) is unpaced = name_apart p.rate is.rate.cap cap_kind.Rate is.rate.there is.rate.its_kind unpaced
+  paced_narrow None (Some p) is unpaced = absurd is
+  paced_narrow (Some k) None is unpaced = absurd is
 
   door_narrow : (k : Option ℕ) (d : Option (List ℕ)) → Both (IsWatched x) k d → (cap.kind ≡ cap_kind.Door → is_label l d ≡ false) → LabelWithin (but l) rests d
   door_narrow None None is unwatched = tt
@@ -215,44 +215,44 @@ module _ (x : Around) (l : List ℕ) (cap : Capability) (there : value_at x.labe
   opened_narrow grant None (Some o) is closed w = absurd is
   opened_narrow grant (Some k) None is closed w = absurd is
 
-  pub narrowed_from : (k : List ℕ) (c : Capability) (o : Object) → IsObjectOf x k c o → uses l o ≡ 0 → (cap.kind ≡ cap_kind.Door → is_watched l o ≡ false) → (cap.kind ≡ cap_kind.Vsic → is_open_on l o ≡ false) → Within any_label rests o → Within (but l) rests o
-  narrowed_from k c (Objects.raw z) f none seen closed w = tt
-  narrowed_from k c (Objects.log g) f none seen closed w = opened_narrow c.grant (x.tables.chains c.grant) g.opened f.opened closed w
-  narrowed_from k c (Objects.vsic v) f none seen closed w = (
+  pub narrowed_from : (k : List ℕ) (c : Capability) (o : Object) → IsObjectOf x k c o → uses l o ≡ 0 → (cap.kind ≡ cap_kind.Door → is_watched l o ≡ false) → (cap.kind ≡ cap_kind.Vsic → is_open_on l o ≡ false) → (cap.kind ≡ cap_kind.Rate → is_paced l o ≡ false) → Within any_label rests o → Within (but l) rests o
+  narrowed_from k c (Objects.raw z) f none seen closed unpaced w = tt
+  narrowed_from k c (Objects.log g) f none seen closed unpaced w = opened_narrow c.grant (x.tables.chains c.grant) g.opened f.opened closed w
+  narrowed_from k c (Objects.vsic v) f none seen closed unpaced w = (
     narrow (JobWithin any_label rests) (JobWithin (but l) rests) (λ j. bit (job_has l j)) job_narrow v.queue.posted (omega (arith, none)) w.0,
     narrow (λ u. JobWithin any_label rests u.0) (λ u. JobWithin (but l) rests u.0) (λ u. bit (job_has l u.0)) (λ u. job_narrow u.0) v.queue.unreaped (omega (arith, none)) w.1,
-    paced_narrow f.card.pace v.pace f.pace,
+    paced_narrow f.card.pace v.pace f.pace unpaced,
     door_narrow f.card.door v.door f.door seen,
   )
-  narrowed_from k c (Objects.vnic v) f none seen closed w = (
+  narrowed_from k c (Objects.vnic v) f none seen closed unpaced w = (
     narrow (PlaceWithin any_label rests) (PlaceWithin (but l) rests) (λ p. bit (place_has l p)) place_narrow v.rx.posted (omega (arith, none)) w.0,
     narrow (λ u. PlaceWithin any_label rests u.0) (λ u. PlaceWithin (but l) rests u.0) (λ u. bit (place_has l u.0)) (λ u. place_narrow u.0) v.rx.unreaped (omega (arith, none)) w.1,
     narrow (λ p. PlaceWithin any_label rests p.0) (λ p. PlaceWithin (but l) rests p.0) (λ p. bit (place_has l p.0)) (λ p. place_narrow p.0) v.tx.posted (omega (arith, none)) w.2,
     narrow (λ u. PlaceWithin any_label rests u.0) (λ u. PlaceWithin (but l) rests u.0) (λ u. bit (place_has l u.0)) (λ u. place_narrow u.0) v.tx.unreaped (omega (arith, none)) w.3,
-    paced_narrow f.net.rx_pace v.rx_pace f.rx_pace,
-    paced_narrow f.net.tx_pace v.tx_pace f.tx_pace,
+    paced_narrow f.net.rx_pace v.rx_pace f.rx_pace (λ e. (none_of_both (is_paced_by l v.rx_pace) (is_paced_by l v.tx_pace) (unpaced e)).0),
+    paced_narrow f.net.tx_pace v.tx_pace f.tx_pace (λ e. (none_of_both (is_paced_by l v.rx_pace) (is_paced_by l v.tx_pace) (unpaced e)).1),
     door_narrow f.net.rx_door v.rx_door f.rx_door (λ e. (none_of_both (is_label l v.rx_door) (is_label l v.tx_door) (seen e)).0),
     door_narrow f.net.tx_door v.tx_door f.tx_door (λ e. (none_of_both (is_label l v.rx_door) (is_label l v.tx_door) (seen e)).1),
   )
-  narrowed_from k c (Objects.filter z card) f none seen closed w = card_narrow f.live.vnic card f.card
-  narrowed_from k c (Objects.door z) f none seen closed w = tt
-  narrowed_from k c (Objects.rate z y) f none seen closed w = tt
-  narrowed_from k c (Objects.buffer z) f none seen closed w = w
-  narrowed_from k c (Objects.socket z) f none seen closed w = name_apart z.card f.card.cap cap_kind.Vnic f.card.there f.card.its_kind (λ e. absurd (no_net e))
+  narrowed_from k c (Objects.filter z card) f none seen closed unpaced w = card_narrow f.live.vnic card f.card
+  narrowed_from k c (Objects.door z) f none seen closed unpaced w = tt
+  narrowed_from k c (Objects.rate z y) f none seen closed unpaced w = tt
+  narrowed_from k c (Objects.buffer z) f none seen closed unpaced w = w
+  narrowed_from k c (Objects.socket z) f none seen closed unpaced w = name_apart z.card f.card.cap cap_kind.Vnic f.card.there f.card.its_kind (λ e. absurd (no_net e))
 
 -- of a buffer's label
 pub narrowed : (x : Around) (l : List ℕ) (cap : Capability) → value_at x.labels l ≡ Some cap → cap.kind ≡ cap_kind.Buf → (rests : Piece → Type 0) (k : List ℕ) (c : Capability) (o : Object) → IsObjectOf x k c o → uses l o ≡ 0
     → Within any_label rests o → Within (but l) rests o
-narrowed x l cap there is rests k c o f none w = narrowed_from x l cap there (λ e. cc (is, e)) (λ e. cc (is, e)) rests k c o f none (λ e. cc (is, e)) (λ e. cc (is, e)) w
+narrowed x l cap there is rests k c o f none w = narrowed_from x l cap there (λ e. cc (is, e)) rests k c o f none (λ e. cc (is, e)) (λ e. cc (is, e)) (λ e. cc (is, e)) w
 
 -- of a label of another kind
-pub narrowed_other : (x : Around) (l : List ℕ) (cap : Capability) → value_at x.labels l ≡ Some cap → (cap.kind ≡ cap_kind.Rate → ⊥) → (cap.kind ≡ cap_kind.Vnic → ⊥) → (cap.kind ≡ cap_kind.Buf → ⊥) → (rests : Piece → Type 0) (k : List ℕ) (c : Capability) (o : Object) → IsObjectOf x k c o
-    → (cap.kind ≡ cap_kind.Door → is_watched l o ≡ false) → (cap.kind ≡ cap_kind.Vsic → is_open_on l o ≡ false) → Within any_label rests o → Within (but l) rests o
-narrowed_other x l cap there unpaced no_net no_buffer rests k c o f seen closed w =
-    narrowed_from x l cap there unpaced no_net rests k c o f
-    (none_uses x l (λ d at kind. no_buffer (ap (λ (z : Capability). z.kind) (some_same (value_at x.labels l) cap d there at) ∙ kind)) k c o f) seen closed w
+pub narrowed_other : (x : Around) (l : List ℕ) (cap : Capability) → value_at x.labels l ≡ Some cap → (cap.kind ≡ cap_kind.Vnic → ⊥) → (cap.kind ≡ cap_kind.Buf → ⊥) → (rests : Piece → Type 0) (k : List ℕ) (c : Capability) (o : Object) → IsObjectOf x k c o
+    → (cap.kind ≡ cap_kind.Door → is_watched l o ≡ false) → (cap.kind ≡ cap_kind.Vsic → is_open_on l o ≡ false) → (cap.kind ≡ cap_kind.Rate → is_paced l o ≡ false) → Within any_label rests o → Within (but l) rests o
+narrowed_other x l cap there no_net no_buffer rests k c o f seen closed unpaced w =
+    narrowed_from x l cap there no_net rests k c o f
+    (none_uses x l (λ d at kind. no_buffer (ap (λ (z : Capability). z.kind) (some_same (value_at x.labels l) cap d there at) ∙ kind)) k c o f) seen closed unpaced w
 
 -- An object names no area by its label.
 pub narrowed_area : (x : Around) (l : List ℕ) (cap : Capability) → value_at x.labels l ≡ Some cap → cap.kind ≡ cap_kind.Vsa → (rests : Piece → Type 0) (k : List ℕ) (c : Capability) (o : Object) → IsObjectOf x k c o
     → Within any_label rests o → Within (but l) rests o
-narrowed_area x l cap there is rests k c o f w = narrowed_other x l cap there (λ e. cc (is, e)) (λ e. cc (is, e)) (λ e. cc (is, e)) rests k c o f (λ e. cc (is, e)) (λ e. cc (is, e)) w
+narrowed_area x l cap there is rests k c o f w = narrowed_other x l cap there (λ e. cc (is, e)) (λ e. cc (is, e)) rests k c o f (λ e. cc (is, e)) (λ e. cc (is, e)) (λ e. cc (is, e)) w

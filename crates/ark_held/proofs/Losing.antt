@@ -1,4 +1,4 @@
--- A card or a door that goes, with its label.
+-- A card, a door or a rate that goes, with its label.
 use Rattle.std.proofs.Common.{◌≡◌, ℕ, true, false, List, length, refl, sym, ◌∙◌, ap, arith}
 use Rattle.std.specs.Prelude.{Option, Some, None, option_map, option_and_then, slice_get, slice_index_or, unwrap_or}
 use Rattle.ark_caps.specs.Labels.{value_at, others}
@@ -7,7 +7,7 @@ use Rattle.ark_caps.specs.declared.capability.CapKind.TheVariants as cap_kind
 use Rattle.ark_region.specs.Frames.{bytes_of}
 use Rattle.ark_vic.specs.declared.door.Counts.{Counts}
 use Rattle.ark_machine.specs.Machine.{Held, at, serial_at, each_object, holds_any, without}
-use Rattle.ark_machine.specs.Control.{is_open_on, is_socket_on, is_watched, lets_go}
+use Rattle.ark_machine.specs.Control.{is_open_on, is_paced, is_socket_on, is_watched, lets_go}
 use Rattle.ark_held.specs.Totals.{bit, total, uses, object_covers}
 use Rattle.ark_held.specs.Kept.{CardKept, Tables}
 use Rattle.ark_held.specs.Around.{Around}
@@ -39,30 +39,31 @@ numbered x l cap held h there is =
     by None (Some g) a b m = absurd m
     by (Some c) None a b m = absurd m
 
--- Under other keys the cards are as they were, and so are the doors.
+-- Under other keys the cards are as they were, and so are the doors and the rates.
 pub record LosesOne (t u : Tables) (cap : Capability) : Type 0 where
   pub cards : (k : ℕ) → (cap.kind ≡ cap_kind.Vsic → k ≡ cap.key → ⊥) → u.cards k ≡ t.cards k
   pub doors : (k : ℕ) → (cap.kind ≡ cap_kind.Door → k ≡ cap.key → ⊥) → u.doors k ≡ t.doors k
-  pub rest : u ≡ record t { cards = u.cards; doors = u.doors }
+  pub rates : (k : ℕ) → (cap.kind ≡ cap_kind.Rate → k ≡ cap.key → ⊥) → u.rates k ≡ t.rates k
+  pub rest : u ≡ record t { cards = u.cards; doors = u.doors; rates = u.rates }
 
--- A card or a door, and no other kind of object.
+-- A storage card, a door or a rate, and no other kind of object.
 pub record IsDevice (cap : Capability) : Type 0 where
-  pub no_rate : cap.kind ≡ cap_kind.Rate → ⊥
   pub no_net : cap.kind ≡ cap_kind.Vnic → ⊥
   pub no_buffer : cap.kind ≡ cap_kind.Buf → ⊥
   pub plain : is_area cap.kind ≡ false
   pub stored : has_key cap.kind ≡ true
 
 module _ (x : Around) (h : Holds x) (l : List ℕ) (cap : Capability) (there : value_at x.labels l ≡ Some cap) (held : Held) (at_l : at x.machine l ≡ Some held) (device : IsDevice cap) (nothing : CountsNothing held.object)
-    (seen : cap.kind ≡ cap_kind.Door → holds_any x.machine (is_watched l) ≡ false) (closed : cap.kind ≡ cap_kind.Vsic → holds_any x.machine (is_open_on l) ≡ false) (tables : Tables) (one : LosesOne x.tables tables cap) where
+    (seen : cap.kind ≡ cap_kind.Door → holds_any x.machine (is_watched l) ≡ false) (closed : cap.kind ≡ cap_kind.Vsic → holds_any x.machine (is_open_on l) ≡ false)
+    (unpaced : cap.kind ≡ cap_kind.Rate → holds_any x.machine (is_paced l) ≡ false) (tables : Tables) (one : LosesOne x.tables tables cap) where
   abbrev pub lost_around : Around
   lost_around = record x { labels = others l x.labels; tables = tables; machine = without x.machine l }
 
   abbrev y : Around
   y = lost_around
 
-  same : {A : Type 0} (f : Tables → A) → ((cs : ℕ → Option CardKept) (ds : ℕ → Option Counts) → f (record x.tables { cards = cs; doors = ds }) ≡ f x.tables) → f tables ≡ f x.tables
-  same f plain = ap f one.rest ∙ plain tables.cards tables.doors
+  same : {A : Type 0} (f : Tables → A) → ((cs : ℕ → Option CardKept) (ds : ℕ → Option Counts) (rs : ℕ → Option (ℕ × ℕ)) → f (record x.tables { cards = cs; doors = ds; rates = rs }) ≡ f x.tables) → f tables ≡ f x.tables
+  same f plain = ap f one.rest ∙ plain tables.cards tables.doors tables.rates
 
   -- another label's key is not this one's, where both are of one kind
   other_key : (k : List ℕ) (c : Capability) → but l k ≡ true → value_at x.labels k ≡ Some c → cap.kind ≡ c.kind → c.key ≡ cap.key → ⊥
@@ -78,22 +79,22 @@ module _ (x : Around) (h : Holds x) (l : List ℕ) (cap : Capability) (there : v
   keeps = record {
     now = omega arith;
     numbers = λ i n is. is;
-    frames = same (λ t. length t.memory.taken) (λ cs ds. refl);
-    bytes = λ p rests. same (λ t. bytes_of t.memory p) (λ cs ds. refl);
+    frames = same (λ t. length t.memory.taken) (λ cs ds rs. refl);
+    bytes = λ p rests. same (λ t. bytes_of t.memory p) (λ cs ds rs. refl);
     granted = λ k c i is old. others_was l k c x.labels is;
     spread = λ i g a old is. spread_same x.areas g a is;
     labels = λ k c apart is. others_value l k x.labels (not_but l k apart) ∙ is;
-    places = λ k c apart is its. same (λ t. option_map (λ b. b.piece) (t.buffers c.key)) (λ cs ds. refl);
+    places = λ k c apart is its. same (λ t. option_map (λ b. b.piece) (t.buffers c.key)) (λ cs ds rs. refl);
     logs = λ k c apart is its. ap (λ (o : Option CardKept). option_and_then (λ z. z.log) o) (same_card k c apart is its);
-    buffers = λ k c apart is its. same (λ t. t.buffers c.key) (λ cs ds. refl);
+    buffers = λ k c apart is its. same (λ t. t.buffers c.key) (λ cs ds rs. refl);
     cards = same_card;
-    nets = λ k c apart is its. same (λ t. t.nets c.key) (λ cs ds. refl);
+    nets = λ k c apart is its. same (λ t. t.nets c.key) (λ cs ds rs. refl);
     doors = λ k c apart is its. one.doors c.key (λ kind. other_key k c apart is (kind ∙ sym its));
-    rates = λ k c apart is its. same (λ t. t.rates c.key) (λ cs ds. refl);
-    sockets = λ k c apart is its. same (λ t. t.sockets c.key) (λ cs ds. refl);
+    rates = λ k c apart is its. one.rates c.key (λ kind. other_key k c apart is (kind ∙ sym its));
+    sockets = λ k c apart is its. same (λ t. t.sockets c.key) (λ cs ds rs. refl);
     rules = λ k c apart is its. refl;
     areas = λ k c apart is its. refl;
-    chains = λ k c apart is its. same (λ t. t.chains c.grant) (λ cs ds. refl);
+    chains = λ k c apart is its. same (λ t. t.chains c.grant) (λ cs ds rs. refl);
     slots = λ k apart. refl;
     history = λ k u apart is. same_history x.history u.blocks;
     lent = λ k apart. counts (λ z. uses k z.object) (nothing.uses k);
@@ -106,12 +107,13 @@ module _ (x : Around) (h : Holds x) (l : List ℕ) (cap : Capability) (there : v
 
   lost : Holds y
   lost = removed x y h l any_piece keeps
-      (λ p g apart inn m. narrowed_other x l cap there device.no_rate device.no_net device.no_buffer any_piece p.0 p.1 g.object m.object
-      (λ kind. none_in (λ (z : Held). is_watched l z.object) x.machine.held g (seen kind) inn) (λ kind. none_in (λ (z : Held). is_open_on l z.object) x.machine.held g (closed kind) inn) (within g.object))
+      (λ p g apart inn m. narrowed_other x l cap there device.no_net device.no_buffer any_piece p.0 p.1 g.object m.object
+      (λ kind. none_in (λ (z : Held). is_watched l z.object) x.machine.held g (seen kind) inn) (λ kind. none_in (λ (z : Held). is_open_on l z.object) x.machine.held g (closed kind) inn)
+      (λ kind. none_in (λ (z : Held). is_paced l z.object) x.machine.held g (unpaced kind) inn) (within g.object))
       refl refl refl refl
       (h.areas ∙ sym (others_areas l x.labels h.apart (λ c is. ap (λ (z : Capability). is_area z.kind) (some_same (value_at x.labels l) c cap is there) ∙ device.plain)))
       (h.unlisted l no_slot)
-      (λ j. counts (λ z. object_covers j z.object) (nothing.covers j) ∙ h.taken j ∙ sym (same (λ t. bit (slice_index_or t.memory.taken j false)) (λ cs ds. refl)))
+      (λ j. counts (λ z. object_covers j z.object) (nothing.covers j) ∙ h.taken j ∙ sym (same (λ t. bit (slice_index_or t.memory.taken j false)) (λ cs ds rs. refl)))
 
   abbrev pub given_up : Around
   given_up = record x { labels = others l x.labels; tables = unbound_tables cap.grant tables; machine = each_object (lets_go l (serial_at x.machine l)) (without x.machine l) }

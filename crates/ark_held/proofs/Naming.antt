@@ -4,10 +4,8 @@ use Rattle.std.specs.Prelude.{Option, Some, None, option_map, find, ◌==◌}
 use Rattle.std.specs.Map.{lookup}
 use Rattle.std.proofs.lemmas.Bool.{eq-eqb, cond_both}
 use Rattle.ark_vic.specs.declared.descriptor.Descriptor.{Descriptor}
-use Rattle.ark_vic.specs.Pace.{Pace}
 use Rattle.ark_vsic.specs.Card.{Card, Areas, is_bound, head_of}
-use Rattle.ark_vsic.specs.Moves.{due_of, due_for, due_by, due_in, due_at, area_of}
-use Rattle.ark_vsic.specs.declared.due.Due.{Due}
+use Rattle.ark_vsic.specs.Moves.{due_of, due_for, due_by, due_in}
 use Rattle.ark_held.specs.Words.{AreaList}
 use Rattle.ark_held.specs.Inside.{AreasInside}
 use Rattle.ark_held.specs.Moving.{blocks_held, area_of_grant, area_named}
@@ -59,22 +57,3 @@ module _ (size : ℕ) where
 
   pub named_inside : (card : Card) (areas : AreaList) (o : Option (ℕ × List ℕ)) → o ≡ area_named (head_of card.ring) areas → AreasInside size areas → All (λ z. All (λ n. n < size) z.1) (alone o)
   named_inside card areas o is inside = subst (λ (z : Option (ℕ × List ℕ)). All (λ a. All (λ n. n < size) a.1) (alone z)) (sym is) (named_below (head_of card.ring) areas inside)
-
--- Where nothing paces a card, what is due is due at any tick.
-
-at_place : (place : Option ℕ) (a b : ℕ) → due_at place None a ≡ due_at place None b
-at_place None a b = refl
-at_place (Some n) a b = refl
-
-in_area : (blocks : Option (List ℕ)) (d : Descriptor) (k a b : ℕ) → due_in blocks d k None a ≡ due_in blocks d k None b
-in_area None d k a b = refl
-in_area (Some blocks) d k a b = at_place _ a b
-
-for_head : (o : Option Descriptor) (card : Card) (held : Areas) (a b : ℕ) → card.pace ≡ None → due_for o card held a ≡ due_for o card held b
-for_head None card held a b none = refl
-for_head (Some d) card held a b none = ap (λ (z : Due). due_by d.job z)
-    (ap (λ (p : Option Pace). due_in (area_of d.grant card.bound held) d card.ring.moved p a) none ∙ in_area (area_of d.grant card.bound held) d card.ring.moved a b
-    ∙ sym (ap (λ (p : Option Pace). due_in (area_of d.grant card.bound held) d card.ring.moved p b) none))
-
-pub any_tick : (card : Card) (held : Areas) (a b : ℕ) → card.pace ≡ None → due_of card held a ≡ due_of card held b
-any_tick card held a b none = for_head (head_of card.ring) card held a b none

@@ -17,7 +17,6 @@ use Rattle.std.proofs.Math.Logic.{∥∥₁_elim}
 use Rattle.std.proofs.Math.Bridge.{le_prop}
 use Rattle.ark_objects.specs.Held.{at}
 use Rattle.ark_region.specs.Frames.{Piece, LiesInRegion}
-use Rattle.ark_held.specs.Moving.{unpaced}
 use Rattle.ark_held.specs.Rings.{IsSoundRing, AreSound}
 use Rattle.ark_held.specs.declared.card.StorageCard.{StorageCard}
 use Rattle.ark_held.proofs.Keyed.{changes_set}
@@ -115,13 +114,9 @@ pub oldest_can : (frames : ℕ) (cards : List (Option StorageCard)) (key : ℕ) 
     → IfSome (head_of one.vsic.ring) (λ d. CanMove taken one.vsic.ring.moved d)
 oldest_can frames cards key one taken sound there size = ∥∥₁_elim sound (oldest_plain taken one.vsic.ring.moved (head_of one.vsic.ring)) (λ all. (all taken (sym size) key one there).oldest)
 
-pub unpaced_can : (frames : ℕ) (cards : List (Option StorageCard)) (key : ℕ) (one : StorageCard) (v : Card) (taken : List Bool) → ∥ AreSound frames cards ∥₁ → at cards key ≡ Some one → v ≡ unpaced one.vsic → frames ≡ length taken
-    → IfSome (head_of v.ring) (λ d. CanMove taken v.ring.moved d)
-unpaced_can frames cards key one v taken sound there is size = subst (λ (z : Card). IfSome (head_of z.ring) (λ d. CanMove taken z.ring.moved d)) (sym is) (oldest_can frames cards key one taken sound there size)
-
 -- all cards stay sound when one of them moves
-pub sound_after : (frames : ℕ) (before : List (Option StorageCard)) (key : ℕ) (one now : StorageCard) (v : Card) (x : Due) (ok : Bool) (a : Moved) → at before key ≡ Some one → v ≡ unpaced one.vsic → now.vsic.ring ≡ ring_after v.ring a → a ≡ answer_of v x ok
+pub sound_after : (frames : ℕ) (before : List (Option StorageCard)) (key : ℕ) (one now : StorageCard) (x : Due) (ok : Bool) (a : Moved) → at before key ≡ Some one → now.vsic.ring ≡ ring_after one.vsic.ring a → a ≡ answer_of one.vsic x ok
     → AreSound frames before → AreSound frames (set before key (Some now))
-sound_after frames before key one now v x ok a there is ring answer all =
+sound_after frames before key one now x ok a there ring answer all =
     sound_set frames before (set before key (Some now)) key now (changes_set before key one now there)
-    (λ taken long. subst (λ (q : Queue). IsSoundRing taken q) (sym ring) (sound_moved taken v x ok (subst (λ (z : Card). IsSoundRing taken z.ring) (sym is) (all taken long key one there)) a answer)) all
+    (λ taken long. subst (λ (q : Queue). IsSoundRing taken q) (sym ring) (sound_moved taken one.vsic x ok (all taken long key one there) a answer)) all

@@ -8,7 +8,7 @@ use Rattle.ark_vic.specs.declared.descriptor.Descriptor.{Descriptor}
 use Rattle.ark_vsic.specs.Moves.{CanMove}
 use Rattle.ark_held.specs.Rings.{IsSoundRing, AreSound, no_ring}
 use Rattle.ark_held.specs.declared.card.StorageCard.{StorageCard}
-use Rattle.ark_held.proofs.Lists.{some_same}
+use Rattle.ark_held.proofs.Lists.{not_some, some_same}
 use Rattle.ark_held.proofs.Members.{In, contains_in, in_contains, none_has}
 
 -- an empty ring
@@ -69,3 +69,7 @@ sound_reaped taken q now is s = subst (λ (z : Queue). IsSoundRing taken z) (sym
 pub ok_of : {A E : Type 0} (r : Result A E) (P : Type 0) → IsOk r → OnOk r P → P
 ok_of (Ok a) P ok left = left
 ok_of (Err e) P ok left = absurd (false≢true ok)
+
+-- where there is no card
+pub none_sound : (frames : ℕ) (cards : List (Option StorageCard)) → ((key : ℕ) → at cards key ≡ None) → AreSound frames cards
+none_sound frames cards none taken long key c there = absurd (not_some (at cards key) c (none key) there)

@@ -20,9 +20,11 @@ use Rattle.ark_held.specs.Totals.{bit, total, uses, object_covers}
 use Rattle.ark_held.specs.Kept.{CardKept, Tables}
 use Rattle.ark_held.specs.Stored.{buffer_kept}
 use Rattle.ark_held.specs.Rings.{kept_card, card_kept, unbound}
+use Rattle.ark_held.specs.Pacing.{rate_kept}
 use Rattle.ark_held.specs.Beyond.{tables_of}
 use Rattle.std.specs.Map.{lookup}
 use Rattle.ark_held.specs.Words.{without_area}
+use Rattle.ark_held.specs.declared.allowance.Allowance.{Allowance}
 use Rattle.ark_held.specs.declared.app.App.{App}
 use Rattle.ark_held.specs.declared.buffer.Buffer.{Buffer}
 use Rattle.ark_held.specs.declared.card.StorageCard.{StorageCard}
@@ -190,13 +192,14 @@ kept_unbound grant None = refl
 kept_unbound grant (Some c) = refl
 
 -- the tables once no card has the area bound
-pub tables_unbound : (s t : Store) (d e : Devices) (grant : ℕ) (f : ℕ → Option CardKept) (g : ℕ → Option Counts) → s.region ≡ t.region → s.buffers ≡ t.buffers → ((key : ℕ) → card_kept d.cards key ≡ option_map (unbound_kept grant) (f key)) → ((key : ℕ) → key_at d.doors key ≡ g key)
-    → tables_of s d ≡ unbound_tables grant (record (tables_of t e) { cards = f; doors = g })
-tables_unbound s t d e grant f g region buffers cards doors =
+pub tables_unbound : (s t : Store) (d e : Devices) (grant : ℕ) (f : ℕ → Option CardKept) (g : ℕ → Option Counts) (q : ℕ → Option (ℕ × ℕ)) → s.region ≡ t.region → s.buffers ≡ t.buffers → ((key : ℕ) → card_kept d.cards key ≡ option_map (unbound_kept grant) (f key)) → ((key : ℕ) → key_at d.doors key ≡ g key)
+    → ((key : ℕ) → rate_kept d.rates key ≡ q key) → tables_of s d ≡ unbound_tables grant (record (tables_of t e) { cards = f; doors = g; rates = q })
+tables_unbound s t d e grant f g q region buffers cards doors rates =
     ap (λ (z : Space). record (tables_of s d) { memory = z }) region
     ∙ ap (λ (b : List (Option Buffer)). record (tables_of t d) { buffers = buffer_kept b }) buffers
     ∙ ap (λ (c : ℕ → Option CardKept). record (tables_of t d) { cards = c }) (λ i key. (cards key) i)
-    ∙ ap (λ (c : ℕ → Option Counts). record (unbound_tables grant (record (tables_of t e) { cards = f })) { doors = c }) (λ i key. (doors key) i)
+    ∙ ap (λ (c : ℕ → Option Counts). record (unbound_tables grant (record (tables_of t d) { cards = f })) { doors = c }) (λ i key. (doors key) i)
+    ∙ ap (λ (c : ℕ → Option (ℕ × ℕ)). record (unbound_tables grant (record (tables_of t e) { cards = f; doors = g })) { rates = c }) (λ i key. (rates key) i)
 
 -- What an application has lost once it gave up the area of a grant under a label.
 pub record LosesArea (app app1 : App) (l : List ℕ) (grant : ℕ) : Type 0 where
@@ -205,12 +208,13 @@ pub record LosesArea (app app1 : App) (l : List ℕ) (grant : ℕ) : Type 0 wher
   pub gone : lookup (nat_eq grant) app1.areas ≡ None
   pub cards : (k : ℕ) → key_at app1.devices.cards k ≡ option_map (unbound grant) (key_at app.devices.cards k)
   pub doors : app1.devices.doors ≡ app.devices.doors
+  pub rates : app1.devices.rates ≡ app.devices.rates
   pub name : app1.name ≡ app.name
   pub region : app1.store.region ≡ app.store.region
   pub buffers : app1.store.buffers ≡ app.store.buffers
 
 -- its tables then; the area's label had a capability of this grant
 pub area_tables : (app app1 : App) (l : List ℕ) (grant was : ℕ) → was ≡ grant → LosesArea app app1 l grant → tables_of app1.store app1.devices ≡ unbound_tables was (tables_of app.store app.devices)
-area_tables app app1 l grant was is loses = tables_unbound app1.store app.store app1.devices app.devices was (card_kept app.devices.cards) (key_at app.devices.doors) loses.region loses.buffers
+area_tables app app1 l grant was is loses = tables_unbound app1.store app.store app1.devices app.devices was (card_kept app.devices.cards) (key_at app.devices.doors) (rate_kept app.devices.rates) loses.region loses.buffers
     (λ k. ap (λ o. option_map kept_card o) (subst (λ (n : ℕ). key_at app1.devices.cards k ≡ option_map (unbound n) (key_at app.devices.cards k)) (sym is) (loses.cards k)) ∙ kept_unbound was (key_at app.devices.cards k))
-    (λ k. ap (λ (z : List (Option Counts)). key_at z k) loses.doors)
+    (λ k. ap (λ (z : List (Option Counts)). key_at z k) loses.doors) (λ k. ap (λ (z : List (Option Allowance)). rate_kept z k) loses.rates)

@@ -46,13 +46,6 @@ said_of (moved.Done o) = said.Done o
 abbrev pub vsic_moved : Card → Areas → ℕ → Moved → Card
 vsic_moved v held now answer = record { ring = ring_after v.ring answer; bound = v.bound; pace = pace_after v.pace (due_of v held now) now }
 
--- a card that nothing paces, and what it does next at any tick
-abbrev pub unpaced : Card → Card
-unpaced v = record v { pace = None }
-
-abbrev pub due_alone : Card → AreaList → Due
-due_alone v areas = due_of (unpaced v) (blocks_held areas) 0
-
 -- the area of a descriptor's grant, if it is held
 abbrev pub area_of_grant : ℕ → Option Area → Option (ℕ × List ℕ)
 area_of_grant grant None = None

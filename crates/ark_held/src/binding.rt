@@ -19,6 +19,7 @@ impl App {
         ensures areas { self.new.areas ≡ self.old.areas }
         ensures store { self.new.store ≡ self.old.store }
         ensures doors { self.new.devices.doors ≡ self.old.devices.doors }
+        ensures rates { self.new.devices.rates ≡ self.old.devices.rates }
         ensures name { self.new.name ≡ self.old.name }
     {
         let areas = self.areas.len();
@@ -35,6 +36,7 @@ impl App {
         ensures areas { self.new.areas ≡ self.old.areas }
         ensures store { self.new.store ≡ self.old.store }
         ensures doors { self.new.devices.doors ≡ self.old.devices.doors }
+        ensures rates { self.new.devices.rates ≡ self.old.devices.rates }
         ensures name { self.new.name ≡ self.old.name }
     {
         self.devices.unbind(key, grant);

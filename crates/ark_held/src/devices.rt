@@ -5,6 +5,7 @@ ghost use Rattle.ark_vsic.specs.Moves.{CanMove};
 ghost use Rattle.ark_held.specs.Bound.{HasRoomToBind, with_bound};
 ghost use Rattle.ark_held.specs.Rings.{AreSound, ChangesCard, HasRoomFor, new_card, no_ring, unbound, with_posted, with_reaped};
 
+use crate::allowance::Allowance;
 use crate::card::StorageCard;
 use ark_base::Memory;
 use ark_objects::Objects;
@@ -12,30 +13,34 @@ use ark_vic::{Completion, Counts, Descriptor, Door};
 use ark_vsic::Vsic;
 use std::alloc::Global;
 
-/// The storage cards and the doors of an application, by key.
+/// The storage cards, the doors and the rates of an application, by key.
 #[derive(Drop)]
 pub struct Devices {
     pub cards: Objects<StorageCard>,
     pub doors: Objects<Door>,
+    pub rates: Objects<Allowance>,
     /// The frames of the memory in which the buffers of descriptors lie.
     pub frames: u32,
     pub ghost sound: { ∥ AreSound frames cards ∥₁ },
 }
 
 impl Devices {
-    /// No card and no door, beside a memory of so many frames. `Memory` comes for want of memory; of the other calls only
-    /// a new card takes any.
+    /// No card, no door and no rate, beside a memory of so many frames. `Memory` comes for want of
+    /// memory; of the other calls only a new card takes any.
     pub fn new(alloc: Global, frames: u32) -> Result<Devices, Memory>
         ensures cards { IfOk result (λ d. held d.cards ≡ 0) }
         ensures vacant { IfOk result (λ d. (key : ℕ) → at d.cards key ≡ None) }
         ensures doors { IfOk result (λ d. held d.doors ≡ 0) }
+        ensures rates { IfOk result (λ d. held d.rates ≡ 0) }
         ensures frames { IfOk result (λ d. d.frames ≡ frames) }
     {
         let cards = Objects::new(alloc)?;
         let doors = Objects::new(alloc)?;
+        let rates = Objects::new(alloc)?;
         Ok(Devices {
             cards,
             doors,
+            rates,
             frames,
         })
     }
@@ -48,6 +53,7 @@ impl Devices {
         ensures changes { Changes self.old.cards self.new.cards result (Some (new_card vsic)) }
         ensures more { held self.new.cards ≡ held self.old.cards + 1 }
         ensures doors { self.new.doors ≡ self.old.doors }
+        ensures rates { self.new.rates ≡ self.old.rates }
         ensures frames { self.new.frames ≡ self.old.frames }
     {
         self.cards.put(StorageCard {
@@ -66,6 +72,7 @@ impl Devices {
             (λ counts. Changes self.old.doors self.new.doors key (Some (counts_of []))) }
         ensures held { held self.new.doors ≡ held self.old.doors }
         ensures cards { self.new.cards ≡ self.old.cards }
+        ensures rates { self.new.rates ≡ self.old.rates }
         ensures frames { self.new.frames ≡ self.old.frames }
     {
         self.doors.at(key)?;
@@ -79,6 +86,7 @@ impl Devices {
             (λ c. record c { door = door }) }
         ensures held { held self.new.cards ≡ held self.old.cards }
         ensures doors { self.new.doors ≡ self.old.doors }
+        ensures rates { self.new.rates ≡ self.old.rates }
         ensures frames { self.new.frames ≡ self.old.frames }
     {
         self.cards.at_mut(key).door = door;
@@ -90,6 +98,7 @@ impl Devices {
         ensures changes { ChangesCard self.old.cards self.new.cards key (with_bound grant) }
         ensures held { held self.new.cards ≡ held self.old.cards }
         ensures doors { self.new.doors ≡ self.old.doors }
+        ensures rates { self.new.rates ≡ self.old.rates }
         ensures frames { self.new.frames ≡ self.old.frames }
     {
         self.cards.at_mut(key).vsic.bind(grant);
@@ -101,6 +110,7 @@ impl Devices {
         ensures changes { ChangesCard self.old.cards self.new.cards key (unbound grant) }
         ensures held { held self.new.cards ≡ held self.old.cards }
         ensures doors { self.new.doors ≡ self.old.doors }
+        ensures rates { self.new.rates ≡ self.old.rates }
         ensures frames { self.new.frames ≡ self.old.frames }
     {
         self.cards.at_mut(key).vsic.unbind(grant);
@@ -114,6 +124,7 @@ impl Devices {
         ensures changes { ChangesCard self.old.cards self.new.cards key (with_posted descriptor) }
         ensures held { held self.new.cards ≡ held self.old.cards }
         ensures doors { self.new.doors ≡ self.old.doors }
+        ensures rates { self.new.rates ≡ self.old.rates }
         ensures frames { self.new.frames ≡ self.old.frames }
     {
         match self.cards.at_mut(key).vsic.ring_mut().post(descriptor) {
@@ -130,6 +141,7 @@ impl Devices {
         ensures changes { ChangesCard self.old.cards self.new.cards key with_reaped }
         ensures held { held self.new.cards ≡ held self.old.cards }
         ensures doors { self.new.doors ≡ self.old.doors }
+        ensures rates { self.new.rates ≡ self.old.rates }
         ensures frames { self.new.frames ≡ self.old.frames }
     {
         self.cards.at_mut(key).vsic.ring_mut().reap()
@@ -141,6 +153,7 @@ impl Devices {
             (option_map (unbound grant) (at self.old.cards key)) }
         ensures held { held self.new.cards ≡ held self.old.cards }
         ensures doors { self.new.doors ≡ self.old.doors }
+        ensures rates { self.new.rates ≡ self.old.rates }
         ensures frames { self.new.frames ≡ self.old.frames }
     {
         if self.cards.at(key).is_some() {
@@ -154,6 +167,7 @@ impl Devices {
             at self.new.cards key ≡ option_map (unbound grant) (at self.old.cards key) }
         ensures held { held self.new.cards ≡ held self.old.cards }
         ensures doors { self.new.doors ≡ self.old.doors }
+        ensures rates { self.new.rates ≡ self.old.rates }
         ensures frames { self.new.frames ≡ self.old.frames }
     {
         for key in 0..self.cards.end() {
@@ -167,6 +181,7 @@ impl Devices {
         ensures gone { Changes self.old.cards self.new.cards key None }
         ensures fewer { held self.new.cards + 1 ≡ held self.old.cards }
         ensures doors { self.new.doors ≡ self.old.doors }
+        ensures rates { self.new.rates ≡ self.old.rates }
         ensures frames { self.new.frames ≡ self.old.frames }
     {
         let _ = self.cards.take(key);

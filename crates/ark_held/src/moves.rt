@@ -3,10 +3,10 @@ ghost use Rattle.std.specs.Prelude.{◌≡◌, ℕ, Some, IfSome, IsSome, length
 ghost use Rattle.ark_objects.specs.Held.{Changes, at, held};
 ghost use Rattle.ark_extents.specs.Blocks.{AreDistinct};
 ghost use Rattle.ark_media.specs.Calls.{Went};
-ghost use Rattle.ark_vsic.specs.Card.{PacedBy, head_of};
+ghost use Rattle.ark_vsic.specs.Card.{head_of};
 ghost use Rattle.ark_vsic.specs.Moves.{CanMove, Leaves, answer_of, calls_of, due_of, pace_after, ring_after, worked};
 ghost use Rattle.ark_held.specs.Inside.{AreasInside};
-ghost use Rattle.ark_held.specs.Moving.{area_named, blocks_held, due_alone, unpaced, vsic_moved};
+ghost use Rattle.ark_held.specs.Moving.{area_named, blocks_held, vsic_moved};
 ghost use Rattle.ark_held.specs.Ringing.{IsWatching, Rings, RingsAt};
 ghost use Rattle.ark_held.specs.declared.card.StorageCard.{StorageCard};
 
@@ -41,7 +41,6 @@ fn move_vsic<D: Disk>(
     requires sound { IfSome (head_of vsic.old.ring) (λ d.
         CanMove region.old.taken vsic.old.ring.moved d) }
     requires inside { AreasInside (D.told disk.old).blocks areas.now }
-    requires later { PacedBy now vsic.old.pace }
     ensures went { Went D.goes
         (calls_of vsic.old (due_of vsic.old (blocks_held areas.now) now) region.old)
         (worked result) disk.old disk.new }
@@ -70,6 +69,7 @@ impl Devices {
             Rings door (at self.old.doors) (at self.new.doors) }
         ensures held { held self.new.doors ≡ held self.old.doors }
         ensures cards { self.new.cards ≡ self.old.cards }
+        ensures rates { self.new.rates ≡ self.old.rates }
         ensures frames { self.new.frames ≡ self.old.frames }
     {
         let Some(key) = door else {
@@ -81,29 +81,30 @@ impl Devices {
         }
     }
 
-    /// Makes one move of the card of a key, which nothing paces, for an application that holds
-    /// these areas. A descriptor that has ended rings at the door that watches the card.
+    /// Makes one move of the card of a key at tick `now`, for an application that holds these
+    /// areas. A descriptor that has ended rings at the door that watches the card.
     pub fn move_card<D: Disk>(
         &mut self,
         key: u32,
         areas: &Areas,
         region: &mut Region,
         disk: &mut D,
+        now: u64,
     ) -> Moved
         requires there { IsSome (at self.old.cards key) }
         requires frames { self.old.frames ≡ length region.old.taken }
         requires inside { AreasInside (D.told disk.old).blocks areas.now }
         ensures went { (one : StorageCard) → at self.old.cards key ≡ Some one → Went D.goes
-            (calls_of (unpaced one.vsic) (due_alone one.vsic areas.now) region.old)
+            (calls_of one.vsic (due_of one.vsic (blocks_held areas.now) now) region.old)
             (worked result) disk.old disk.new }
         ensures answer { (one : StorageCard) → at self.old.cards key ≡ Some one → result
-            ≡ answer_of (unpaced one.vsic) (due_alone one.vsic areas.now) (worked result) }
+            ≡ answer_of one.vsic (due_of one.vsic (blocks_held areas.now) now) (worked result) }
         ensures region { (one : StorageCard) → at self.old.cards key ≡ Some one →
-            Leaves (unpaced one.vsic) (due_alone one.vsic areas.now) (worked result)
+            Leaves one.vsic (due_of one.vsic (blocks_held areas.now) now) (worked result)
             (D.told disk.new).history region.old region.new }
         ensures cards { (one : StorageCard) → at self.old.cards key ≡ Some one →
             Changes self.old.cards self.new.cards key (Some (record one {
-              vsic = vsic_moved (unpaced one.vsic) (blocks_held areas.now) 0 result;
+              vsic = vsic_moved one.vsic (blocks_held areas.now) now result;
             })) }
         ensures doors { (one : StorageCard) → at self.old.cards key ≡ Some one →
             IsWatching one.door (at self.old.doors) →
@@ -115,14 +116,13 @@ impl Devices {
             CanMove region.old.taken one.vsic.ring.moved d) }
         ensures held_cards { held self.new.cards ≡ held self.old.cards }
         ensures held_doors { held self.new.doors ≡ held self.old.doors }
+        ensures rates { self.new.rates ≡ self.old.rates }
         ensures frames { self.new.frames ≡ self.old.frames }
         ensures taken { region.new.taken ≡ region.old.taken }
     {
         let card = self.cards.at_mut(key);
         let door = card.door;
-        // So far no rate paces a card, whatever the tick is.
-        card.vsic.pace(None);
-        let moved = move_vsic(&mut card.vsic, areas, region, disk, 0);
+        let moved = move_vsic(&mut card.vsic, areas, region, disk, now);
         if let Moved::Done(_) = moved {
             self.ring(door);
         }

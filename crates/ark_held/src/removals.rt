@@ -22,6 +22,7 @@ impl App {
         ensures cards { (key : ℕ) → at self.new.devices.cards key
             ≡ option_map (unbound grant) (at self.old.devices.cards key) }
         ensures doors { self.new.devices.doors ≡ self.old.devices.doors }
+        ensures rates { self.new.devices.rates ≡ self.old.devices.rates }
         ensures name { self.new.name ≡ self.old.name }
         ensures region { self.new.store.region ≡ self.old.store.region }
         ensures buffers { self.new.store.buffers ≡ self.old.store.buffers }
@@ -38,6 +39,7 @@ impl App {
         ensures labels { self.new.labels ≡ others label.now self.old.labels }
         ensures cards { LosesCard self.old.devices.cards self.new.devices.cards key grant }
         ensures doors { self.new.devices.doors ≡ self.old.devices.doors }
+        ensures rates { self.new.devices.rates ≡ self.old.devices.rates }
         ensures areas { self.new.areas ≡ self.old.areas }
         ensures name { self.new.name ≡ self.old.name }
         ensures store { self.new.store ≡ self.old.store }
@@ -53,6 +55,7 @@ impl App {
         requires there { IsSome (at self.old.devices.doors key) }
         ensures labels { self.new.labels ≡ others label.now self.old.labels }
         ensures doors { Changes self.old.devices.doors self.new.devices.doors key None }
+        ensures rates { self.new.devices.rates ≡ self.old.devices.rates }
         ensures cards { (k : ℕ) → at self.new.devices.cards k
             ≡ option_map (unbound grant) (at self.old.devices.cards k) }
         ensures areas { self.new.areas ≡ self.old.areas }

@@ -8,3 +8,4 @@ pub mod Lent
 pub mod Ended
 pub mod Headers
 pub mod Whole
+pub mod Held

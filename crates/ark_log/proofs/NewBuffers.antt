@@ -4,7 +4,7 @@ use Rattle.std.proofs.lemmas.List.{append-nil, drop_all}
 use Rattle.ark_region.specs.Frames.{Piece, Space, LiesInRegion, Wrote, bytes_of, put}
 use Rattle.ark_log.specs.Buffers.{IsNewBuffer}
 
-whole_put : (xs ys : List ℕ) → length xs ≤ length ys → put xs 0 ys ≡ ys
+pub whole_put : (xs ys : List ℕ) → length xs ≤ length ys → put xs 0 ys ≡ ys
 whole_put xs ys le =
     ap (λ zs. ys ++ zs) (drop_all (0 + length ys) xs (let more : length xs ≤ 0 + length ys = omega (arith, le) in more)) ∙ append-nil ys
 

@@ -1,4 +1,5 @@
 pub mod Open
+pub mod Loaded
 pub mod Buffers
 pub mod Refused
 pub mod Waits

@@ -1,4 +1,4 @@
--- The row of `drop`, of a card or a door.
+-- The row of `drop`, of a card, a door or a rate.
 use Rattle.std.proofs.Common.{◌≡◌, ℕ, ◌<◌, Bool, true, false, not, nat_lt, List, [], ◌∷◌, length, refl, sym, ◌∙◌, ap, subst, arith}
 use Rattle.std.specs.Prelude.{Option, Some, None, Result, Ok, Err, ◌&&◌, ◌||◌, is_some, option_map}
 use Rattle.std.proofs.Math.Bool.{and-false}
@@ -27,9 +27,11 @@ use Rattle.ark_held.specs.Words.{Labels, AreaList}
 use Rattle.ark_held.specs.Totals.{bit, total}
 use Rattle.ark_held.specs.Kept.{Tables}
 use Rattle.ark_held.specs.Rings.{LosesCard, card_kept, kept_card, sees_any, unbound}
+use Rattle.ark_held.specs.Pacing.{rate_kept}
 use Rattle.ark_held.specs.Held.{IsObjectOf, AtLabel, Holds, is_area, has_key, is_shared, is_shared_kind}
 use Rattle.ark_held.specs.Beyond.{Beyond, around, tables_of}
 use Rattle.ark_held.specs.Does.{Acts}
+use Rattle.ark_held.specs.declared.allowance.Allowance.{Allowance}
 use Rattle.ark_held.specs.declared.app.App.{App}
 use Rattle.ark_held.specs.declared.card.StorageCard.{StorageCard}
 use Rattle.ark_held.specs.declared.store.Store.{Store}
@@ -47,7 +49,7 @@ use Rattle.ark_own.proofs.OfDoors as doors
 use Rattle.ark_own.proofs.OfDoors.{HasDoor}
 use Rattle.ark_own.proofs.Watched.{watched_same}
 
-abbrev conditions : Machine → List ℕ → Given → Conditions
+abbrev pub conditions : Machine → List ℕ → Given → Conditions
 conditions m l g = record none {
   no_application = not m.made;
   no_grant = missing m (l ∷ []);
@@ -57,11 +59,11 @@ conditions m l g = record none {
   device_fault = has_fault g.ended;
 }
 
-abbrev row : List ℕ → Machine → Given → Row
+abbrev pub row : List ℕ → Machine → Given → Row
 row l m g = rows.drop m l g
 
 -- the machine without what is under the label
-abbrev left : Machine → List ℕ → Machine
+abbrev pub left : Machine → List ℕ → Machine
 left m l = each_object (lets_go l (serial_at m l)) (without m l)
 
 module _ (m : Machine) (l : List ℕ) (g : Given) (made : m.made ≡ true) where
@@ -73,10 +75,10 @@ module _ (m : Machine) (l : List ℕ) (g : Given) (made : m.made ≡ true) where
     early_kind buffer = rw (made, there, buffer) refl
 
     module _ (no_buffer : is_buffer h.object ≡ false) (no_area : is_vsa h.object ≡ false) where
-      early_busy : is_in_use m l h.object ≡ true → early (conditions m l g) ≡ Some r.Busy
+      pub early_busy : is_in_use m l h.object ≡ true → early (conditions m l g) ≡ Some r.Busy
       early_busy used = rw (made, there, no_buffer, no_area, and-false g.table_failed, used) refl
 
-      row_done : g.ended ≡ [] → is_in_use m l h.object ≡ false → rows.drop m l g ≡ record { machine = left m l; said = said.Ok; bytes = []; calls = [] }
+      pub row_done : g.ended ≡ [] → is_in_use m l h.object ≡ false → rows.drop m l g ≡ record { machine = left m l; said = said.Ok; bytes = []; calls = [] }
       unfolding answer
       row_done quiet unused = rw (made, there, no_buffer, no_area, and-false g.table_failed, unused, quiet) refl
 
@@ -99,7 +101,7 @@ pub cap_missing : (l : List ℕ) (e : Refusal) (o : Option Capability) → Err e
 cap_missing l e None is = (err_is e (r.NoGrant l) is, refl)
 cap_missing l e (Some d) is = absurd (ok_no d e (sym is))
 
--- Refusals of what is no card and no door.
+-- Refusals of what is no card, no door and no rate.
 
 module _ (t : Told) (app : App) (l : List ℕ) where
   pub no_label : value_at app.labels l ≡ None → Acts t app app (row l) [] (said.Refused (r.NoGrant l)) []
@@ -113,8 +115,8 @@ module _ (t : Told) (app : App) (l : List ℕ) where
       by y (Some c) None is m = absurd m
 
   -- what is under the label is a buffer
-  pub other_kind : (cap : Capability) → value_at app.labels l ≡ Some cap → is_shared (value_at app.labels l) ≡ false → (cap.kind ≡ cap_kind.Vsic → ⊥) → (cap.kind ≡ cap_kind.Door → ⊥) → Acts t app app (row l) [] (said.Refused r.WrongKind) []
-  other_kind cap label plain no_card no_door = refuses t app (row l) r.WrongKind (λ y g sited h.
+  pub other_kind : (cap : Capability) → value_at app.labels l ≡ Some cap → is_shared (value_at app.labels l) ≡ false → (cap.kind ≡ cap_kind.Vsic → ⊥) → (cap.kind ≡ cap_kind.Door → ⊥) → (cap.kind ≡ cap_kind.Rate → ⊥) → Acts t app app (row l) [] (said.Refused r.WrongKind) []
+  other_kind cap label plain no_card no_door no_rate = refuses t app (row l) r.WrongKind (λ y g sited h.
       let b = by y (value_at app.labels l) (at y.machine l) label (found (around y app) l app.labels y.machine.held h.held) in
       refused_first y.machine (conditions y.machine l g) _ r.WrongKind (early_kind y.machine l g h.made b.0 b.1 b.2))
     where
@@ -129,7 +131,7 @@ module _ (t : Told) (app : App) (l : List ℕ) where
       buffer y k c (Objects.door z) same f = absurd (no_door (ap (λ (q : Capability). q.kind) (sym same) ∙ f.its_kind))
       buffer y k c (Objects.vnic z) same f = absurd (not_some None f.net refl f.kept)
       buffer y k c (Objects.filter z q) same f = absurd (not_shared cap_kind.Filter refl (ap (λ (q : Capability). q.kind) (sym same) ∙ f.its_kind))
-      buffer y k c (Objects.rate z q) same f = absurd (not_some None (z, q) refl f.kept)
+      buffer y k c (Objects.rate z q) same f = absurd (no_rate (ap (λ (q : Capability). q.kind) (sym same) ∙ f.its_kind))
       buffer y k c (Objects.socket z) same f = absurd (not_some None f.socket refl f.kept)
 
       by : (y : Beyond) (c : Option Capability) (o : Option Held) → c ≡ Some cap → AtLabel (around y app) l c o → (b : Held) × (o ≡ Some b) × (is_buffer b.object ≡ true)
@@ -141,10 +143,10 @@ module _ (t : Told) (app : App) (l : List ℕ) where
 -- A card that is in use, or goes.
 
 card_device : (cap : Capability) → cap.kind ≡ cap_kind.Vsic → IsDevice cap
-card_device cap kind = record { no_rate = λ e. cc (kind, e); no_net = λ e. cc (kind, e); no_buffer = λ e. cc (kind, e); plain = ap is_area kind; stored = ap has_key kind }
+card_device cap kind = record { no_net = λ e. cc (kind, e); no_buffer = λ e. cc (kind, e); plain = ap is_area kind; stored = ap has_key kind }
 
 door_device : (cap : Capability) → cap.kind ≡ cap_kind.Door → IsDevice cap
-door_device cap kind = record { no_rate = λ e. cc (kind, e); no_net = λ e. cc (kind, e); no_buffer = λ e. cc (kind, e); plain = ap is_area kind; stored = ap has_key kind }
+door_device cap kind = record { no_net = λ e. cc (kind, e); no_buffer = λ e. cc (kind, e); plain = ap is_area kind; stored = ap has_key kind }
 
 some_items : {X : Type 0} (f : X → ℕ) (xs : List X) → length xs ≡ 0 → total f xs ≡ 0
 some_items f [] none = refl
@@ -164,7 +166,7 @@ pub not_busy : (one : StorageCard) → is_some one.log ≡ false → members one
 not_busy one closed none = ap (λ b. b || nat_lt 0 (members one.vsic.ring)) closed ∙ ap (λ m. nat_lt 0 m) none
 
 -- the application without it, and what its tables are then
-without_it : (y : Beyond) (app app1 : App) (l : List ℕ) (grant : ℕ) (tables : Tables) → app1.labels ≡ others l app.labels → app1.areas ≡ app.areas → tables_of app1.store app1.devices ≡ unbound_tables grant tables
+pub without_it : (y : Beyond) (app app1 : App) (l : List ℕ) (grant : ℕ) (tables : Tables) → app1.labels ≡ others l app.labels → app1.areas ≡ app.areas → tables_of app1.store app1.devices ≡ unbound_tables grant tables
     → Holds (record (around y app) { labels = others l app.labels; tables = unbound_tables grant tables; machine = left y.machine l }) → Holds (around (record y { machine = left y.machine l }) app1)
 without_it y app app1 l grant tables labels areas is h =
     subst (λ (z : Labels). Holds (record (around (record y { machine = left y.machine l }) app1) { labels = z })) (sym labels)
@@ -195,7 +197,7 @@ module _ (t : Told) (app app1 : App) (l : List ℕ) (cap : Capability) (label : 
         (early_busy y.machine l g h.made v.held v.there (ap is_buffer v.object) (ap is_vsa v.object) (in_use y h v ∙ used)))
 
     module _ (unused : (is_some one.log || nat_lt 0 (members one.vsic.ring)) ≡ false) (labels : app1.labels ≡ others l app.labels) (loses : LosesCard app.devices.cards app1.devices.cards cap.key cap.grant)
-        (doors : app1.devices.doors ≡ app.devices.doors) (areas : app1.areas ≡ app.areas) (name : app1.name ≡ app.name) (store : app1.store ≡ app.store) where
+        (doors : app1.devices.doors ≡ app.devices.doors) (rates : app1.devices.rates ≡ app.devices.rates) (areas : app1.areas ≡ app.areas) (name : app1.name ≡ app.name) (store : app1.store ≡ app.store) where
       tables : Tables
       tables = record (tables_of app.store app.devices) { cards = card_kept loses.rest }
 
@@ -204,13 +206,14 @@ module _ (t : Told) (app app1 : App) (l : List ℕ) (cap : Capability) (label : 
       one_less = record {
         cards = λ k other. ap (λ o. option_map kept_card o) (loses.gone.others k (λ e. other kind e));
         doors = λ k other. refl;
+        rates = λ k other. refl;
         rest = refl;
       }
 
       tables_now : tables_of app1.store app1.devices ≡ unbound_tables cap.grant tables
       unfolding tables
-      tables_now = tables_unbound app1.store app.store app1.devices app.devices cap.grant (card_kept loses.rest) (slot app.devices.doors) (ap (λ (z : Store). z.region) store) (ap (λ (z : Store). z.buffers) store)
-          (λ k. ap (λ o. option_map kept_card o) (loses.cards k) ∙ kept_unbound cap.grant (slot loses.rest k)) (λ k. ap (λ (z : List (Option Counts)). slot z k) doors)
+      tables_now = tables_unbound app1.store app.store app1.devices app.devices cap.grant (card_kept loses.rest) (slot app.devices.doors) (rate_kept app.devices.rates) (ap (λ (z : Store). z.region) store) (ap (λ (z : Store). z.buffers) store)
+          (λ k. ap (λ o. option_map kept_card o) (loses.cards k) ∙ kept_unbound cap.grant (slot loses.rest k)) (λ k. ap (λ (z : List (Option Counts)). slot z k) doors) (λ k. ap (λ (z : List (Option Allowance)). rate_kept z k) rates)
 
       empty : (y : Beyond) (v : HasCard (around y app) l cap.key) → held_in v.vsic.queue ≡ 0
       empty y v =
@@ -234,7 +237,7 @@ module _ (t : Told) (app app1 : App) (l : List ℕ) (cap : Capability) (label : 
           let v = its y h in
           without_it y app app1 l cap.grant tables labels areas tables_now
           (lost_all (around y app) h l cap label v.held v.there (card_device cap kind) (nothing y v) (λ door. cc (kind, door))
-          (λ card. log_same app l cap.key is_key one here y v ∙ (none_of_both (is_some one.log) (nat_lt 0 (members one.vsic.ring)) unused).0) tables one_less)
+          (λ card. log_same app l cap.key is_key one here y v ∙ (none_of_both (is_some one.log) (nat_lt 0 (members one.vsic.ring)) unused).0) (λ rate. cc (kind, rate)) tables one_less)
 
       pub card_done : Acts t app app1 (row l) [] said.Ok []
       card_done = comes_quiet t app app1 (row l) said.Ok [] areas name (λ y g came sited h.
@@ -267,18 +270,18 @@ module _ (t : Told) (app app1 : App) (l : List ℕ) (cap : Capability) (label : 
       (early_busy y.machine l g h.made d.held d.there (ap is_buffer d.object) (ap is_vsa d.object) (watching y h d ∙ used)))
 
   module _ (unused : sees_any app.devices.cards cap.key app.labels ≡ false) (labels : app1.labels ≡ others l app.labels) (changes : Changes app.devices.doors app1.devices.doors cap.key None)
-      (unbind : (k : ℕ) → slot app1.devices.cards k ≡ option_map (unbound cap.grant) (slot app.devices.cards k)) (areas : app1.areas ≡ app.areas) (name : app1.name ≡ app.name) (store : app1.store ≡ app.store) where
+      (unbind : (k : ℕ) → slot app1.devices.cards k ≡ option_map (unbound cap.grant) (slot app.devices.cards k)) (rates : app1.devices.rates ≡ app.devices.rates) (areas : app1.areas ≡ app.areas) (name : app1.name ≡ app.name) (store : app1.store ≡ app.store) where
     tables_less : Tables
     tables_less = record (tables_of app.store app.devices) { doors = slot app1.devices.doors }
 
     door_less : LosesOne (tables_of app.store app.devices) tables_less cap
     unfolding tables_less
-    door_less = record { cards = λ k other. refl; doors = λ k other. changes.others k (λ e. other kind e); rest = refl }
+    door_less = record { cards = λ k other. refl; doors = λ k other. changes.others k (λ e. other kind e); rates = λ k other. refl; rest = refl }
 
     tables_then : tables_of app1.store app1.devices ≡ unbound_tables cap.grant tables_less
     unfolding tables_less
-    tables_then = tables_unbound app1.store app.store app1.devices app.devices cap.grant (card_kept app.devices.cards) (slot app1.devices.doors) (ap (λ (z : Store). z.region) store) (ap (λ (z : Store). z.buffers) store)
-        (λ k. ap (λ o. option_map kept_card o) (unbind k) ∙ kept_unbound cap.grant (slot app.devices.cards k)) (λ k. refl)
+    tables_then = tables_unbound app1.store app.store app1.devices app.devices cap.grant (card_kept app.devices.cards) (slot app1.devices.doors) (rate_kept app.devices.rates) (ap (λ (z : Store). z.region) store) (ap (λ (z : Store). z.buffers) store)
+        (λ k. ap (λ o. option_map kept_card o) (unbind k) ∙ kept_unbound cap.grant (slot app.devices.cards k)) (λ k. refl) (λ k. ap (λ (z : List (Option Allowance)). rate_kept z k) rates)
 
     no_count : (y : Beyond) (d : HasDoor (around y app) l cap.key) → CountsNothing d.held.object
     no_count y d = subst (λ (o : Object). CountsNothing o) (sym d.object) (record { uses = λ k. refl; opens = λ k. refl; sockets = λ k. refl; covers = λ j. refl })
@@ -287,7 +290,7 @@ module _ (t : Told) (app app1 : App) (l : List ℕ) (cap : Capability) (label : 
     door_gone y h =
         let d = its_door y h in
         without_it y app app1 l cap.grant tables_less labels areas tables_then
-        (lost_all (around y app) h l cap label d.held d.there (door_device cap kind) (no_count y d) (λ door. sym (watched_same y app h l cap label kind) ∙ unused) (λ card. cc (kind, card)) tables_less door_less)
+        (lost_all (around y app) h l cap label d.held d.there (door_device cap kind) (no_count y d) (λ door. sym (watched_same y app h l cap label kind) ∙ unused) (λ card. cc (kind, card)) (λ rate. cc (kind, rate)) tables_less door_less)
 
     pub door_done : Acts t app app1 (row l) [] said.Ok []
     door_done = comes_quiet t app app1 (row l) said.Ok [] areas name (λ y g came sited h.

@@ -25,10 +25,12 @@ use Rattle.ark_machine.specs.Row.{Row, Given, says, answer}
 use Rattle.ark_held.specs.Words.{Labels}
 use Rattle.ark_held.specs.Totals.{bit, open_count}
 use Rattle.ark_held.specs.Rings.{card_kept, kept_card, new_card, no_ring}
+use Rattle.ark_held.specs.Pacing.{rate_kept}
 use Rattle.ark_held.specs.Cards.{IsCard}
 use Rattle.ark_held.specs.Held.{Holds}
 use Rattle.ark_held.specs.Beyond.{Beyond, around}
 use Rattle.ark_held.specs.Does.{Grants}
+use Rattle.ark_held.specs.declared.allowance.Allowance.{Allowance}
 use Rattle.ark_held.specs.declared.app.App.{App}
 use Rattle.ark_held.proofs.ByKind.{card_of}
 use Rattle.ark_held.proofs.Lists.{le_true, le_false, none_of, not_some, lookup_front, total_last}
@@ -98,7 +100,7 @@ module _ (t : Told) (app : App) (v : List ℕ) (size grant : ℕ) where
             refused_first y.machine (conditions y.machine v true) _ refusal.NoMemory (rw (h.made, gone, below) refl)) grant
 
         module _ (app1 : App) (key : ℕ) (card : Card) (ring : card.ring ≡ no_ring size) (bound : card.bound ≡ []) (pace : card.pace ≡ None) (vacant : slot app.devices.cards key ≡ None) (changes : Changes app.devices.cards app1.devices.cards key (Some (new_card card)))
-            (labels : app1.labels ≡ app.labels ++ (v, record { kind = cap_kind.Vsic; grant = grant; key = key }) ∷ []) (doors : app1.devices.doors ≡ app.devices.doors) (store : app1.store ≡ app.store) (areas : app1.areas ≡ app.areas) (name : app1.name ≡ app.name) where
+            (labels : app1.labels ≡ app.labels ++ (v, record { kind = cap_kind.Vsic; grant = grant; key = key }) ∷ []) (doors : app1.devices.doors ≡ app.devices.doors) (rates : app1.devices.rates ≡ app.devices.rates) (store : app1.store ≡ app.store) (areas : app1.areas ≡ app.areas) (name : app1.name ≡ app.name) where
           abbrev cap : Capability
           cap = record { kind = cap_kind.Vsic; grant = grant; key = key }
 
@@ -120,6 +122,7 @@ module _ (t : Told) (app : App) (v : List ℕ) (size grant : ℕ) where
             logs = λ k c is kind. ap (λ o. option_and_then (λ z. z.log) o) (same_card y h k c is kind);
             cards = λ k c stays is kind. same_card y h k c is kind;
             doors = λ k c stays is kind. ap (λ (ds : List (Option Counts)). slot ds c.key) doors;
+            rates = λ k c stays is kind. ap (λ (rs : List (Option Allowance)). rate_kept rs c.key) rates;
           }
 
           abbrev one : Machine → Held

@@ -35,14 +35,16 @@ use Rattle.ark_held.specs.Totals.{bit, total}
 use Rattle.ark_held.specs.Kept.{CardKept, ChainKept, PaceKept, Tables}
 use Rattle.ark_held.specs.Stored.{buffer_kept}
 use Rattle.ark_held.specs.Rings.{kept_card, card_kept}
+use Rattle.ark_held.specs.Pacing.{rate_kept}
 use Rattle.ark_held.specs.Around.{Around, Both}
 use Rattle.ark_held.specs.Areas.{IsOpened}
-use Rattle.ark_held.specs.Cards.{IsPaced, IsWatched}
+use Rattle.ark_held.specs.Cards.{IsWatched}
 use Rattle.ark_held.specs.Held.{IsObjectOf, AtLabel, AllMatch, Holds}
 use Rattle.ark_held.specs.Beyond.{Beyond, around, tables_of}
-use Rattle.ark_held.specs.Does.{Acts}
-use Rattle.ark_held.specs.Moving.{card_of, blocks_held, pace_moved, card_moved, vsic_moved, said_of, area_named, unpaced, due_alone}
+use Rattle.ark_held.specs.Does.{ActsAt, Acts}
+use Rattle.ark_held.specs.Moving.{card_of, blocks_held, pace_moved, card_moved, vsic_moved, said_of, area_named}
 use Rattle.ark_held.specs.Ringing.{IsWatching, RingsAt}
+use Rattle.ark_held.specs.declared.allowance.Allowance.{Allowance}
 use Rattle.ark_held.specs.declared.app.App.{App}
 use Rattle.ark_held.specs.declared.buffer.Buffer.{Buffer}
 use Rattle.ark_held.specs.declared.card.StorageCard.{StorageCard}
@@ -52,7 +54,6 @@ use Rattle.ark_held.proofs.Doing.{refused_first, refuses, never, IsBased, in_bas
 use Rattle.ark_held.proofs.Ending.{OnCard, on_card}
 use Rattle.ark_held.proofs.Carrying.{WasMoved, carried}
 use Rattle.ark_held.proofs.MovedCard.{carries}
-use Rattle.ark_held.proofs.Naming.{any_tick}
 use Rattle.ark_own.specs.Keys.{card_key}
 use Rattle.ark_own.proofs.OfCards.{HasCard, HasNone, found_card, its, never_gone}
 
@@ -98,25 +99,8 @@ moves_row m l g h v made there object =
     let no_vnic : vnic_at m l ≡ None = rw (there, object) refl in
     ap (λ (o : Option Vnic). answer m (conditions m l) (row_of (devices.card_moves m l g o))) no_vnic ∙ accepted m l h v (move m l (first_end g.ended)) made there object
 
--- Where no rate is there, nothing paces a card, and its door is there.
+-- A card's door is there.
 module _ (r : Beyond) (app : App) (holds : Holds (around r app)) where
-  no_rate : (l : List ℕ) (c : Capability) (o : Object) → IsObjectOf (around r app) l c o → c.kind ≡ cap_kind.Rate → ⊥
-  no_rate l c (Objects.rate z y) f kind = not_some None (z, y) refl f.kept
-  no_rate l c (Objects.raw z) f kind = cc (kind, f.its_kind)
-  no_rate l c (Objects.log z) f kind = cc (kind, f.its_kind)
-  no_rate l c (Objects.vsic z) f kind = cc (kind, f.its_kind)
-  no_rate l c (Objects.vnic z) f kind = cc (kind, f.its_kind)
-  no_rate l c (Objects.filter z y) f kind = cc (kind, f.its_kind)
-  no_rate l c (Objects.door z) f kind = cc (kind, f.its_kind)
-  no_rate l c (Objects.buffer z) f kind = cc (kind, f.its_kind)
-  no_rate l c (Objects.socket z) f kind = cc (kind, f.its_kind)
-
-  not_paced : (k : Option PaceKept) (p : Option Paced) → Both (IsPaced (around r app)) k p → k ≡ None
-  not_paced None None both = refl
-  not_paced (Some k) (Some p) both = let s = stands_at (around r app) p.rate both.rate.cap holds both.rate.there in absurd (no_rate p.rate both.rate.cap s.held.object s.matches.object both.rate.its_kind)
-  not_paced None (Some p) both = absurd both
-  not_paced (Some k) None both = absurd both
-
   door_of : (l : List ℕ) (c : Capability) (o : Object) → IsObjectOf (around r app) l c o → c.kind ≡ cap_kind.Door → is_some (slot app.devices.doors c.key) ≡ true
   door_of l c (Objects.door z) f kind = ap is_some f.kept
   door_of l c (Objects.raw z) f kind = absurd (cc (kind, f.its_kind))
@@ -136,19 +120,22 @@ module _ (r : Beyond) (app : App) (holds : Holds (around r app)) where
   watching None (Some l) both = absurd both
   watching (Some key) None both = absurd both
 
-pace_none : (y : Due) (now : ℕ) → pace_after None y now ≡ None
-pace_none (due.Block n) now = refl
-pace_none due.Nothing now = refl
-pace_none due.Waits now = refl
-pace_none (due.Ends o) now = refl
-pace_none due.Sync now = refl
+-- A card as a table keeps it.
 
-moved_none : (y : Due) (now : ℕ) → pace_moved None y now ≡ None
-moved_none (due.Block n) now = refl
-moved_none due.Nothing now = refl
-moved_none due.Waits now = refl
-moved_none (due.Ends o) now = refl
-moved_none due.Sync now = refl
+abbrev as_kept : ℕ → Pace → PaceKept
+as_kept rate p = record { rate = rate; pace = p }
+
+pace_back : (rate : ℕ) (p : Option Pace) → option_map (λ k. k.pace) (option_map (as_kept rate) p) ≡ p
+pace_back rate None = refl
+pace_back rate (Some p) = refl
+
+pace_same : (rate : ℕ) (p : Option Pace) (y : Due) (now : ℕ) → option_map (as_kept rate) (pace_after p y now) ≡ pace_moved (option_map (as_kept rate) p) y now
+pace_same rate None (due.Block n) now = refl
+pace_same rate (Some p) (due.Block n) now = refl
+pace_same rate p due.Nothing now = refl
+pace_same rate p due.Waits now = refl
+pace_same rate p (due.Ends o) now = refl
+pace_same rate p due.Sync now = refl
 
 -- No log is open yet.
 module _ (r : Beyond) (app : App) (l : List ℕ) where
@@ -177,10 +164,6 @@ module _ (r : Beyond) (app : App) (l : List ℕ) where
   no_log None none = refl
   no_log (Some g) none = absurd (let z : ⊥ = omega (arith, none) in z)
 
-map_none : {A B : Type 0} (f : A → B) (o : Option A) → option_map f o ≡ None → o ≡ None
-map_none f None is = refl
-map_none f (Some a) is = absurd (not_some None (f a) refl (sym is))
-
 module _ (t : Told) (app : App) (l : List ℕ) where
   pub dev_no_key : (e : Refusal) → Err e ≡ card_key app.labels l → Acts t app app (row l) [] (said.Refused e) []
   dev_no_key e is = refuses t app (row l) e (λ r g sited h. refused_first r.machine (conditions r.machine l) _ e (why r app l h e (found_card (around r app) l h (Err e) is)))
@@ -189,14 +172,14 @@ module _ (t : Told) (app : App) (l : List ℕ) where
     pub dev_no_card : (e : Refusal) → slot app.devices.cards key ≡ None → Acts t app app1 (row l) [] (said.Refused e) []
     dev_no_card e gone = never t app app1 (row l) (said.Refused e) [] (λ r h. never_gone app l key is r h gone)
 
-    module _ (one : StorageCard) (here : slot app.devices.cards key ≡ Some one) (es : List Event) (a : Moved) (based : IsBased t)
-        (makes : Makes (calls_of (unpaced one.vsic) (due_alone one.vsic app.areas) app.store.region) (worked a) es) (answered : a ≡ answer_of (unpaced one.vsic) (due_alone one.vsic app.areas) (worked a))
-        (leaves : Leaves (unpaced one.vsic) (due_alone one.vsic app.areas) (worked a) t.history app.store.region app1.store.region)
-        (changes : Changes app.devices.cards app1.devices.cards key (Some (record one { vsic = vsic_moved (unpaced one.vsic) (blocks_held app.areas) 0 a })))
+    module _ (one : StorageCard) (here : slot app.devices.cards key ≡ Some one) (now : ℕ) (es : List Event) (a : Moved) (based : IsBased t)
+        (makes : Makes (calls_of one.vsic (due_of one.vsic (blocks_held app.areas) now) app.store.region) (worked a) es) (answered : a ≡ answer_of one.vsic (due_of one.vsic (blocks_held app.areas) now) (worked a))
+        (leaves : Leaves one.vsic (due_of one.vsic (blocks_held app.areas) now) (worked a) t.history app.store.region app1.store.region)
+        (changes : Changes app.devices.cards app1.devices.cards key (Some (record one { vsic = vsic_moved one.vsic (blocks_held app.areas) now a })))
         (rings : IsWatching one.door (slot app.devices.doors) → RingsAt a one.door (slot app.devices.doors) (slot app1.devices.doors))
         (sound : IfSome (head_of one.vsic.ring) (λ d. CanMove app.store.region.taken one.vsic.ring.moved d)) (distinct : IfSome (area_named (head_of one.vsic.ring) app.areas) (λ z. AreDistinct z.1))
-        (labels : app1.labels ≡ app.labels) (areas : app1.areas ≡ app.areas) (buffers : app1.store.buffers ≡ app.store.buffers) (name : app1.name ≡ app.name) where
-      module _ (r : Beyond) (h : Holds (around r app)) where
+        (labels : app1.labels ≡ app.labels) (rates : app1.devices.rates ≡ app.devices.rates) (areas : app1.areas ≡ app.areas) (buffers : app1.store.buffers ≡ app.store.buffers) (name : app1.name ≡ app.name) where
+      module _ (r : Beyond) (tick : r.now ≡ now) (h : Holds (around r app)) where
         abbrev v : HasCard (around r app) l key
         v = its app l key is r h
 
@@ -206,33 +189,33 @@ module _ (t : Told) (app : App) (l : List ℕ) where
         on : OnCard (around r app) l v.cap k v.vsic
         on = on_card (around r app) l v.cap k v.vsic v.held h v.label v.fits.its_kind v.there v.object (ap (λ i. card_kept app.devices.cards i) v.key_is ∙ ap (λ (o : Option StorageCard). option_map kept_card o) here)
 
-        none_kept : k.pace ≡ None
-        none_kept = not_paced r app h k.pace v.vsic.pace on.fits.pace
-
-        same_card : card_of k ≡ unpaced one.vsic
-        same_card = ap (λ (p : Option PaceKept). card_of (record k { pace = p })) none_kept
+        same_card : card_of k ≡ one.vsic
+        same_card = ap (λ (p : Option Pace). record one.vsic { pace = p }) (pace_back one.rate one.vsic.pace)
 
         abbrev what : Due
         what = due_of (card_of k) (blocks_held app.areas) r.now
 
-        same_due : due_alone one.vsic app.areas ≡ what
-        same_due = any_tick (unpaced one.vsic) (blocks_held app.areas) 0 r.now refl ∙ ap (λ (c : Card). due_of c (blocks_held app.areas) r.now) (sym same_card)
+        same_due : due_of one.vsic (blocks_held app.areas) now ≡ what
+        same_due = ap (λ (c : Card). due_of c (blocks_held app.areas) now) (sym same_card) ∙ ap (λ (n : ℕ). due_of (card_of k) (blocks_held app.areas) n) (sym tick)
 
-        same_kept : kept_card (record one { vsic = vsic_moved (unpaced one.vsic) (blocks_held app.areas) 0 a }) ≡ card_moved k what a r.now
-        same_kept =
-            ap (λ (p : Option Pace). record k { ring = ring_after one.vsic.ring a; pace = option_map (λ q. record { rate = one.rate; pace = q }) p }) (pace_none (due_alone one.vsic app.areas) 0)
-            ∙ ap (λ (p : Option PaceKept). record k { ring = ring_after one.vsic.ring a; pace = p }) (sym (moved_none what r.now))
-            ∙ ap (λ (p : Option PaceKept). record k { ring = ring_after one.vsic.ring a; pace = pace_moved p what r.now }) (sym none_kept)
+        same_pace : option_map (as_kept one.rate) (pace_after one.vsic.pace (due_of one.vsic (blocks_held app.areas) now) now) ≡ pace_moved k.pace what r.now
+        same_pace =
+            pace_same one.rate one.vsic.pace (due_of one.vsic (blocks_held app.areas) now) now
+            ∙ ap (λ (y : Due). pace_moved k.pace y now) same_due
+            ∙ ap (λ (n : ℕ). pace_moved k.pace what n) (sym tick)
+
+        same_kept : kept_card (record one { vsic = vsic_moved one.vsic (blocks_held app.areas) now a }) ≡ card_moved k what a r.now
+        same_kept = ap (λ (p : Option PaceKept). record k { ring = ring_after one.vsic.ring a; pace = p }) same_pace
 
         no_open_log : k.log ≡ None
         no_open_log = no_log r app l one.log (on.fits.log ∙ none_open r app l app.labels r.machine.held h.held)
 
         was_moved : WasMoved (around r app) v.cap.key k t.history es a app1.store.region (card_kept app1.devices.cards) (slot app1.devices.doors)
         was_moved = record {
-          makes = subst (λ (c : Card). Makes (calls_of c what app.store.region) (worked a) es) (sym same_card) (subst (λ (y : Due). Makes (calls_of (unpaced one.vsic) y app.store.region) (worked a) es) same_due makes);
-          answer_is = answered ∙ ap (λ (y : Due). answer_of (unpaced one.vsic) y (worked a)) same_due ∙ ap (λ (c : Card). answer_of c what (worked a)) (sym same_card);
+          makes = subst (λ (c : Card). Makes (calls_of c what app.store.region) (worked a) es) (sym same_card) (subst (λ (y : Due). Makes (calls_of one.vsic y app.store.region) (worked a) es) same_due makes);
+          answer_is = answered ∙ ap (λ (y : Due). answer_of one.vsic y (worked a)) same_due ∙ ap (λ (c : Card). answer_of c what (worked a)) (sym same_card);
           leaves = subst (λ (c : Card). Leaves c what (worked a) t.history app.store.region app1.store.region) (sym same_card)
-              (subst (λ (y : Due). Leaves (unpaced one.vsic) y (worked a) t.history app.store.region app1.store.region) same_due leaves);
+              (subst (λ (y : Due). Leaves one.vsic y (worked a) t.history app.store.region app1.store.region) same_due leaves);
           sets = record {
             here = ap (λ i. card_kept app1.devices.cards i) v.key_is ∙ ap (λ (o : Option StorageCard). option_map kept_card o) changes.changed ∙ ap (λ (z : CardKept). Some z) same_kept;
             others = λ i other. ap (λ (o : Option StorageCard). option_map kept_card o) (changes.others i (λ e. other (e ∙ sym v.key_is)));
@@ -240,14 +223,14 @@ module _ (t : Told) (app : App) (l : List ℕ) where
           rings = rings (watching r app h one.door v.vsic.door on.fits.door);
         }
 
-      pub dev_done : Acts t app app1 (row l) es (said_of a) []
+      pub dev_done : ActsAt now t app app1 (row l) es (said_of a) []
       dev_done grant = record {
-        devices = makes_devices (calls_of (unpaced one.vsic) (due_alone one.vsic app.areas) app.store.region) (worked a) es makes;
-        does = λ r g came told fresh sited h.
+        devices = makes_devices (calls_of one.vsic (due_of one.vsic (blocks_held app.areas) now) app.store.region) (worked a) es makes;
+        does = λ r g tick came told fresh sited h.
             let m = move r.machine l (first_end (ends_of es)) in
-            let done = carries (around r app) l (v r h).cap (k r h) (v r h).vsic (on r h) t.history es a app1.store.region (card_kept app1.devices.cards) (slot app1.devices.doors) (was_moved r h) told t.blocks sited
-            (in_base r app t es told based sited) sound distinct (no_open_log r h) in
-            let is_row : row l r.machine g ≡ row_of m = moves_row r.machine l g (v r h).held (v r h).vsic h.made (v r h).there (v r h).object ∙ ap (λ (ends : List Ended). row_of (move r.machine l (first_end ends))) came in
+            let done = carries (around r app) l (v r tick h).cap (k r tick h) (v r tick h).vsic (on r tick h) t.history es a app1.store.region (card_kept app1.devices.cards) (slot app1.devices.doors) (was_moved r tick h) told t.blocks sited
+            (in_base r app t es told based sited) sound distinct (no_open_log r tick h) in
+            let is_row : row l r.machine g ≡ row_of m = moves_row r.machine l g (v r tick h).held (v r tick h).vsic h.made (v r tick h).there (v r tick h).object ∙ ap (λ (ends : List Ended). row_of (move r.machine l (first_end ends))) came in
             rw is_row (record {
               said = done.said;
               bytes = sym done.bytes;
@@ -265,7 +248,9 @@ module _ (t : Told) (app : App) (l : List ℕ) where
               → Holds (around (record r { history = after r.history es; machine = n }) app1)
           held_then r n done =
               let z : Around = around (record r { history = after r.history es; machine = n }) app1 in
-              let same : tables_of app1.store app1.devices ≡ record (tables_of app1.store app1.devices) { buffers = buffer_kept app.store.buffers } = ap (λ (bs : List (Option Buffer)). record (tables_of app1.store app1.devices) { buffers = buffer_kept bs }) buffers in
+              let same : tables_of app1.store app1.devices ≡ record (tables_of app1.store app1.devices) { buffers = buffer_kept app.store.buffers; rates = rate_kept app.devices.rates } =
+              ap (λ (bs : List (Option Buffer)). record (tables_of app1.store app1.devices) { buffers = buffer_kept bs }) buffers
+              ∙ ap (λ (rs : List (Option Allowance)). record (tables_of app1.store app1.devices) { buffers = buffer_kept app.store.buffers; rates = rate_kept rs }) rates in
               subst (λ (ls : Labels). Holds (record z { labels = ls })) (sym labels)
               (subst (λ (es : AreaList). Holds (record z { labels = app.labels; areas = es })) (sym areas)
               (subst (λ (t : Tables). Holds (record z { labels = app.labels; areas = app.areas; tables = t })) (sym same) done))

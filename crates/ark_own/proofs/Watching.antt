@@ -56,7 +56,7 @@ module _ (y : Beyond) (app : App) where
   no_net_by l h None (Some g) is m = absurd m
   no_net_by l h (Some c) None is m = absurd m
 
-  no_net_at : Holds (around y app) → (l : List ℕ) (h : Held) → at y.machine l ≡ Some h → as_vnic h.object ≡ None
+  pub no_net_at : Holds (around y app) → (l : List ℕ) (h : Held) → at y.machine l ≡ Some h → as_vnic h.object ≡ None
   no_net_at holds l h is = no_net_by l h (value_at app.labels l) (at y.machine l) is (found (around y app) l app.labels y.machine.held holds.held)
 
 -- The door that is named, if one is.
@@ -175,21 +175,21 @@ watches x y None (Some k) same s = absurd s
 watches x y (Some l) None same s = absurd s
 
 module _ (t : Told) (app app1 : App) (v : List ℕ) (d : Option (List ℕ)) (key : ℕ) (given : Option ℕ) (keys : Ok (key, given) ≡ both_keys (card_key app.labels v) (door_given app.labels d)) (one : StorageCard) (here : slot app.devices.cards key ≡ Some one)
-    (changes : Changes app.devices.cards app1.devices.cards key (Some (seen given one))) (labels : app1.labels ≡ app.labels) (doors : app1.devices.doors ≡ app.devices.doors) (store : app1.store ≡ app.store) (areas : app1.areas ≡ app.areas) (name : app1.name ≡ app.name) where
+    (changes : Changes app.devices.cards app1.devices.cards key (Some (seen given one))) (labels : app1.labels ≡ app.labels) (doors : app1.devices.doors ≡ app.devices.doors) (rates : app1.devices.rates ≡ app.devices.rates) (store : app1.store ≡ app.store) (areas : app1.areas ≡ app.areas) (name : app1.name ≡ app.name) where
   abbrev its_key : Ok key ≡ card_key app.labels v
   its_key = is t app v d side.Io key given keys
 
   module _ (y : Beyond) (h : Holds (around y app)) (c : HasCard (around y app) v key) where
     abbrev after : Around
-    after = now app app1 v key its_key one (seen given one) here changes refl labels doors store areas y h c (sees d c.vsic) (alike d c.vsic)
+    after = now app app1 v key its_key one (seen given one) here changes refl labels doors rates store areas y h c (sees d c.vsic) (alike d c.vsic)
 
     fits : IsCard after v c.cap (sees d c.vsic)
     fits =
-        let keeps = card_keeps app app1 v key its_key one (seen given one) here changes refl labels doors store areas y h c (sees d c.vsic) (alike d c.vsic) in
+        let keeps = card_keeps app app1 v key its_key one (seen given one) here changes refl labels doors rates store areas y h c (sees d c.vsic) (alike d c.vsic) in
         record {
           its_kind = c.fits.its_kind;
           card = kept_card (seen given one);
-          kept = kept_now app app1 v key its_key one (seen given one) here changes refl labels doors store areas y h c (sees d c.vsic) (alike d c.vsic);
+          kept = kept_now app app1 v key its_key one (seen given one) here changes refl labels doors rates store areas y h c (sees d c.vsic) (alike d c.vsic);
           size = size_now app v key its_key one here y c;
           posted = posted_now app v key its_key one here y c after keeps;
           unreaped = unreaped_now app v key its_key one here y c after keeps;
@@ -197,11 +197,11 @@ module _ (t : Told) (app app1 : App) (v : List ℕ) (d : Option (List ℕ)) (key
           bound = bound_now app v key its_key one here y c after keeps;
           pace = pace_now app v key its_key one here y c after keeps;
           door = watches (around y app) after d given labels (its_door t app v d side.Io key given keys y h);
-          log = opens_now app v key its_key one here y c ∙ sym (card_opens app app1 v key its_key one (seen given one) here changes refl labels doors store areas y h c (sees d c.vsic) (alike d c.vsic));
+          log = opens_now app v key its_key one here y c ∙ sym (card_opens app app1 v key its_key one (seen given one) here changes refl labels doors rates store areas y h c (sees d c.vsic) (alike d c.vsic));
         }
 
     held : Holds after
-    held = card_altered app app1 v key its_key one (seen given one) here changes refl labels doors store areas y h c (sees d c.vsic) (alike d c.vsic) fits
+    held = card_altered app app1 v key its_key one (seen given one) here changes refl labels doors rates store areas y h c (sees d c.vsic) (alike d c.vsic) fits
 
   row_done : (y : Beyond) (g : Given) (h : Holds (around y app)) → HasCard (around y app) v key → rows.watch y.machine v d side.Io g ≡ watched v d side.Io y.machine
   unfolding answer

@@ -61,7 +61,29 @@ fn drop_door(app: &mut App, label: &Label, cap: Capability) -> Said
     Said::Ok
 }
 
-/// The word `drop`, of what the plane does not know of: a card or a door goes, unless it is in use, and a buffer does not.
+// The word `drop`, of a rate.
+fn drop_rate(app: &mut App, label: &Label, cap: Capability) -> Said
+    requires labelled { value_at app.old.labels label.now ≡ Some cap }
+    requires rate { cap.kind ≡ cap_kind.Rate }
+    ensures acts { (t : Told) →
+        Acts t app.old app.new (λ m g. control.drop m label.now g) [] result [] }
+    ensures areas { app.new.areas ≡ app.old.areas }
+    ensures said { IsSaid result }
+    ensures enough { wants_memory result ≡ false }
+{
+    // A rate's label has its rate.
+    if app.devices.rates.at(cap.key).is_none() {
+        return Said::Refused(Refusal::WrongKind);
+    }
+    if app.paces(cap.key) {
+        return Said::Refused(Refusal::Busy);
+    }
+    app.remove_rate(label, cap.key, cap.grant);
+    Said::Ok
+}
+
+/// The word `drop`, of what the plane does not know of: a card, a door or a rate goes, unless it is
+/// in use, and a buffer does not.
 pub fn drop_device(app: &mut App, label: &Label) -> Said
     requires other { is_shared (value_at app.old.labels label.now) ≡ false }
     ensures acts { (t : Told) →
@@ -77,6 +99,7 @@ pub fn drop_device(app: &mut App, label: &Label) -> Said
     match cap.kind {
         CapKind::Vsic => drop_card(app, label, cap),
         CapKind::Door => drop_door(app, label, cap),
+        CapKind::Rate => drop_rate(app, label, cap),
         _ => Said::Refused(Refusal::WrongKind),
     }
 }

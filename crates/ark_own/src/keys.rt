@@ -1,5 +1,5 @@
 ghost use Rattle.std.specs.Prelude.{◌≡◌, ℕ, IfSome, IfNone, List};
-ghost use Rattle.ark_own.specs.Keys.{IsLabelOf, both_keys, buffer_key, cap_at, card_key, door_given, door_key, raw_area};
+ghost use Rattle.ark_own.specs.Keys.{IsLabelOf, both_keys, buffer_key, cap_at, card_key, door_given, door_key, rate_given, rate_key, raw_area};
 
 use ark_base::{Kind, Label, Refusal};
 use ark_caps::{CapKind, CapTable, Capability};
@@ -100,6 +100,50 @@ pub fn keys_to_watch(
 {
     match (key_of_card(app, card), key_of_given(app, door)) {
         (Ok(card), Ok(door)) => Ok((card, door)),
+        (Err(Refusal::WrongKind), Err(other)) => Err(other),
+        (Err(refusal), _) => Err(refusal),
+        (Ok(_), Err(refusal)) => Err(refusal),
+    }
+}
+
+/// The key of the rate under a label.
+pub fn key_of_rate(app: &App, label: &Label) -> Result<u32, Refusal>
+    ensures key { result ≡ rate_key app.now.labels label.now }
+{
+    let Some(cap) = app.labels.get(label) else {
+        return Err(Refusal::NoGrant(*label));
+    };
+    match cap.kind {
+        CapKind::Rate => Ok(cap.key),
+        _ => Err(Refusal::WrongKind),
+    }
+}
+
+// The key of the rate that is named, if one is.
+fn key_of_given_rate(app: &App, rate: &Option<Label>) -> Result<Option<u32>, Refusal>
+    ensures key { result ≡ rate_given app.now.labels rate.now }
+{
+    let Some(label) = rate else {
+        return Ok(None);
+    };
+    match key_of_rate(app, label) {
+        Ok(key) => Ok(Some(key)),
+        Err(refusal) => Err(refusal),
+    }
+}
+
+/// The keys of a storage card, and of a rate if one is named. That a label is not there comes before
+/// that one is of another kind.
+pub fn keys_to_pace(
+    app: &App,
+    card: &Label,
+    rate: &Option<Label>,
+) -> Result<(u32, Option<u32>), Refusal>
+    ensures keys { result ≡ both_keys (card_key app.now.labels card.now)
+        (rate_given app.now.labels rate.now) }
+{
+    match (key_of_card(app, card), key_of_given_rate(app, rate)) {
+        (Ok(card), Ok(rate)) => Ok((card, rate)),
         (Err(Refusal::WrongKind), Err(other)) => Err(other),
         (Err(refusal), _) => Err(refusal),
         (Ok(_), Err(refusal)) => Err(refusal),

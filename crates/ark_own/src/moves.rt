@@ -2,7 +2,7 @@ ghost use Rattle.std.specs.Prelude.{◌≡◌, false, [], ℕ};
 ghost use Rattle.ark_media.specs.Calls.{GoesBy};
 ghost use Rattle.ark_script.specs.Text.{IsSaid, wants_memory};
 ghost use Rattle.ark_machine.specs.Devices as devices;
-ghost use Rattle.ark_held.specs.Does.{Acts};
+ghost use Rattle.ark_held.specs.Does.{ActsAt};
 ghost use Rattle.ark_held.specs.Inside.{AreasInside};
 ghost use Rattle.ark_held.specs.Moving as spec;
 
@@ -27,12 +27,12 @@ fn said_of(moved: Moved) -> Said
     }
 }
 
-/// The word `dev`, of a storage card; so far there is no network card.
-pub fn dev<D: Disk>(app: &mut App, label: &Label, disk: &mut D) -> Said
+/// The word `dev` at tick `now`, of a storage card; so far there is no network card.
+pub fn dev<D: Disk>(app: &mut App, label: &Label, disk: &mut D, now: u64) -> Said
     requires inside { AreasInside (D.told disk.old).blocks app.old.areas }
     ensures acts { GoesBy D.goes disk.old disk.new
-        (λ es. Acts (D.told disk.new) app.old app.new (λ m g. devices.dev m label.now g) es
-        result []) }
+        (λ es. ActsAt now (D.told disk.new) app.old app.new (λ m g. devices.dev m label.now g)
+        es result []) }
     ensures areas { app.new.areas ≡ app.old.areas }
     ensures said { IsSaid result }
     ensures enough { wants_memory result ≡ false }
@@ -46,6 +46,6 @@ pub fn dev<D: Disk>(app: &mut App, label: &Label, disk: &mut D) -> Said
         return Said::Refused(Refusal::WrongKind);
     }
     let region = &mut app.store.region;
-    let moved = app.devices.move_card(key, &app.areas, region, disk);
+    let moved = app.devices.move_card(key, &app.areas, region, disk, now);
     said_of(moved)
 }

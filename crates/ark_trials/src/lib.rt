@@ -19,6 +19,8 @@ mod growing;
 #[cfg(test)]
 mod lines;
 #[cfg(test)]
+mod rates;
+#[cfg(test)]
 mod reopened;
 #[cfg(test)]
 mod runs;

@@ -6,6 +6,7 @@ use crate::commands::{COMMANDS, OTHER_WORDS};
 use crate::cycles::CYCLES;
 use crate::growing::GROWN;
 use crate::lines::{EMPTY_LINES, LINES};
+use crate::rates::{PACED, RATES};
 use crate::reopened::REOPENED;
 use crate::runs::{Finished, run_on};
 use crate::words::{
@@ -100,6 +101,8 @@ fn answers_as_the_tables_say(rt: HostRuntime) -> Result<(), Fail> {
         DEVICES_GIVEN_UP,
         TRANSFERS,
         BINDINGS,
+        RATES,
+        PACED,
         GRANTS,
         BLOCKS,
         GIVEN_UP,

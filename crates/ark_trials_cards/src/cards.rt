@@ -1,6 +1,5 @@
 ghost use Rattle.std.specs.Prelude.{◌≡◌, ◌∷◌, [], None, IfSome};
 ghost use Rattle.ark_vsic.specs.Moves.{CanMove};
-ghost use Rattle.ark_vsic.specs.Card.{PacedBy};
 
 use ark_base::{Outcome, Span};
 use ark_extents::Spans;
@@ -52,9 +51,7 @@ fn step<D: Disk>(
     region: &mut Region,
     disk: &mut D,
     now: u64,
-) -> Option<Moved>
-    requires { PacedBy now rate }
-{
+) -> Option<Moved> {
     let spans = Spans::of(&[Span { start: 129, len: 3 }])?;
     let work = card.ring().head()?;
     let moves = work.job == Job::Zero && card.ring().moved() < work.count;
@@ -104,9 +101,7 @@ fn first_move(
     posted: Descriptor,
     rate: Option<Rate>,
     plan: &[Failing],
-) -> Option<Moved>
-    requires { PacedBy 5 rate }
-{
+) -> Option<Moved> {
     let mut world = device(alloc, plan)?;
     let mut region = Region::new(alloc, 4).ok()?;
     let mut card = card_with(alloc, is_bound, posted)?;

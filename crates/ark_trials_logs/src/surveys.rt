@@ -96,6 +96,7 @@ fn finds_entries_round_the_end(rt: HostRuntime) {
         first: 1,
         start: 3,
         count: 2,
+        used: 3,
         end: 2,
     };
     assert_eq!(rt; found.answer, Ok(seen));
@@ -115,6 +116,7 @@ fn finds_none_in_zeros(rt: HostRuntime) {
         first: 1,
         start: 0,
         count: 0,
+        used: 0,
         end: 0,
     };
     assert_eq!(rt; found.answer, Ok(seen));

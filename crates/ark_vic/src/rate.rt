@@ -48,21 +48,21 @@ impl Rate {
         }
     }
 
-    // What the passes so far take of the burst at a later tick.
+    // What the passes so far take of the burst at a tick, at one before the last of them as then.
     fn fill_now(&self, now: u64) -> u64
-        requires { self.now.tick ≤ now }
         ensures value { result ≡ fill_at self.now now }
         ensures within { result ≤ self.now.burst }
     {
+        let ticks = now.saturating_sub(self.tick);
         self.fill
-            .saturating_sub(self.per_tick.saturating_mul(now - self.tick))
+            .saturating_sub(self.per_tick.saturating_mul(ticks))
     }
 
-    /// Whether a pass of `len` bytes at tick `now` keeps the law, for the passes that the rate stands for.
+    /// Whether a pass of `len` bytes at tick `now` keeps the law, for the passes that the rate stands
+    /// for, none of them later.
     pub fn may(&self, len: u32, now: u64) -> bool
-        requires { self.now.tick ≤ now }
         ensures by_number { IsTrue result ↔ (fill_at self.now now + len ≤ self.now.burst) }
-        ensures by_law { (p : List Pass) → IsPaceOf self.now p
+        ensures by_law { (p : List Pass) → IsPaceOf self.now p → self.now.tick ≤ now
             → (IsTrue result ↔ WithinRate self.now.per_tick self.now.burst (p ++ (now, len) ∷ [])) }
     {
         u64::from(len) <= self.burst - self.fill_now(now)
@@ -70,10 +70,9 @@ impl Rate {
 
     /// Adds a pass of `len` bytes at tick `now`, which may go.
     pub fn passed(&mut self, len: u32, now: u64)
-        requires later { self.old.tick ≤ now }
-        requires may { fill_at self.old now + len ≤ self.old.burst }
+        requires { fill_at self.old now + len ≤ self.old.burst }
         ensures value { self.new ≡ with_fill self.old len now }
-        ensures stands { (p : List Pass) → IsPaceOf self.old p
+        ensures stands { (p : List Pass) → IsPaceOf self.old p → self.old.tick ≤ now
             → IsPaceOf self.new (p ++ (now, len) ∷ []) }
     {
         self.fill = self.fill_now(now) + u64::from(len);

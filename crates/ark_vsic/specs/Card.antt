@@ -1,5 +1,5 @@
 -- A storage card, and the areas that its descriptors may name.
-use Rattle.std.specs.Prelude.{ℕ, ◌≤◌, ◌==◌, ◌++◌, Bool, not, List, [], ◌∷◌, Option, IfSome, filter as select, if◌then◌else◌, slice_get}
+use Rattle.std.specs.Prelude.{ℕ, ◌==◌, ◌++◌, Bool, not, List, [], ◌∷◌, Option, filter as select, if◌then◌else◌, slice_get}
 use Rattle.std.specs.List.{list_any}
 use Rattle.ark_vic.specs.Pace.{Pace}
 use Rattle.ark_vic.specs.Queue.{Queue}
@@ -29,7 +29,3 @@ bound_without grant bound = select (λ b. not (b == grant)) bound
 -- the descriptor that the next move is of
 abbrev pub head_of : Queue → Option Descriptor
 head_of q = slice_get q.posted 0
-
--- no pass of the card is later than this tick
-abbrev pub PacedBy : ℕ → Option Pace → Type 0
-PacedBy now pace = IfSome pace (λ p. p.tick ≤ now)

@@ -1,5 +1,4 @@
 ghost use Rattle.std.specs.Prelude.{◌≡◌};
-ghost use Rattle.ark_vsic.specs.Card.{PacedBy};
 ghost use Rattle.ark_vsic.specs.Moves as spec;
 
 use ark_base::Outcome;
@@ -38,7 +37,6 @@ pub enum Moved {
 
 // What is due where a block's place is in its area.
 pub(crate) fn paced(pace: &Option<Rate>, now: u64, n: u32) -> Due
-    requires { PacedBy now pace.now }
     ensures { result ≡ spec.due_paced pace.now now n }
 {
     let Some(rate) = pace else {

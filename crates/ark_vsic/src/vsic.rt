@@ -1,9 +1,9 @@
-ghost use Rattle.std.specs.Prelude.{◌≡◌, ◌≤◌, ◌<◌, ◌+◌, ◌⊎◌, [], All, true, None, length, IfOk, IfSome};
+ghost use Rattle.std.specs.Prelude.{◌≡◌, ◌≤◌, ◌<◌, ◌+◌, ◌⊎◌, [], All, true, None, length, IfOk, IfSome, is_some};
 ghost use Rattle.std.specs.Borrow.{sem};
 ghost use Rattle.ark_media.specs.Calls.{Went};
 ghost use Rattle.ark_vsic.specs.declared.due.Moved.TheVariants as moved;
 ghost use Rattle.ark_vsic.specs.declared.due.Due.TheVariants as due;
-ghost use Rattle.ark_vsic.specs.Card.{PacedBy, bound_with, bound_without, head_of, is_bound};
+ghost use Rattle.ark_vsic.specs.Card.{bound_with, bound_without, head_of, is_bound};
 ghost use Rattle.ark_vsic.specs.Moves.{CanMove, Leaves, MayPass, MovesBlocks, answer_of, answer_tried, calls_of, count_of, due_of, ended, is_last, pace_after, ring_after, worked};
 
 use crate::block::try_block;
@@ -105,9 +105,15 @@ impl Vsic {
         self.pace = rate;
     }
 
+    /// Whether a rate paces it.
+    pub fn is_paced(&self) -> bool
+        ensures { result ≡ is_some self.now.pace }
+    {
+        self.pace.is_some()
+    }
+
     /// What it does next at tick `now`, for an application that holds these areas, by their grants.
     pub fn due(&self, held: &[(u64, Spans)], now: u64) -> Due
-        requires later { PacedBy now self.now.pace }
         ensures { result ≡ due_of self.now held.now now }
     {
         let Some(head) = self.ring.head() else {
@@ -186,8 +192,7 @@ impl Vsic {
 
     // A block passes its rate.
     fn pass(&mut self, now: u64)
-        requires later { PacedBy now self.old.pace }
-        requires may { MayPass now self.old.pace }
+        requires { MayPass now self.old.pace }
         ensures { self.new ≡ record self.old { pace = pace_after self.old.pace (due.Block 0) now } }
     {
         if let Some(rate) = &mut self.pace {
@@ -207,7 +212,6 @@ impl Vsic {
         requires sound { IfSome (head_of self.old.ring) (λ d.
             CanMove region.old.taken self.old.ring.moved d) }
         requires inside { All (λ a. All (λ n. n < (D.told disk.old).blocks) a.1) held.now }
-        requires later { PacedBy now self.old.pace }
         ensures went { Went D.goes (calls_of self.old (due_of self.old held.now now) region.old)
             (worked result) disk.old disk.new }
         ensures answer { result

@@ -32,7 +32,11 @@ impl Host {
         ensures counts { CountsLine self.old self.new }
     {
         match step {
-            Step::Door(name, ..) | Step::Watch(name, ..) | Step::Look(name, ..) => {
+            Step::Door(name, ..)
+            | Step::Watch(name, ..)
+            | Step::Look(name, ..)
+            | Step::Rate(name, ..)
+            | Step::Pace(name, ..) => {
                 self.act_own(name, step, disk, out);
             }
             _ => say(out, Said::Refused(Refusal::UnknownWord)),

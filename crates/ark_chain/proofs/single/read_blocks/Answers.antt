@@ -1,4 +1,4 @@
-use Rattle.std.proofs.Common.{◌≡◌, ◌+◌, ◌∙◌, [], ◌∷◌, true, false, map, sym, arith}
+use Rattle.std.proofs.Common.{◌∙◌, [], ◌∷◌, true, false, map, sym}
 use Rattle.ark_media.specs.Journal.{current}
 use Rattle.ark_chain.specs.Survey.{block_at}
 use Rattle.ark_chain.specs.Single.{AddsBlock, behind}

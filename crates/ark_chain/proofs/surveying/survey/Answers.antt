@@ -115,7 +115,7 @@ returns-clause-found g c h is =
     (image_long g.D.Disk.goes g.D.Disk.told g.met.D.Disk.goes_told g.met.D.Disk.size_is _ true c.read_head.new.disk c.note_entries.new.disk walked.went (room + 1) (ring ∙ sym before) h is)
     head c.note_entries.new.lengths.items (omega (arith, c.requires.two, c.blocks-room.ensures))
     (still_told g.D.Disk.goes g.D.Disk.told g.met.D.Disk.goes_told _ true c.read_head.new.disk c.note_entries.new.disk walked.went (IsHeader c.args.kind room (Ok head)) c.in-Ok.ensures.head h is)
-    (c.in-Ok-note_entries.ensures.found h is) (record { first = head.first; start = head.start; count = c.len-count.result; end = c.index.result })
+    (c.in-Ok-note_entries.ensures.found h is) (record { first = head.first; start = head.start; count = c.len-count.result; used = c.in-Ok-note_entries.used; end = c.index.result })
     (omega (arith, c.if-count-head.false, c.len-count.ensures.len)) refl refl c.len-count.ensures.len
 
 pub returns-clause-seen : goal.returns-clause-seen
@@ -126,6 +126,7 @@ returns-clause-seen g c =
     record {
       count = c.len-count.ensures.len;
       short = entries.short;
+      used = entries.used_is;
       fits = omega (arith, entries.fits, entries.used_is, c.requires.two, c.blocks-room.ensures);
       start = omega (arith, right.start, c.requires.two, c.blocks-room.ensures);
       end = ap (λ n. n + 1) (c.index.ensures ∙ (λ i. (start + entries.used_is i) % (c.blocks-room.ensures i - 1)));

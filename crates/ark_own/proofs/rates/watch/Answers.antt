@@ -18,7 +18,7 @@ pub returns-clause-acts : goal.returns-clause-acts
 returns-clause-acts c = λ t.
     let there : is_some (at c.args.app.now.devices.cards c.in-Ok.keys.0) ≡ true = search rules in
     let one = some_in (at c.args.app.now.devices.cards c.in-Ok.keys.0) there in
-    rw c.in-Io.is (watch_done t c.args.app.now _ c.args.label.now c.args.door.now c.in-Ok.keys.0 c.in-Ok.keys.1 c.in-Ok.ensures.keys one.0 one.1 (c.watch.ensures.changes one.0 one.1) refl c.watch.ensures.doors refl refl refl)
+    rw c.in-Io.is (watch_done t c.args.app.now _ c.args.label.now c.args.door.now c.in-Ok.keys.0 c.in-Ok.keys.1 c.in-Ok.ensures.keys one.0 one.1 (c.watch.ensures.changes one.0 one.1) refl c.watch.ensures.doors c.watch.ensures.rates refl refl refl)
 
 pub invariant_of-app-clause-bound : goal.invariant_of-app-clause-bound
 invariant_of-app-clause-bound c =

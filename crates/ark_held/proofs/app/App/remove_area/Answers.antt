@@ -7,8 +7,9 @@ use Rattle.ark_held.proofs.app.App.remove_area.Goals as goal
 pub invariant_of-self : goal.invariant_of-self
 invariant_of-self c =
     let app = c.args.self.now in
-    let stays = room_stays app.labels app.areas c.args.label.now c.args.grant c.requires.there.0 (held app.store.buffers + held app.devices.cards + held app.devices.doors) c.remove-2.new.self c.remove.new.self c.remove-2.result
+    let stays = room_stays app.labels app.areas c.args.label.now c.args.grant c.requires.there.0 (held app.store.buffers + held app.devices.cards + held app.devices.doors + held app.devices.rates) c.remove-2.new.self c.remove.new.self c.remove-2.result
     c.requires.there.1 app.room c.remove-2.ensures.value c.remove-2.ensures.one c.remove.ensures.rest in
     let cards = c.unbind_all.ensures.held in
     let doors = ap held c.unbind_all.ensures.doors in
-    record { room = omega (arith, stays, cards, doors); memory = c.unbind_all.ensures.frames ∙ app.memory; bound = bound_lost app.areas _ app.devices.cards _ c.args.grant c.remove.ensures.rest c.unbind_all.ensures.cards app.bound }
+    let rates = ap held c.unbind_all.ensures.rates in
+    record { room = omega (arith, stays, cards, doors, rates); memory = c.unbind_all.ensures.frames ∙ app.memory; bound = bound_lost app.areas _ app.devices.cards _ c.args.grant c.remove.ensures.rest c.unbind_all.ensures.cards app.bound }

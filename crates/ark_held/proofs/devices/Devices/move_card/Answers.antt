@@ -2,15 +2,15 @@ use Rattle.std.proofs.Common.{sym}
 use Rattle.std.proofs.Math.Logic.{∥∥₁_map}
 use Rattle.ark_objects.specs.Held.{at}
 use Rattle.ark_held.proofs.Ringing.{no_ring}
-use Rattle.ark_held.proofs.Sounder.{unpaced_can, oldest_can, sound_after}
+use Rattle.ark_held.proofs.Sounder.{oldest_can, sound_after}
 use Rattle.ark_held.proofs.devices.Devices.move_card.Goals as goal
 
 pub move_vsic-moved-requires-clause-sound : goal.move_vsic-moved-requires-clause-sound
-move_vsic-moved-requires-clause-sound g c = unpaced_can c.args.self.now.frames c.args.self.now.cards c.args.key c.at_mut-card.result.now c.pace.new.self _ c.args.self.now.sound (sym c.at_mut-card.ensures.value) c.pace.ensures c.requires.frames
+move_vsic-moved-requires-clause-sound g c = oldest_can c.args.self.now.frames c.args.self.now.cards c.args.key c.at_mut-card.result.now _ c.args.self.now.sound (sym c.at_mut-card.ensures.value) c.requires.frames
 
 pub invariant_of-self : goal.invariant_of-self
 invariant_of-self g c = record {
-  sound = ∥∥₁_map c.args.self.now.sound (λ all. sound_after c.args.self.now.frames c.args.self.now.cards c.args.key c.at_mut-card.result.now _ c.pace.new.self _ _ c.move_vsic-moved.result (sym c.at_mut-card.ensures.value) c.pace.ensures c.move_vsic-moved.ensures.ring c.move_vsic-moved.ensures.answer all);
+  sound = ∥∥₁_map c.args.self.now.sound (λ all. sound_after c.args.self.now.frames c.args.self.now.cards c.args.key c.at_mut-card.result.now _ _ _ c.move_vsic-moved.result (sym c.at_mut-card.ensures.value) c.move_vsic-moved.ensures.ring c.move_vsic-moved.ensures.answer all);
 }
 
 pub returns-in-Done-clause-sound : goal.returns-in-Done-clause-sound

@@ -13,5 +13,6 @@ loop-key-preserved c =
       behind = λ k le. let other : k ≢ c.loop-key.key = omega (arith, le) in step.others k other ∙ was.behind k (omega (arith, le));
       held = c.unbind_card.ensures.held ∙ was.held;
       doors = c.unbind_card.ensures.doors ∙ was.doors;
+      rates = c.unbind_card.ensures.rates ∙ was.rates;
       frames = c.unbind_card.ensures.frames ∙ was.frames;
     }

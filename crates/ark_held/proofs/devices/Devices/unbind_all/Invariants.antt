@@ -10,5 +10,6 @@ invariant-loop-key l = record {
   behind : (k : ℕ) → l.key ≤ k → at l.self.cards k ≡ at l.initial.self.cards k;
   held : held l.self.cards ≡ held l.initial.self.cards;
   doors : l.self.doors ≡ l.initial.self.doors;
+  rates : l.self.rates ≡ l.initial.self.rates;
   frames : l.self.frames ≡ l.initial.self.frames;
 }

@@ -12,5 +12,5 @@ returns-in_default-clause-answers g c =
       goes_on = g.met.D.Disk.goes_none c.args.disk.now;
       does = quiet_steps c.args.self.now c.args.self.now told _ _ _ _ c.say.ensures.said c.say.ensures.none
           (λ s h st. unbuilt_answered c.args.self.now told.blocks h s c.args.step.now
-          (unbuilt_rates c.args.step.now c.requires.group c.in_default.not-Door c.in_default.not-Watch c.in_default.not-Look) st);
+          (unbuilt_rates c.args.step.now c.requires.group c.in_default.not-Door c.in_default.not-Watch c.in_default.not-Look c.in_default.not-Rate c.in_default.not-Pace) st);
     }
