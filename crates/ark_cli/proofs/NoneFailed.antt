@@ -2,12 +2,13 @@
 use Rattle.std.proofs.Common.{◌≡◌, ◌⊎◌, inl, inr, ℕ, List, [], ◌∷◌, ◌++◌, refl, ◌∙◌, subst}
 use Rattle.ark_base.specs.declared.status.Status.{Status}
 use Rattle.ark_base.specs.declared.status.Status.TheVariants.{Done}
-use Rattle.ark_media.specs.Journal.{Event, History, HasFailed, onto}
+use Rattle.ark_media.specs.Journal.{Event, History, HasFailed, onto, device_events}
 use Rattle.ark_media.specs.Calls.{Told, Beside, Rose, KeepsBeside, KeepsAtAttach, KeepsAtFetch, KeepsAtPut}
 use Rattle.ark_cli.specs.Session.{NoneFailed}
 use Rattle.ark_cli.specs.Complete.{HasNoFault}
 use Rattle.ark_cli.specs.Opening.{Start, old_device, Since}
-use Rattle.ark_cli.specs.Ending.{Does, no_command, unread, no_memory, no_device, runs, checks}
+use Rattle.ark_cli.specs.Working.{work_start}
+use Rattle.ark_cli.specs.Ending.{Does, no_command, unread, no_memory, no_device, runs, checks, works}
 
 pub none_failed : (b : Beside) → NoneFailed b b
 none_failed b = record { attach = refl; source = refl; sink = refl }
@@ -58,3 +59,4 @@ module _ (words : List (List ℕ)) (t0 t1 : Told) (b0 b1 : Beside) (still : Rose
   no_fault status done (no_device blocks device is asked refused) = absurd (cc (done, is))
   no_fault status done (runs start device run closed) = since_unfailed start device closed.events closed.script closed.since
   no_fault status done (checks image device closing check closes r) = since_unfailed (old_device image) device (r.events ++ closing) [] r.since
+  no_fault status done (works seed lines device closing work closes r) = since_unfailed work_start device (device_events r.run ++ (r.shown ++ closing)) [] r.since

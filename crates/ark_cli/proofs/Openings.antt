@@ -3,10 +3,10 @@ use Rattle.std.proofs.Common.{◌≡◌, ℕ, ◌≤◌, Bool, true, false, List
 use Rattle.std.proofs.Math.Nat.{le_trans}
 use Rattle.std.specs.Prelude.{◌⊎◌, Some, IfSome}
 use Rattle.ark_media.specs.Journal.{Event, Out, History, onto, fresh}
-use Rattle.ark_media.specs.Calls.{Told, Beside, Goes, KeepsAtAttach, KeepsAtPut, KeepsBeside, Makes, Puts, Tells}
+use Rattle.ark_media.specs.Calls.{Told, Beside, Goes, KeepsAtAttach, KeepsAtPut, Makes, Puts}
 use Rattle.ark_media.specs.Going.{onto-append, rose_later, rose_from, failed_append}
 use Rattle.ark_media.specs.Parts.{IsUnfinished}
-use Rattle.ark_media.proofs.Composing.{takes_none, takes_then, goes_kept, goes_put}
+use Rattle.ark_media.proofs.Composing.{takes_none, takes_then, goes_put}
 use Rattle.ark_table.specs.Slots.{Slot}
 use Rattle.ark_script.specs.Text.{text, reply_words}
 use Rattle.ark_script.specs.declared.said.Said.{Said}
@@ -16,7 +16,8 @@ use Rattle.ark_machine.specs.Start.{start_system}
 use Rattle.ark_machine.specs.System.{System}
 use Rattle.ark_machine.specs.Paced.{StandsPaced}
 use Rattle.ark_laws.proofs.Sent.{start_paced}
-use Rattle.ark_cli.specs.Opening.{Start, new_device, old_device, base_of, blocks_of, blocks_asked, asking, Asks, Starts, opening_calls, TellsSlots, Since, IsReady, IsUnshown}
+use Rattle.ark_base.specs.declared.status.Status.{Status}
+use Rattle.ark_cli.specs.Opening.{Start, new_device, old_device, base_of, blocks_of, blocks_asked, asking, Asks, Starts, opening_calls, TellsSlots, Since, IsReady, IsUnready, IsUnshown, FormatsNot, OpensNot}
 use Rattle.ark_cli.proofs.PutLines.{cut_line, clean_goes_on, all_put}
 
 -- The system that a run goes on from.
@@ -93,16 +94,15 @@ pub ready_line : (blocks slots : ℕ) (reply : Said) (shown line : List ℕ) →
 ready_line blocks slots reply shown line same is = is ∙ ap (λ (x : Said). text x shown) same
 
 -- opened, its calls made, and its line put or not
-module _ (start : Start) (device : List ℕ) (t0 t1 t2 t3 : Told) (b0 b1 b2 b3 : Beside) (events : List Event) (calls : Makes (opening_calls start) true events) (slots : ℕ) (tells : TellsSlots start t3 slots) (shown : List ℕ) (is : shown ≡ text (Ready (blocks_of start) slots) [])
-    (opened : Since start device [] [] t0 t1 b0 b1) (goes : Tells events t1 t2) (keeps : KeepsBeside b1 b2) (kept : KeepsAtPut b2 b3) (later : b2.sink_faults ≤ b3.sink_faults) where
-  since_put : (ok : Bool) → (p : Puts t2 t3 shown ok) → Since start device (events ++ Out p.part ∷ []) [] t0 t3 b0 b3
-  since_put ok p = since_then start device events (Out p.part ∷ []) [] [] t0 t2 t3 b0 b2 b3 (since_then start device [] events [] [] t0 t1 t2 b0 b1 b2 opened (goes_kept t1 t2 b1 b2 events goes keeps))
-      (goes_put t2 t3 b2 b3 p.part p.rests kept later)
+module _ (start : Start) (device : List ℕ) (t0 t1 t2 : Told) (b0 b1 b2 : Beside) (events : List Event) (calls : Makes (opening_calls start) true events) (slots : ℕ) (tells : TellsSlots start t2 slots) (shown : List ℕ) (is : shown ≡ text (Ready (blocks_of start) slots) [])
+    (since : Since start device events [] t0 t1 b0 b1) (kept : KeepsAtPut b1 b2) (later : b1.sink_faults ≤ b2.sink_faults) where
+  since_put : (ok : Bool) → (p : Puts t1 t2 shown ok) → Since start device (events ++ Out p.part ∷ []) [] t0 t2 b0 b2
+  since_put ok p = since_then start device events (Out p.part ∷ []) [] [] t0 t1 t2 b0 b1 b2 since (goes_put t1 t2 b1 b2 p.part p.rests kept later)
 
-  pub since_ready : Puts t2 t3 shown true → Since start device (events ++ Out (text (Ready (blocks_of start) slots) []) ∷ []) [] t0 t3 b0 b3
-  since_ready p = subst (λ b. Since start device (events ++ Out b ∷ []) [] t0 t3 b0 b3) (all_put t2 t3 shown true refl p ∙ is) (since_put true p)
+  pub since_ready : Puts t1 t2 shown true → Since start device (events ++ Out (text (Ready (blocks_of start) slots) []) ∷ []) [] t0 t2 b0 b2
+  since_ready p = subst (λ b. Since start device (events ++ Out b ∷ []) [] t0 t2 b0 b2) (all_put t1 t2 shown true refl p ∙ is) (since_put true p)
 
-  pub opens_ready : Puts t2 t3 shown true → IsReady start device t0 t3 b0 b3
+  pub opens_ready : Puts t1 t2 shown true → IsReady start device t0 t2 b0 b2
   opens_ready p = record {
     events = events;
     calls = calls;
@@ -111,7 +111,7 @@ module _ (start : Start) (device : List ℕ) (t0 t1 t2 t3 : Told) (b0 b1 b2 b3 :
     since = since_ready p;
   }
 
-  pub opens_unshown : Puts t2 t3 shown false → IsUnshown start device t0 t3 b0 b3
+  pub opens_unshown : Puts t1 t2 shown false → IsUnshown start device t0 t2 b0 b2
   opens_unshown p = record { events = events; part = p.part; calls = calls; slots = slots; tells = tells; more = p.more; front = sym is ∙ p.prefix; cut = cut; since = since_put false p }
     where
       cut : (p.part ≡ text (Ready (blocks_of start) slots) []) ⊎ IsUnfinished (Out p.part ∷ [])
@@ -119,3 +119,8 @@ module _ (start : Start) (device : List ℕ) (t0 t1 t2 t3 : Told) (b0 b1 b2 b3 :
         | inl same ↦ inl same
         | inr clean ↦ inr (clean_goes_on p.part clean, tt)
       ]
+
+-- a device that is not formatted is not opened
+pub opens_not : (size : ℕ) (device : List ℕ) (t0 t1 : Told) (b0 b1 : Beside) (status : Status) → FormatsNot size device t0 t1 b0 b1 status → OpensNot (Some size) device t0 t1 b0 b1 status
+opens_not size device t0 t1 b0 b1 status (is, inl none) = inl (is, none)
+opens_not size device t0 t1 b0 b1 status (is, inr u) = inr (inl (new_device size, refl, subst (λ (e : Status). IsUnready (new_device size) device t0 t1 b0 b1 e) (sym is) u))

@@ -3,14 +3,13 @@ use Rattle.std.proofs.Common.{◌≡◌, ◌∙◌, inl, inr, ℕ, Bool, true, L
 use Rattle.std.specs.Prelude.{Option, Result}
 use Rattle.ark_base.specs.declared.status.Status.{Status}
 use Rattle.ark_base.specs.declared.status.Status.TheVariants.{Done, Usage, Source, Sink, Device, Memory, Damaged, Long}
-use Rattle.ark_media.specs.Journal.{Event, Read, Write, Sync, Out, History, AllBlocks, onto, current, output_of, device_events, HasFailed, AreReads}
+use Rattle.ark_media.specs.Journal.{Event, History, AllBlocks, current, output_of, device_events, HasFailed, AreReads}
 use Rattle.ark_media.specs.Calls.{Told, Beside, Makes, OnTold}
 use Rattle.ark_media.specs.Going.{failed_append}
-use Rattle.ark_media.specs.Standing.{after}
 use Rattle.ark_media.proofs.Composing.{output_of-append, device_events-append, devices_silent}
 use Rattle.ark_media.proofs.Planning.{makes_devices}
 use Rattle.ark_table.specs.Area.{Area}
-use Rattle.ark_table.specs.Slots.{Slot, slots_of}
+use Rattle.ark_table.specs.Slots.{slots_of}
 use Rattle.ark_table.specs.Table.{HasTable, slots_in}
 use Rattle.ark_table.specs.Loading.{IsFirstDamaged, read_calls, is_read}
 use Rattle.ark_table.specs.declared.fault.LoadFault.{LoadFault}
@@ -19,10 +18,9 @@ use Rattle.ark_table.proofs.Tables.{table_is_read}
 use Rattle.ark_check.specs.Report.{report_lines, lines_with}
 use Rattle.ark_check.specs.Putting.{CameOut, EndedBy, PutsText, report_text}
 use Rattle.ark_check.proofs.Pieces.{reads_append, reads_leave, so_before}
-use Rattle.ark_host.specs.Loaded.{as_found}
 use Rattle.ark_host.proofs.Reading.{reads_of}
 use Rattle.ark_cli.specs.Opening.{old_device, Since, HeedsDamage, status_for}
-use Rattle.ark_cli.specs.Checking.{Shows, EndsBy, IsReported}
+use Rattle.ark_cli.specs.Checking.{Shows, ReportEnds, IsReported}
 use Rattle.ark_cli.proofs.Attaching.{load_fails, made_well}
 use Rattle.ark_cli.proofs.Openings.{since_then}
 
@@ -37,7 +35,7 @@ module _ (image : List (List ℕ)) (device : List ℕ) (t0 t1 : Told) (b0 b1 : B
   reads = subst AreReads (sym alone) (reads_of count ok es made)
 
   -- no line came out
-  nothing : (status : Status) → EndsBy status es → HeedsDamage (old_device image) t1 status es → ((h : History) → t1.history ≡ Some h → Shows image status []) → IsReported image device [] t0 t1 b0 b1 status
+  nothing : (status : Status) → ReportEnds status es → HeedsDamage (old_device image) t1 status es → ((h : History) → t1.history ≡ Some h → Shows image status []) → IsReported image device [] t0 t1 b0 b1 status
   nothing status ends heeds shows = record {
     events = es;
     since = subst (λ (l : List Event). Since (old_device image) device l [] t0 t1 b0 b1) (sym (append-nil es)) since;
@@ -91,7 +89,7 @@ module _ (image : List (List ℕ)) (device : List ℕ) (t0 t1 : Told) (b0 b1 : B
     heeds_none : (status : Status) → HeedsDamage (old_device image) t2 status (es ++ puts.events)
     heeds_none status h told block broken none = absurd (cc (slots_are h told, broken))
 
-    ended : (status : Status) → EndsBy status (es ++ puts.events) → ((h : History) → t2.history ≡ Some h → Shows image status (output_of (es ++ puts.events))) → IsReported image device [] t0 t2 b0 b2 status
+    ended : (status : Status) → ReportEnds status (es ++ puts.events) → ((h : History) → t2.history ≡ Some h → Shows image status (output_of (es ++ puts.events))) → IsReported image device [] t0 t2 b0 b2 status
     ended status ends shows = record {
       events = es ++ puts.events;
       since = subst (λ (l : List Event). Since (old_device image) device l [] t0 t2 b0 b2) (sym (append-nil (es ++ puts.events))) all_since;

@@ -30,8 +30,9 @@ use Rattle.ark_cli.specs.Line.{within_limit}
 use Rattle.ark_cli.specs.Cut.{CutReplies}
 use Rattle.ark_cli.specs.Session.{FirstAnswered, AnsweredBy, ScriptRun, IsScriptEnd, NoneFailed}
 use Rattle.ark_cli.specs.Opening.{Start, new_device, old_device, base_of, blocks_of, blocks_asked, Starts, opening_calls, BeginsOpening, Since, IsOpening, IsReady, Fails, HeedsDamage, IsUnready, IsUnshown, OpensNot}
-use Rattle.ark_cli.specs.Ending.{RecoversAtFronts, HasRun, Ends, IsOpen, Runs, IsCause}
-use Rattle.ark_cli.proofs.PutLines.{reply_ends}
+use Rattle.ark_cli.specs.Running.{RecoversAtFronts, HasRun}
+use Rattle.ark_cli.specs.Ending.{Ends, IsOpen, Runs, IsCause}
+use Rattle.ark_answer.proofs.Replied.{reply_ends}
 use Rattle.ark_cli.proofs.CutReplies.{cut_confined_of}
 use Rattle.ark_cli.proofs.Stops.{MayBeMade, early_begun, early_put, calls_begin, open_fronts, unfinished_fronts, shown_fronts}
 use Rattle.ark_cli.proofs.Openings.{one_start, paced, slots_told, since_then}
@@ -45,16 +46,19 @@ module _ (start : Start) (slots : ℕ) (events : List Event) (calls : Makes (ope
   devices : device_events events ≡ events
   devices = makes_devices (opening_calls start) true events calls
 
+  pub opening_devices : device_events opening ≡ events
+  opening_devices = device_events-put events (text (Ready (blocks_of start) slots) []) ∙ devices
+
   pub opening_whole : IsWhole opening
   opening_whole = whole_with events (Out (text (Ready (blocks_of start) slots) [])) (devices_unfinished events devices) (reply_ends (Ready (blocks_of start) slots) [])
 
-  is_opening : (s : System) → slots ≡ length s.plane.slots → IsOpening start s opening
+  pub is_opening : (s : System) → slots ≡ length s.plane.slots → IsOpening start s opening
   is_opening s count = record {
-    calls = subst (λ (x : List Event). Makes (opening_calls start) true x) (sym (device_events-put events (text (Ready (blocks_of start) slots) []) ∙ devices)) calls;
+    calls = subst (λ (x : List Event). Makes (opening_calls start) true x) (sym opening_devices) calls;
     output = output_of-put events (text (Ready (blocks_of start) slots) []) (devices_silent events devices) ∙ ap (λ n. text (Ready (blocks_of start) n) []) count;
   }
 
-begun_devices : (start : Start) (events : List Event) → BeginsOpening start events → device_events events ≡ events
+pub begun_devices : (start : Start) (events : List Event) → BeginsOpening start events → device_events events ≡ events
 begun_devices (new_device size) events (inl none) = subst (λ (x : List Event). device_events x ≡ x) (sym none) refl
 begun_devices (new_device size) events (inr b) = makes_devices (format_calls size) b.0 events b.1
 begun_devices (old_device image) events b = makes_devices (read_calls b.0) b.2.0 events b.2.1

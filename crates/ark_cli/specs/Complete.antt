@@ -1,7 +1,8 @@
 -- When the program must come to the end of its script, and what no reply says then.
-use Rattle.std.specs.Prelude.{◌≡◌, ◌≤◌, length, Option, Some}
+use Rattle.std.specs.Prelude.{◌≡◌, ◌≤◌, ℕ, List, length, Option, Some}
 use Rattle.ark_media.specs.Journal.{History, HasFailed}
 use Rattle.ark_media.specs.Calls.{Told, Beside, Script, Rose}
+use Rattle.ark_cli.specs.Words.{IsRun}
 use Rattle.ark_cli.specs.Line.{limit}
 
 -- no call of the outside has failed: no count rose
@@ -19,6 +20,11 @@ pub record HasShortScript (before after : Option Script) : Type 0 where
   pub was : before ≡ Some first
   pub is : after ≡ Some last
   pub short : length first.left ≤ limit
+
+-- where the words are those of `run`, its script is short enough; no other command takes one
+abbrev pub FitsRun : List (List ℕ) → Option Script → Option Script → Type 0
+FitsRun words before after =
+    (blocks : Option ℕ) (device : List ℕ) → IsRun words blocks device → HasShortScript before after
 
 -- where the history is told, no device call failed in it: so no reply says `refused 21`
 pub record HasNoFault (after : Option History) : Type 0 where

@@ -4,6 +4,8 @@ pub mod Line
 pub mod Cut
 pub mod Session
 pub mod Opening
+pub mod Running
 pub mod Ending
 pub mod Complete
 pub mod Checking
+pub mod Working

@@ -67,7 +67,8 @@ TellsSlots (old_device image) told slots =
     (h : History) → told.history ≡ Some h → (s : System) × Starts (old_device image) s × (slots ≡ length s.plane.slots)
 
 -- the device of this name could not be made, or attached as it was
-pub record NoDevice (blocks : Option ℕ) (device : List ℕ) (told0 told1 : Told) (beside0 beside1 : Beside) : Type 0 where
+pub record NoDevice (blocks : Option ℕ) (device : List ℕ) (told0 told1 : Told)
+    (beside0 beside1 : Beside) : Type 0 where
   pub adds : Adds told0.history told1.history []
   pub asks : Asks (asking blocks device false) beside0 beside1
   pub risen : Rose beside0.attach_faults beside1.attach_faults
@@ -76,8 +77,10 @@ pub record NoDevice (blocks : Option ℕ) (device : List ℕ) (told0 told1 : Tol
 
 -- What the outside tells since the device of this name was opened: these events on its image, and these bytes of the script that
 -- were taken. Nothing else was asked for. A device call that failed raised their count.
-pub record Since (start : Start) (device : List ℕ) (events : List Event) (bytes : List ℕ) (told0 told1 : Told) (beside0 beside1 : Beside) : Type 0 where
-  pub begins : (h : History) → told1.history ≡ Some h → h ≡ record { base = base_of start; journal = onto events [] }
+pub record Since (start : Start) (device : List ℕ) (events : List Event) (bytes : List ℕ)
+    (told0 told1 : Told) (beside0 beside1 : Beside) : Type 0 where
+  pub begins : (h : History) → told1.history ≡ Some h
+      → h ≡ record { base = base_of start; journal = onto events [] }
   pub blocks : told1.blocks ≡ blocks_of start
   pub later : told0.faults ≤ told1.faults
   pub cause : HasFailed events → Rose told0.faults told1.faults
@@ -93,7 +96,8 @@ pub record IsOpening (start : Start) (s : System) (part : List Event) : Type 0 w
   pub output : output_of part ≡ text (Ready (blocks_of start) (length s.plane.slots)) []
 
 -- the device is ready
-pub record IsReady (start : Start) (device : List ℕ) (told0 told1 : Told) (beside0 beside1 : Beside) : Type 0 where
+pub record IsReady (start : Start) (device : List ℕ) (told0 told1 : Told) (beside0 beside1 : Beside)
+    : Type 0 where
   pub events : List Event
   pub calls : Makes (opening_calls start) true events
   pub slots : ℕ
@@ -124,15 +128,29 @@ HeedsDamage (old_device image) told status es =
     (h : History) → told.history ≡ Some h → (block : ℕ) → slots_of image ≡ Err block → (HasFailed es → ⊥) → (status ≡ Damaged block) ⊎ (status ≡ Memory)
 
 -- the device was there or was made, and nothing came out
-pub record IsUnready (start : Start) (device : List ℕ) (told0 told1 : Told) (beside0 beside1 : Beside) (status : Status) : Type 0 where
+pub record IsUnready (start : Start) (device : List ℕ) (told0 told1 : Told)
+    (beside0 beside1 : Beside) (status : Status) : Type 0 where
   pub events : List Event
   pub begins : BeginsOpening start events
   pub since : Since start device events [] told0 told1 beside0 beside1
   pub fails : Fails start told1 status events
   pub heeds : HeedsDamage start told1 status events
 
+-- The device was made and formatted, and nothing came out.
+pub record IsFormatted (size : ℕ) (device : List ℕ) (told0 told1 : Told) (beside0 beside1 : Beside)
+    : Type 0 where
+  pub events : List Event
+  pub calls : Makes (format_calls size) true events
+  pub since : Since (new_device size) device events [] told0 told1 beside0 beside1
+
+-- No device was made, or a call of its formatting failed.
+abbrev pub FormatsNot : ℕ → List ℕ → Told → Told → Beside → Beside → Status → Type 0
+FormatsNot size device told0 told1 beside0 beside1 status =
+    (status ≡ Device) × (NoDevice (Some size) device told0 told1 beside0 beside1 ⊎ IsUnready (new_device size) device told0 told1 beside0 beside1 Device)
+
 -- the device was formatted or read, and the put of its line failed: all of it came out, or a part with no newline
-pub record IsUnshown (start : Start) (device : List ℕ) (told0 told1 : Told) (beside0 beside1 : Beside) : Type 0 where
+pub record IsUnshown (start : Start) (device : List ℕ) (told0 told1 : Told)
+    (beside0 beside1 : Beside) : Type 0 where
   pub events : List Event
   pub part : List ℕ
   pub calls : Makes (opening_calls start) true events
@@ -152,10 +170,12 @@ OpensNot blocks device told0 told1 beside0 beside1 status =
     ⊎ ((start : Start) × (blocks_asked start ≡ blocks) × (status ≡ Sink) × IsUnshown start device told0 told1 beside0 beside1)
 
 -- A device that was there is ready, and this host stands for the system of its slots.
-pub record IsReadyFor (host : Host) (device : List ℕ) (told0 told1 : Told) (beside0 beside1 : Beside) : Type 0 where
+pub record IsReadyFor (host : Host) (device : List ℕ) (told0 told1 : Told)
+    (beside0 beside1 : Beside) : Type 0 where
   pub image : List (List ℕ)
   pub ready : IsReady (old_device image) device told0 told1 beside0 beside1
-  pub stands : (h : History) → told1.history ≡ Some h → (s : System) × Starts (old_device image) s × Stands host told1.blocks h s
+  pub stands : (h : History) → told1.history ≡ Some h
+      → (s : System) × Starts (old_device image) s × Stands host told1.blocks h s
 
 -- the status of a device whose table can't be loaded
 abbrev pub status_for : LoadFault → Status

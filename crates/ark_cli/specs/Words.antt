@@ -1,6 +1,7 @@
 -- The words of the command line that the program runs.
-use Rattle.std.specs.Prelude.{◌≡◌, ◌⊎◌, ℕ, List, Option, None}
-use Rattle.ark_words.specs.Words.{IsCommand, run, check}
+use Rattle.std.specs.Prelude.{◌≡◌, ◌⊎◌, ℕ, List, Option, Some, None}
+use Rattle.ark_words.specs.Words.{IsCommand, run, check, work}
+use Rattle.ark_report.specs.Work.{work_blocks}
 
 -- the command `run` on a device, which is made first where a number of blocks is given
 abbrev pub IsRun : List (List ℕ) → Option ℕ → List ℕ → Type 0
@@ -10,6 +11,14 @@ IsRun words blocks device = IsCommand words (run blocks device)
 abbrev pub IsCheck : List (List ℕ) → List ℕ → Type 0
 IsCheck words device = IsCommand words (check device)
 
--- a command on a device of this name, which is to be made of so many blocks or attached as it is
+-- the command `work` with this seed, and so many lines behind the prelude
+abbrev pub IsWork : List (List ℕ) → ℕ → ℕ → List ℕ → Type 0
+IsWork words seed lines device = IsCommand words (work seed lines device)
+
+-- a command that runs a script on a device of this name, which is to be made of so many blocks or attached as it is
+abbrev pub RunsScript : List (List ℕ) → Option ℕ → List ℕ → Type 0
+RunsScript words blocks device = IsRun words blocks device ⊎ ((blocks ≡ Some work_blocks) × (seed : ℕ) × (lines : ℕ) × IsWork words seed lines device)
+
+-- any command on it
 abbrev pub AsksFor : List (List ℕ) → Option ℕ → List ℕ → Type 0
-AsksFor words blocks device = IsRun words blocks device ⊎ ((blocks ≡ None) × IsCheck words device)
+AsksFor words blocks device = RunsScript words blocks device ⊎ ((blocks ≡ None) × IsCheck words device)

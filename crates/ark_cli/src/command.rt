@@ -6,17 +6,18 @@ ghost use Rattle.ark_table.specs.Standing.{IsTableOf};
 ghost use Rattle.ark_host.specs.Stands.{Stands};
 ghost use Rattle.ark_host.specs.Inside.{IsInside};
 ghost use Rattle.ark_host.specs.Time.{IsSound};
-ghost use Rattle.ark_cli.specs.Words.{IsRun, AsksFor};
+ghost use Rattle.ark_cli.specs.Words.{AsksFor};
 ghost use Rattle.ark_cli.specs.Session.{NoneFailed};
-ghost use Rattle.ark_cli.specs.Complete.{HasShortScript, IsUntroubled, HasNoFault};
+ghost use Rattle.ark_cli.specs.Complete.{FitsRun, IsUntroubled, HasNoFault};
 ghost use Rattle.ark_cli.specs.Ending.{Runs, Commands, Closes, Does, IsCause, closing_words};
 
 use crate::checking::check_device;
 use crate::line::LineBuffer;
 use crate::opening::{open_attached, open_new};
-use crate::reply::ReplyBuffer;
 use crate::script::run_script;
 use crate::words::{Asked, read_words};
+use crate::working::work_device;
+use ark_answer::ReplyBuffer;
 use ark_base::Status;
 use ark_host::Host;
 use ark_media::Outside;
@@ -120,6 +121,7 @@ fn command<W: Outside>(alloc: Global, words: &[String], world: &mut W) -> Status
         Ok(Asked::New(blocks, device)) => run_new(alloc, blocks, device, world),
         Ok(Asked::Old(device)) => run_old(alloc, device, world),
         Ok(Asked::Check(device)) => check_device(alloc, device, world),
+        Ok(Asked::Work(seed, lines, device)) => work_device(alloc, seed, lines, device, world),
         Err(WordsFault::Usage) => Status::Usage,
         Err(WordsFault::Memory) => Status::Memory,
     }
@@ -166,7 +168,8 @@ fn close<W: Outside>(status: Status, world: &mut W)
 /// Does all that the program does, for the words after its name: `run DEVICE` reads the grants of a device that was there, and
 /// `run --new N DEVICE` makes a device of N blocks and formats it; then the script that is fetched is run, with one reply line
 /// for each line. It takes at most 2^30 + 1 bytes of the script. `check DEVICE` puts the report of a device that was there: its
-/// size, and a line for each grant. The answer is the status of the process.
+/// size, and a line for each grant. `work SEED LINES DEVICE` makes a device of 4,096 blocks, runs the script of the seed on it,
+/// and puts one line that tells of its replies. The answer is the status of the process.
 pub fn arrakis<W: Outside>(alloc: Global, words: &[String], world: &mut W) -> Status
     // How it ends, and what the outside tells then: output, device events and script.
     ensures does { Does (map string_bytes words.now) (W.told world.old) (W.told world.new)
@@ -188,11 +191,12 @@ pub fn arrakis<W: Outside>(alloc: Global, words: &[String], world: &mut W) -> St
         Rose (W.told world.old).faults (W.told world.new).faults }
     // A device is told to be damaged only where it was there.
     ensures damaged { (block : ℕ) → result ≡ Status.Damaged block → (size : ℕ) (device : List ℕ) →
-        IsRun (map string_bytes words.now) (Some size) device → ⊥ }
+        AsksFor (map string_bytes words.now) (Some size) device → ⊥ }
     // Where nothing fails, the whole script is run, or the report put, unless memory was wanting or the device is damaged.
     ensures complete { (blocks : Option ℕ) (device : List ℕ) →
         AsksFor (map string_bytes words.now) blocks device →
-        HasShortScript (W.beside world.old).script (W.beside world.new).script →
+        FitsRun (map string_bytes words.now) (W.beside world.old).script
+        (W.beside world.new).script →
         IsUntroubled (W.told world.old) (W.told world.new)
         (W.beside world.old) (W.beside world.new) → (result ≡ Status.Done) ⊎
         (result ≡ Status.Memory) ⊎ ((block : ℕ) × (result ≡ Status.Damaged block)) }

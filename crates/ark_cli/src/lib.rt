@@ -5,9 +5,9 @@ mod checking;
 mod command;
 mod line;
 mod opening;
-mod reply;
 mod script;
 mod words;
+mod working;
 
 pub use ark_words::{Task, WordsFault, read_words};
 pub use command::arrakis;

@@ -1,17 +1,38 @@
 ghost use Rattle.std.specs.Prelude.{◌≤◌, ◌≡◌, OnOk, IfOk, IfErr, Some, None};
 ghost use Rattle.ark_host.specs.Inside.{IsInside};
 ghost use Rattle.ark_host.specs.Time.{IsSound};
-ghost use Rattle.ark_cli.specs.Opening.{IsReady, IsReadyFor, OpensNot, new_device, status_for};
+ghost use Rattle.ark_cli.specs.Opening.{FormatsNot, IsFormatted, IsReady, IsReadyFor, OpensNot, new_device, status_for};
 ghost use Rattle.ark_cli.specs.Session.{NoneFailed};
 ghost use Rattle.ark_cli.specs.Ending.{IsCause};
 
-use crate::reply::ReplyBuffer;
+use ark_answer::ReplyBuffer;
 use ark_base::Status;
 use ark_host::Host;
 use ark_media::Outside;
 use ark_script::Said;
 use ark_table::{LoadFault, format};
 use std::alloc::Global;
+
+/// Makes the device and formats it. The error is `Device`.
+pub fn make_new<W: Outside>(blocks: u32, device: &str, world: &mut W) -> Result<(), Status>
+    requires low { 130 ≤ blocks }
+    requires high { blocks ≤ 1048576 }
+    ensures formatted { OnOk result (IsFormatted blocks device.now
+        (W.told world.old) (W.told world.new) (W.beside world.old) (W.beside world.new)) }
+    ensures failed { IfErr result (λ e. FormatsNot blocks device.now
+        (W.told world.old) (W.told world.new) (W.beside world.old) (W.beside world.new) e) }
+    ensures unfailed { OnOk result (NoneFailed (W.beside world.old) (W.beside world.new)) }
+    ensures cause { IfErr result (λ e. IsCause (W.told world.old) (W.told world.new)
+        (W.beside world.old) (W.beside world.new) e) }
+{
+    match world.make(device, blocks) {
+        Err(_) => Err(Status::Device),
+        Ok(()) => match format(world) {
+            Err(_) => Err(Status::Device),
+            Ok(()) => Ok(()),
+        },
+    }
+}
 
 /// Makes the device, formats it, and puts the line that says that it is ready. The error is the status with which the
 /// program ends: `Device` where the device could not be made or formatted, `Sink` where its line could not be put.
@@ -33,14 +54,11 @@ pub fn open_new<W: Outside>(
 {
     out.reply.say(Said::Ready(blocks, 0), 0);
     out.text.print(&out.reply);
-    match world.make(device, blocks) {
-        Err(_) => Err(Status::Device),
-        Ok(()) => match format(world) {
-            Err(_) => Err(Status::Device),
-            Ok(()) => match world.put(out.text.bytes()) {
-                Err(_) => Err(Status::Sink),
-                Ok(()) => Ok(()),
-            },
+    match make_new(blocks, device, world) {
+        Err(status) => Err(status),
+        Ok(()) => match world.put(out.text.bytes()) {
+            Err(_) => Err(Status::Sink),
+            Ok(()) => Ok(()),
         },
     }
 }

@@ -3,19 +3,19 @@ ghost use Rattle.ark_media.specs.Journal.{Event};
 ghost use Rattle.ark_media.specs.Calls.{Rose, GoesBy};
 ghost use Rattle.ark_script.specs.Reply.{bytes_shown};
 ghost use Rattle.ark_script.specs.Text.{IsSaid, no_newline};
-ghost use Rattle.ark_script.specs.declared.said.Said.TheVariants as said;
 ghost use Rattle.ark_host.specs.Inside.{IsInside};
 ghost use Rattle.ark_host.specs.Time.{IsSound};
 ghost use Rattle.ark_cli.specs.Line.{kept};
-ghost use Rattle.ark_cli.specs.Session.{WorldGoesBy, LineSaid, LinePut, FedSoFar, FeedsMore, FeedsLast, FetchesMore, ScriptRun, is_done, piece_of, NoneFailed, IsFault, IsScriptEnd};
+ghost use Rattle.ark_answer.specs.Answered.{LineSaid};
+ghost use Rattle.ark_cli.specs.Session.{WorldGoesBy, LinePut, FedSoFar, FeedsMore, FeedsLast, FetchesMore, ScriptRun, is_done, piece_of, NoneFailed, IsFault, IsScriptEnd};
 
 use crate::line::{LineBuffer, kept_of};
-use crate::reply::ReplyBuffer;
+use ark_answer::{ReplyBuffer, answer, refuse};
 use ark_base::{Refusal, Status};
 use ark_host::Host;
 use ark_media::{Disk, Outside, SinkFailed};
-use ark_reading::{MAX_LINE, read_line};
-use ark_script::{Reply, Said};
+use ark_reading::MAX_LINE;
+use ark_script::Reply;
 use memchr::memchr;
 
 // Reads one line, of which too long a one is told by its kept bytes, and makes its step.
@@ -35,18 +35,7 @@ fn serve_line<D: Disk>(host: &mut Host, line: &[u8], out: &mut Reply, disk: &mut
         refuse(out, Refusal::TooLong);
         return;
     }
-    match read_line(line) {
-        Ok(step) => host.step(disk, &step, out),
-        Err(refusal) => refuse(out, refusal),
-    }
-}
-
-// Says that a line is refused.
-fn refuse(out: &mut Reply, refusal: Refusal)
-    ensures said { out.new.said ≡ said.Refused refusal }
-    ensures none { bytes_shown out.new ≡ [] }
-{
-    out.say(Said::Refused(refusal), 0);
+    answer(host, line, out, disk);
 }
 
 // Answers one line: serves it, and puts its reply.

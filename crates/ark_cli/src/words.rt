@@ -1,12 +1,12 @@
-ghost use Rattle.std.specs.Prelude.{◌≡◌, ℕ, List, Option, None, Err, map, string_bytes, IfOk, IfSome, IfNone};
+ghost use Rattle.std.specs.Prelude.{◌≡◌, ℕ, List, Option, Err, map, string_bytes, IfOk};
 ghost use Rattle.ark_words.specs.Told.{told};
 ghost use Rattle.ark_cli.specs.Words.{AsksFor};
-ghost use Rattle.ark_cli.specs.Asked.{IsAsked, IsOf, IsOther};
+ghost use Rattle.ark_cli.specs.Asked.{IsAsked, IsOf};
 
 use ark_words::{Task, WordsFault};
 use std::alloc::Global;
 
-/// What words ask for, of what the program does.
+/// What words ask for.
 #[derive(Clone, Copy, Debug)]
 pub enum Asked<'a> {
     /// `run --new N DEVICE`: the blocks of the device that is to be made, and its name.
@@ -15,25 +15,30 @@ pub enum Asked<'a> {
     Old(&'a str),
     /// `check DEVICE`.
     Check(&'a str),
+    /// `work SEED LINES DEVICE`.
+    Work(u64, u32, &'a str),
 }
 
-// What a task asks for, if the program does it: the command `work` is not run yet.
-fn asked_by(task: Task<'_>) -> Option<Asked<'_>>
-    ensures asked { IfSome result (λ a. IsOf a (told task.entry)) }
-    ensures none { IfNone result (IsOther (told task.entry)) }
+// What a task asks for.
+fn asked_by(task: Task<'_>) -> Asked<'_>
+    ensures { IsOf result (told task.entry) }
 {
     match task {
         Task::Run {
             new: Some(blocks),
             device,
-        } => Some(Asked::New(blocks, device)),
-        Task::Run { new: None, device } => Some(Asked::Old(device)),
-        Task::Check { device } => Some(Asked::Check(device)),
-        Task::Work { .. } => None,
+        } => Asked::New(blocks, device),
+        Task::Run { new: None, device } => Asked::Old(device),
+        Task::Check { device } => Asked::Check(device),
+        Task::Work {
+            seed,
+            lines,
+            device,
+        } => Asked::Work(seed, lines, device),
     }
 }
 
-/// What words ask for. `Usage` says that it is nothing that the program does, and `Memory` that memory ran out.
+/// What words ask for. `Usage` says that they are no command, and `Memory` that memory ran out.
 pub fn read_words<'a>(alloc: Global, words: &'a [String]) -> Result<Asked<'a>, WordsFault>
     ensures asked { IfOk result (λ a. IsAsked (map string_bytes words.entry.now) a) }
     ensures usage { result ≡ Err WordsFault.Usage → (blocks : Option ℕ) (device : List ℕ) →
@@ -41,9 +46,6 @@ pub fn read_words<'a>(alloc: Global, words: &'a [String]) -> Result<Asked<'a>, W
 {
     match ark_words::read_words(alloc, words) {
         Err(fault) => Err(fault),
-        Ok(task) => match asked_by(task) {
-            Some(asked) => Ok(asked),
-            None => Err(WordsFault::Usage),
-        },
+        Ok(task) => Ok(asked_by(task)),
     }
 }

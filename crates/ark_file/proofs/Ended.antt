@@ -9,15 +9,17 @@ use Rattle.ark_media.specs.Parts.{parts}
 use Rattle.ark_script.specs.Lines.{lines_of}
 use Rattle.ark_cli.specs.Words.{IsRun}
 use Rattle.ark_cli.specs.Checking.{IsReported, Shows}
+use Rattle.ark_cli.specs.Working.{IsWorked}
 use Rattle.ark_script.specs.Text.{text}
 use Rattle.ark_script.specs.declared.said.Said.TheVariants.{Ready}
 use Rattle.ark_cli.specs.Opening.{Start, old_device, asking, blocks_of, blocks_asked, HeedsDamage}
 use Rattle.ark_cli.proofs.Openings.{slots_told}
 use Rattle.ark_cli.specs.Ending as ending
-use Rattle.ark_cli.specs.Ending.{Does, HasRun, Ends, Closes, IsQuiet, IsDeviceRefused, IsClosed}
+use Rattle.ark_cli.specs.Running.{HasRun}
+use Rattle.ark_cli.specs.Ending.{Does, Ends, Closes, IsQuiet, IsDeviceRefused, IsClosed}
 use Rattle.ark_record.specs.Replay.{Model}
 use Rattle.ark_record.specs.Watch.{told_if, told_of, beside_of}
-use Rattle.ark_file.specs.Ended.{IsUnopened, EndsBy, IsRunOn, HasEnded, no_command, no_memory, no_device, ran, checked, IsCheckedOn, IsDone, IsFinished}
+use Rattle.ark_file.specs.Ended.{IsUnopened, EndsBy, IsRunOn, HasEnded, no_command, no_memory, no_device, ran, checked, worked, IsCheckedOn, IsWorkedOn, IsDone, IsFinished}
 
 if_some : {A : Type 0} (b : Bool) (x y : A) → told_if b x ≡ Some y → x ≡ y
 if_some true x y is = cc is
@@ -144,6 +146,26 @@ module _ (old now : Model) (honest : now.is_honest ≡ true) where
         closes = closes;
       }
 
+  worked_on : (seed lines : ℕ) (device : List ℕ) (closing : List Event) (status : Status) → Closes status old.sink_faults now.sink_faults closing
+      → IsWorked seed lines device closing (told_of old) (told_of now) (beside_of old) (beside_of now) status → IsWorkedOn seed lines device status old now
+  worked_on seed lines device closing status closes r =
+      let begins = r.since.begins h told in
+      record {
+        run = r.run;
+        shown = r.shown;
+        closing = closing;
+        openings = r.since.asks;
+        base = ap (λ (x : History). x.base) begins;
+        journal = ap (λ (x : History). x.journal) begins;
+        faults = r.since.cause;
+        taken = taken [] r.since.takes ∙ append-nil old.taken;
+        does = r.does h told;
+        recovers = r.recovers h told;
+        sums = r.sums h told;
+        ends = r.ends;
+        closes = closes;
+      }
+
   pub ended : (words : List (List ℕ)) (status : Status) → Does words (told_of old) (told_of now) (beside_of old) (beside_of now) status → HasEnded words old now status
   ended words status (ending.no_command usage none quiet) = no_command usage none (unopened status quiet)
   ended words status (ending.unread memory quiet) = no_memory memory (unopened status quiet)
@@ -151,6 +173,7 @@ module _ (old now : Model) (honest : now.is_honest ≡ true) where
   ended words status (ending.no_device blocks device failed command r) = no_device blocks device failed command (refused (asking blocks device false) status r)
   ended words status (ending.runs start device command closed) = ran start device command (run_on start device status closed)
   ended words status (ending.checks image device closing command closes r) = checked device command (checked_on image device closing status closes r)
+  ended words status (ending.works seed lines device closing command closes r) = worked seed lines device command (worked_on seed lines device closing status closes r)
 
 -- a run with status 0
 done_on : (words : List (List ℕ)) (old now : Model) (start : Start) (device : List ℕ) → IsRun words (blocks_asked start) device → IsRunOn start device Done old now → IsDone words old now
@@ -177,7 +200,8 @@ done_by words old now (no_command usage none silent) = absurd (cc usage)
 done_by words old now (no_memory memory silent) = absurd (cc memory)
 done_by words old now (no_device blocks device failed command silent) = absurd (cc failed)
 done_by words old now (ran start device command r) = inl (done_on words old now start device command r)
-done_by words old now (checked device command r) = inr (device, command, r)
+done_by words old now (checked device command r) = inr (inl (device, command, r))
+done_by words old now (worked seed lines device command r) = inr (inr (seed, lines, device, command, r))
 
 pub done : (words : List (List ℕ)) (old now : Model) (status : Status) → status ≡ Done → HasEnded words old now status → IsFinished words old now
 done words old now status is e = done_by words old now (subst (λ x. HasEnded words old now x) is e)

@@ -1,5 +1,5 @@
 -- How a run over a real outside ended, where all that it answered was what is supposed.
-use Rattle.std.specs.Prelude.{◌≡◌, ◌+◌, ◌≤◌, ◌⊎◌, ℕ, true, false, List, [], ◌∷◌, ◌++◌, length, Option, None}
+use Rattle.std.specs.Prelude.{◌≡◌, ◌+◌, ◌≤◌, ◌⊎◌, ℕ, true, false, List, [], ◌∷◌, ◌++◌, length, Option, Some, None}
 use Rattle.ark_base.specs.Status.{code_of}
 use Rattle.ark_base.specs.declared.status.Status.{Status}
 use Rattle.ark_base.specs.declared.status.Status.TheVariants.{Done, Usage, Sink, Device, Memory, Long}
@@ -10,13 +10,16 @@ use Rattle.ark_script.specs.Lines.{lines_of}
 use Rattle.ark_script.specs.Text.{text}
 use Rattle.ark_script.specs.declared.said.Said.TheVariants.{Ready}
 use Rattle.ark_machine.specs.System.{System}
-use Rattle.ark_cli.specs.Words.{IsRun, IsCheck, AsksFor}
-use Rattle.ark_cli.specs.Checking as checking
-use Rattle.ark_cli.specs.Checking.{Shows}
+use Rattle.ark_work.specs.Generated.{generated}
+use Rattle.ark_report.specs.Work.{work_blocks}
+use Rattle.ark_cli.specs.Words.{IsRun, IsCheck, IsWork, AsksFor}
+use Rattle.ark_cli.specs.Checking.{Shows, ReportEnds}
+use Rattle.ark_cli.specs.Working.{work_start, SumsUp, WorkEnds}
 use Rattle.ark_cli.specs.Line.{limit}
 use Rattle.ark_cli.specs.Cut.{CutReplies, CutConfined}
 use Rattle.ark_cli.specs.Opening.{Start, old_device, base_of, blocks_of, blocks_asked, asking, Starts, HeedsDamage}
-use Rattle.ark_cli.specs.Ending.{Does, HasRun, Ends, Closes, RecoversAtFronts}
+use Rattle.ark_cli.specs.Running.{HasRun, RecoversAtFronts}
+use Rattle.ark_cli.specs.Ending.{Does, Ends, Closes}
 use Rattle.ark_record.specs.Replay.{Past, Model, model_of}
 use Rattle.ark_record.specs.Watch.{told_of, told_by, beside_by}
 use Rattle.ark_record.specs.Honest.{IsHonest}
@@ -80,18 +83,37 @@ pub record IsCheckedOn (device : List ℕ) (status : Status) (old now : Model) :
   pub taken : now.taken ≡ old.taken
   pub reads : AreReads (device_events events)
   pub shows : Shows now.base status (output_of events)
-  pub ends : checking.EndsBy status events
+  pub ends : ReportEnds status events
   pub heeds : HeedsDamage (old_device now.base) (told_of now) status events
   pub closes : Closes status old.sink_faults now.sink_faults closing
 
+-- A device was made, and the generated script run on it.
+pub record IsWorkedOn (seed lines : ℕ) (device : List ℕ) (status : Status) (old now : Model) : Type 0 where
+  -- the events of a run of this script, of which those of the device came; the line that was put, and the closing line
+  pub run : List Event
+  pub shown : List Event
+  pub closing : List Event
+  -- this device alone was asked for; it had zero blocks, and since then these events came, and no others
+  pub openings : now.openings ≡ old.openings ++ asking (Some work_blocks) device true ∷ []
+  pub base : now.base ≡ base_of work_start
+  pub journal : now.journal ≡ onto (device_events run ++ (shown ++ closing)) []
+  pub faults : HasFailed (device_events run ++ (shown ++ closing)) → Rose old.disk_faults now.disk_faults
+  pub taken : now.taken ≡ old.taken
+  pub does : HasRun work_start (generated seed lines) (parts run).whole (parts run).unfinished
+  pub recovers : RecoversAtFronts work_start (generated seed lines) run
+  pub sums : SumsUp seed lines (parts run).whole
+  pub ends : WorkEnds seed lines status (parts run).whole (parts run).unfinished shown
+  pub closes : Closes status old.sink_faults now.sink_faults closing
+
 -- From one model of the outside to another: the words were no command, memory was wanting before a device was asked for, the
--- device could not be made or attached, the script was run, or the report put.
+-- device could not be made or attached, the script was run, the report put, or the generated script run.
 pub data HasEnded (words : List (List ℕ)) (old now : Model) (status : Status) : Type 0 where
   no_command : status ≡ Usage → ((blocks : Option ℕ) (device : List ℕ) → AsksFor words blocks device → ⊥) → IsUnopened [] status old now → HasEnded words old now status
   no_memory : status ≡ Memory → IsUnopened [] status old now → HasEnded words old now status
   no_device : (blocks : Option ℕ) (device : List ℕ) → status ≡ Device → AsksFor words blocks device → IsUnopened (asking blocks device false ∷ []) status old now → HasEnded words old now status
   ran : (start : Start) (device : List ℕ) → IsRun words (blocks_asked start) device → IsRunOn start device status old now → HasEnded words old now status
   checked : (device : List ℕ) → IsCheck words device → IsCheckedOn device status old now → HasEnded words old now status
+  worked : (seed lines : ℕ) (device : List ℕ) → IsWork words seed lines device → IsWorkedOn seed lines device status old now → HasEnded words old now status
 
 -- The whole script was run, on a device that was made, or was there.
 pub record IsDone (words : List (List ℕ)) (old now : Model) : Type 0 where
@@ -109,9 +131,12 @@ pub record IsDone (words : List (List ℕ)) (old now : Model) : Type 0 where
   pub unfinished : (parts events).unfinished ≡ []
   pub left : now.rest.script ≡ []
 
--- The command came to its end: the whole script was run, or the whole report put.
+-- The command came to its end: the whole script was run, the whole report put, or the whole generated script run.
 abbrev pub IsFinished : List (List ℕ) → Model → Model → Type 0
-IsFinished words old now = IsDone words old now ⊎ ((device : List ℕ) × IsCheck words device × IsCheckedOn device Done old now)
+IsFinished words old now =
+    IsDone words old now
+    ⊎ ((device : List ℕ) × IsCheck words device × IsCheckedOn device Done old now)
+    ⊎ ((seed : ℕ) × (lines : ℕ) × (device : List ℕ) × IsWork words seed lines device × IsWorkedOn seed lines device Done old now)
 
 -- The process ends with this status: that of a run for the words.
 pub record Exits (words : List (List ℕ)) (was now : Past) (exit : ℕ) : Type 0 where

@@ -14,21 +14,25 @@ use Rattle.ark_machine.specs.Replies.{may_lack}
 
 -- Whose replies these are.
 
--- what a line of the generated script does, by the rows of all words
-abbrev pub meant_turn : System → Meaning → List Ended → Bool → Turn
+-- what a line does, by the system before it, its meaning, how its device calls ended, and whether it found no memory
+abbrev pub Turning : Type 0
+Turning = System → Meaning → List Ended → Bool → Turn
+
+-- by the rows of all words
+abbrev pub meant_turn : Turning
 meant_turn s (Ok line) ends memory = line_turn s line ends memory
 meant_turn s (Err refusal) ends memory = quiet_turn s (Refused refusal)
 
 -- one line, by its place: those at the places of `full` find no memory
-abbrev pub turn_at : System → List ℕ → ℕ → Meaning → List Event → Turn
-turn_at s full place m es = meant_turn s m (ends_of es) (list_any (nat_eq place) full)
+abbrev pub turn_at : Turning → System → List ℕ → ℕ → Meaning → List Event → Turn
+turn_at by s full place m es = by s m (ends_of es) (list_any (nat_eq place) full)
 
 -- The replies to lines in turn, of which the first stands at this place. Each line has its device events.
-abbrev pub replies_to : System → List ℕ → ℕ → List Meaning → List (List Event) → List (List ℕ)
-replies_to s full place [] lists = []
-replies_to s full place (m ∷ ms) [] = []
-replies_to s full place (m ∷ ms) (es ∷ lists) =
-    text (turn_at s full place m es).said (turn_at s full place m es).bytes ∷ replies_to (turn_at s full place m es).after full (place + 1) ms lists
+abbrev pub replies_to : Turning → System → List ℕ → ℕ → List Meaning → List (List Event) → List (List ℕ)
+replies_to by s full place [] lists = []
+replies_to by s full place (m ∷ ms) [] = []
+replies_to by s full place (m ∷ ms) (es ∷ lists) =
+    text (turn_at by s full place m es).said (turn_at by s full place m es).bytes ∷ replies_to by (turn_at by s full place m es).after full (place + 1) ms lists
 
 -- a line whose word may find no memory
 abbrev pub can_lack : Meaning → Bool
@@ -46,10 +50,11 @@ work_blocks = 4096
 
 -- The line of `work`, given the lines of the prelude that found no memory, by their places from 1 on, and the device events of
 -- each line of the script.
-pub record Summary (seed lines : ℕ) (full : List ℕ) (lists : List (List Event)) (words : List ℕ) : Type 0 where
+pub record Summary (by : Turning) (seed lines : ℕ) (full : List ℕ) (lists : List (List Event))
+    (words : List ℕ) : Type 0 where
   pub meanings : List Meaning
   pub say : EachSays (generated seed lines) meanings
   pub each : length lists ≡ length meanings
   pub in_prelude : list_all (λ place. nat_le place (length prelude)) full ≡ true
   pub lacking : lack_rightly full 1 meanings ≡ true
-  pub counts : words ≡ summary lines (replies_to (fresh_system work_blocks) full 1 meanings lists)
+  pub counts : words ≡ summary lines (replies_to by (fresh_system work_blocks) full 1 meanings lists)

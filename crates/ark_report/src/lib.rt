@@ -1,2 +1,8 @@
-//! The summary of the command `work`, by the rows of all words: a definition for contracts.
+//! What the command `work` does with its device: the generated script is answered, and the replies are counted.
 #![tactic(auto)]
+
+mod counting;
+mod summary;
+
+pub use counting::count_replies;
+pub use summary::put_summary;

@@ -66,5 +66,23 @@ app a
 run,--new,200,--new=200,d => fault usage
 app a
 
-work,1,0,d => fault usage
+work,1,d => fault usage
+app a
+
+work,1,0,d,e => fault usage
+app a
+
+work,01,0,d => fault usage
+app a
+
+work,18446744073709551616,0,d => fault usage
+app a
+
+work,1,1000001,d => fault usage
+app a
+
+work,1,0, => fault usage
+app a
+
+work,--new=4096,1,0,d => fault usage
 app a";

@@ -30,3 +30,5 @@ mod stops;
 mod table;
 #[cfg(test)]
 mod words;
+#[cfg(test)]
+mod worked;

@@ -27,7 +27,8 @@ use Rattle.ark_cli.specs.Line.{limit}
 use Rattle.ark_cli.specs.Opening.{Start, new_device, Since, IsOpening}
 use Rattle.ark_cli.specs.Cut.{CutReplies}
 use Rattle.ark_cli.proofs.CutReplies.{cut_confined_of}
-use Rattle.ark_cli.specs.Ending.{RecoversAtFronts, PutsLine, Closes, HasRun, Ends, IsClosed, Does, runs}
+use Rattle.ark_cli.specs.Running.{RecoversAtFronts, HasRun}
+use Rattle.ark_cli.specs.Ending.{PutsLine, Closes, Ends, IsClosed, Does, runs}
 
 -- the device of these runs
 abbrev pub here : Start

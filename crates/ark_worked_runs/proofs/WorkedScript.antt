@@ -27,7 +27,8 @@ use Rattle.ark_machine.specs.System.{fresh_system}
 use Rattle.ark_machine.specs.Follow.{ended}
 use Rattle.ark_machine.specs.Replies.{Replies, system_after}
 use Rattle.ark_laws.proofs.Confining.{confined_of}
-use Rattle.ark_cli.specs.Ending.{RecoversAtFronts, Does, runs}
+use Rattle.ark_cli.specs.Running.{RecoversAtFronts}
+use Rattle.ark_cli.specs.Ending.{Does, runs}
 use Rattle.ark_cli.proofs.Stops.{no_slots, none_each, table_rests, open_fronts}
 use Rattle.ark_machine.proofs.Fronts.{recovers_of}
 use Rattle.ark_worked_runs.proofs.WorkedRuns.{here, line, told_first, beside_first, told_of, beside_of, closed_run, run_words, is_run, opened, opened_table, is_opening, is_whole}

@@ -35,7 +35,8 @@ too_small (Some size) device h =
     absurd (omega (arith, h.1.0, same))
 
 no_command_words : (blocks : Option ℕ) (device : List ℕ) → AsksFor small_words blocks device → ⊥
-no_command_words blocks device (inl run) = too_small blocks device run
+no_command_words blocks device (inl (inl run)) = too_small blocks device run
+no_command_words blocks device (inl (inr work)) = absurd (cc (work.3.0.1))
 no_command_words blocks device (inr check) = absurd (cc (check.1.0.1))
 
 abbrev usage_line : List Event

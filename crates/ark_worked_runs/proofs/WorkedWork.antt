@@ -13,7 +13,7 @@ use Rattle.ark_worked.proofs.Playing.{Played, performed}
 use Rattle.ark_worked.proofs.Scripts.{quiet, app, area, granting, opening_empty}
 use Rattle.ark_work.specs.Generated.{generated, prelude}
 use Rattle.ark_work.specs.Tallied.{summary}
-use Rattle.ark_report.specs.Work.{work_blocks, Summary}
+use Rattle.ark_report.specs.Work.{work_blocks, meant_turn, Summary}
 
 prelude_has : length (generated 1 0) ≡ 16
 prelude_has = refl
@@ -158,7 +158,7 @@ prelude_says = (
 )
 
 -- no line behind the prelude, and memory for each
-nothing_lacks : Summary 1 0 [] (map (λ p. p.1) begun) (codes "work 0 ok 16 refused 0 other 0")
+nothing_lacks : Summary meant_turn 1 0 [] (map (λ p. p.1) begun) (codes "work 0 ok 16 refused 0 other 0")
 unfolding step answer digits
 nothing_lacks = record { meanings = asked; say = prelude_says; each = refl; in_prelude = refl; lacking = refl; counts = refl }
 
@@ -184,6 +184,6 @@ half_begun =
     ∷ (w.queue b q card, opening_empty 161 kind.Queue)
     ∷ []
 
-first_lacks : Summary 1 0 (1 ∷ []) (map (λ p. p.1) half_begun) (codes "work 0 ok 8 refused 8 other 0")
+first_lacks : Summary meant_turn 1 0 (1 ∷ []) (map (λ p. p.1) half_begun) (codes "work 0 ok 8 refused 8 other 0")
 unfolding step answer digits
 first_lacks = record { meanings = asked; say = prelude_says; each = refl; in_prelude = refl; lacking = refl; counts = refl }

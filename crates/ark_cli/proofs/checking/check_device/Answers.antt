@@ -1,8 +1,7 @@
-use Rattle.std.proofs.Common.{◌≡◌, true, refl, sym, subst, inr, List}
+use Rattle.std.proofs.Common.{true, refl, sym, subst, inr, List}
 use Rattle.std.specs.Prelude.{Option}
 use Rattle.ark_table.specs.Area.{Area}
 use Rattle.ark_base.specs.declared.status.Status.{Status}
-use Rattle.ark_media.specs.Calls.{Makes}
 use Rattle.ark_cli.specs.Ending.{Checks, IsCause}
 use Rattle.ark_cli.proofs.Attaching.{image_of, since_attached, since_read, load_cause}
 use Rattle.ark_cli.proofs.Reporting.{unloaded, roomless, put_whole, put_part}

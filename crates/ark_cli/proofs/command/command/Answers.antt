@@ -1,7 +1,5 @@
-use Rattle.std.proofs.Common.{inl, inr, refl, Err, ◌∙◌, ap, subst, ℕ}
-use Rattle.std.specs.Prelude.{Option, Some, None, map, string_bytes}
+use Rattle.std.proofs.Common.{inl, refl, Err, ◌∙◌, ap}
 use Rattle.ark_media.proofs.Composing.{goes_none}
-use Rattle.ark_cli.specs.Words.{IsRun}
 use Rattle.ark_cli.proofs.command.command.Goals as goal
 
 pub returns-in-Err-Usage-clause-runs : goal.returns-in-Err-Usage-clause-runs

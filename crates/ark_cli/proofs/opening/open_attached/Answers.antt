@@ -69,9 +69,9 @@ returns-in-Err-put-clause-failed g c =
       old_device image,
       refl,
       refl,
-      opens_unshown (old_device image) c.args.device.now (g.W.Disk.told w0) (g.W.Disk.told w1) (g.W.Disk.told w2) (g.W.Disk.told w3) (g.W.Outside.beside w0) (g.W.Outside.beside w1) (g.W.Outside.beside w2) (g.W.Outside.beside w3)
+      opens_unshown (old_device image) c.args.device.now (g.W.Disk.told w0) (g.W.Disk.told w2) (g.W.Disk.told w3) (g.W.Outside.beside w0) (g.W.Outside.beside w2) (g.W.Outside.beside w3)
           f.events calls c.slots.result slots _ (ready_line _ c.slots.result _ _ _ (c.say.ensures.said ∙ ap (λ n. Ready n c.slots.result) (c.blocks-in-Ok-load.ensures ∙ since.blocks)) (c.bytes.ensures ∙ c.print.ensures.text))
-          opened tells keeps c.put.ensures.keeps c.put.ensures.cause.later puts,
+          since c.put.ensures.keeps c.put.ensures.cause.later puts,
     ))
 
 pub returns-in-Ok-put-clause-ready : goal.returns-in-Ok-put-clause-ready
@@ -92,8 +92,8 @@ returns-in-Ok-put-clause-ready g c =
     let before = λ (h : History) (is : (g.W.Disk.told w3).history ≡ Some h). told_before (Out puts.part ∷ []) (g.W.Disk.told w2).history (g.W.Disk.told w3).history puts.rests.adds h is in
     let slots = loaded_slots image 129 f.events c.in-Ok-load.host true (g.W.Disk.told w2) (g.W.Disk.told w3) c.in-Ok-load.ensures.loaded calls since.begins c.slots.result c.slots.ensures before in
     let line = ready_line _ c.slots.result _ _ _ (c.say.ensures.said ∙ ap (λ n. Ready n c.slots.result) (c.blocks-in-Ok-load.ensures ∙ since.blocks)) (c.bytes.ensures ∙ c.print.ensures.text) in
-    let shown = since_ready (old_device image) c.args.device.now (g.W.Disk.told w0) (g.W.Disk.told w1) (g.W.Disk.told w2) (g.W.Disk.told w3) (g.W.Outside.beside w0) (g.W.Outside.beside w1) (g.W.Outside.beside w2) (g.W.Outside.beside w3)
-    f.events calls c.slots.result slots _ line opened tells keeps c.put.ensures.keeps c.put.ensures.cause.later puts in
+    let shown = since_ready (old_device image) c.args.device.now (g.W.Disk.told w0) (g.W.Disk.told w2) (g.W.Disk.told w3) (g.W.Outside.beside w0) (g.W.Outside.beside w2) (g.W.Outside.beside w3)
+    f.events calls c.slots.result slots _ line since c.put.ensures.keeps c.put.ensures.cause.later puts in
     record {
       image = image;
       ready = record { events = f.events; calls = calls; slots = c.slots.result; tells = slots; since = shown };

@@ -1,6 +1,6 @@
 use Rattle.std.proofs.Common.{◌≡◌, Err, ap, inl, inr}
 use Rattle.std.specs.Prelude.{Result}
-use Rattle.ark_words.specs.Words.{run, check}
+use Rattle.ark_words.specs.Words.{run, check, work}
 use Rattle.ark_words.specs.declared.task.WordsFault.{WordsFault}
 use Rattle.ark_words.specs.declared.task.WordsFault.TheVariants.{Usage}
 use Rattle.ark_cli.specs.declared.words.Asked.{Asked}
@@ -13,4 +13,4 @@ handed_on fault h = cc
 pub returns-in-Err-clause-usage : goal.returns-in-Err-clause-usage
 returns-in-Err-clause-usage c = λ h blocks device asked.
     let none = c.in-Err.ensures.usage (ap (λ f. Err f) (handed_on c.in-Err.fault h)) in
-    elim asked [ inl r ↦ none (run blocks device) r | inr k ↦ none (check device) k.1 ]
+    elim asked [ inl (inl r) ↦ none (run blocks device) r | inl (inr w) ↦ none (work w.1 w.2 device) w.3 | inr k ↦ none (check device) k.1 ]
