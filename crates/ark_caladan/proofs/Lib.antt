@@ -4,22 +4,22 @@ mod WorkedDevice
 mod WorkedOpen
 mod WorkedTrim
 mod WorkedRepair
-mod Commands
-mod Leaving
-mod Opening
-mod Places
-mod Events
-mod Calls
-mod Viewed
-mod Appending
-mod Dropping
-mod Carrying
-mod Acked
-mod Listing
-mod Repairing
-mod Standing
-mod Posting
-mod Accepting
+pub mod Commands
+pub mod Leaving
+pub mod Opening
+pub mod Places
+pub mod Events
+pub mod Calls
+pub mod Viewed
+pub mod Appending
+pub mod Dropping
+pub mod Carrying
+pub mod Acked
+pub mod Listing
+pub mod Repairing
+pub mod Standing
+pub mod Posting
+pub mod Accepting
 pub mod Buffers
 pub mod Seeing
 pub mod Payloads

@@ -1,6 +1,6 @@
 -- What stays where a word changes a buffer, its label and the application's memory, and nothing else that objects are compared with.
 use Rattle.std.proofs.Common.{◌≡◌, ℕ, Bool, true, List, length, refl, sym, ◌∙◌, ap, arith, nat_eq}
-use Rattle.std.specs.Prelude.{Option, Some, None, option_map, option_and_then, slice_get}
+use Rattle.std.specs.Prelude.{Option, Some, None, option_map, slice_get}
 use Rattle.std.specs.Map.{lookup}
 use Rattle.ark_caps.specs.Labels.{value_at}
 use Rattle.ark_caps.specs.declared.capability.Capability.{Capability}
@@ -26,6 +26,7 @@ use Rattle.ark_held.proofs.Lists.{not_some}
 use Rattle.ark_held.proofs.Spreading.{spread_same}
 use Rattle.ark_held.proofs.Besides.{same_history}
 use Rattle.ark_held.proofs.Finding.{stands_at}
+use Rattle.ark_held.proofs.Opens.{stays_same}
 
 -- sums over objects to which a buffer adds nothing
 abbrev pub CountsSame : Machine → Machine → Type 0
@@ -42,12 +43,13 @@ module _ (r : Beyond) (app app1 : App) (numbers : List ℕ) (machine : Machine) 
     now = omega arith;
     numbers = grown;
     frames = frames;
+    base = refl;
     bytes = bytes;
     granted = granted;
     spread = λ i g a old is. spread_same app.areas g a (ap (λ (es : AreaList). lookup (nat_eq g) es) (sym areas) ∙ is);
     labels = labels;
     places = λ k c among is kind. ap (λ (o : Option BufferKept). option_map (λ z. z.piece) o) (entries k c among is kind);
-    logs = λ k c among is kind. ap (λ (d : Devices). option_and_then (λ z. z.log) (card_kept d.cards c.key)) devices;
+    logs = λ s k d c card same at among is kind there on. stays_same d.grant card (card_kept app.devices.cards c.key) (card_kept app1.devices.cards c.key) (ap (λ (e : Devices). card_kept e.cards c.key) devices) there;
     buffers = λ k c stays is kind. entries k c (wider k stays) is kind;
     cards = λ k c stays is kind. ap (λ (d : Devices). card_kept d.cards c.key) devices;
     nets = λ k c stays is kind. refl;
@@ -56,7 +58,6 @@ module _ (r : Beyond) (app app1 : App) (numbers : List ℕ) (machine : Machine) 
     sockets = λ k c stays is kind. refl;
     rules = λ k c stays is kind. refl;
     areas = λ k c stays is kind. ap (λ (es : AreaList). lookup (nat_eq c.grant) es) areas;
-    chains = λ k c stays is kind. refl;
     slots = λ k stays. refl;
     history = λ k u stays is. same_history r.history u.blocks;
     lent = λ k stays. counts (uses k) (λ z. refl);

@@ -1,5 +1,5 @@
 -- A move of a card that an application keeps is the move of its machine's card.
-use Rattle.std.proofs.Common.{◌≡◌, ℕ, Bool, List, [], ◌∷◌, refl, sym, ◌∙◌, ap, subst}
+use Rattle.std.proofs.Common.{◌≡◌, ℕ, Bool, List, [], ◌∷◌, None, refl, sym, ◌∙◌, ap, subst}
 use Rattle.std.specs.Prelude.{Option}
 use Rattle.ark_base.specs.declared.kind.Outcome.{Outcome}
 use Rattle.ark_media.specs.Journal.{History, Event}
@@ -114,14 +114,14 @@ module _ (x : Around) (v : List ℕ) (c : Capability) (k : CardKept) (card : Vsi
         (unmoved x.machine (subst (λ (z : ℕ → Option Counts). Holds (carried x [] x.machine x.tables.memory cards z)) (sym same_doors) (stays x v c k card on cards sets))) no_logs
 
     -- the oldest descriptor has ended with no call
-    pub ended_quietly : (d : Descriptor) (ds : List Descriptor) (j : Job) (js : List Job) (posted : k.ring.posted ≡ d ∷ ds) (jobs : card.queue.posted ≡ j ∷ js) (o : Outcome) → what ≡ due.Ends o → a ≡ moved.Done o
+    pub ended_quietly : (d : Descriptor) (ds : List Descriptor) (j : Job) (js : List Job) (posted : k.ring.posted ≡ d ∷ ds) (jobs : card.queue.posted ≡ j ∷ js) → k.log ≡ None → (o : Outcome) → what ≡ due.Ends o → a ≡ moved.Done o
         → row ≡ moves (ended_by x.machine v card j js o card.pace) (said.Done o) [] → Carries x row es a memory cards doors
-    ended_quietly d ds j js posted jobs o is so row_is =
+    ended_quietly d ds j js posted jobs none o is so row_is =
         let sets : Sets c.key (record k { ring = finished k.ring d o 0 }) x.tables.cards cards =
         subst (λ (q : Queue). Sets c.key (record k { ring = q }) x.tables.cards cards) (ended_is d ds posted o) (sets_by (due.Ends o) is (moved.Done o) so) in
         carries_by (ended_by x.machine v card j js o card.pace) (said.Done o) [] row_is (ap said_of so) no_calls
         (unmoved (ended_by x.machine v card j js o card.pace)
-        (ends_so x v c k card on d ds j js posted jobs o k.pace card.pace on.fits.pace cards doors sets (rings_by (moved.Done o) so))) no_logs
+        (ends_so x v c k card on d ds j js posted jobs o none k.pace card.pace on.fits.pace cards doors sets (rings_by (moved.Done o) so))) no_logs
       where
         ended_is : (d : Descriptor) (ds : List Descriptor) → k.ring.posted ≡ d ∷ ds → (o : Outcome) → ring_after k.ring (moved.Done o) ≡ finished k.ring d o 0
         ended_is d ds posted o = rw posted refl

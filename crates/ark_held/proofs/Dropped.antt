@@ -1,6 +1,6 @@
 -- An area that is given up: its label, its object and its slot go.
 use Rattle.std.proofs.Common.{◌≡◌, ℕ, suc, ◌+◌, Bool, true, false, not, cond, List, [], ◌∷◌, length, map, nat_eq, refl, sym, ◌∙◌, ap, subst, arith, bytes_eq}
-use Rattle.std.specs.Prelude.{Option, Some, None, find, option_map, option_and_then, slice_get, slice_index_or, unwrap_or, filter as select}
+use Rattle.std.specs.Prelude.{Option, Some, None, find, option_map, slice_get, slice_index_or, unwrap_or, filter as select}
 use Rattle.std.specs.Map.{lookup}
 use Rattle.std.proofs.lemmas.Bool.Decides.{nat_tests}
 use Rattle.ark_media.specs.Journal.{History}
@@ -18,7 +18,7 @@ use Rattle.ark_machine.specs.Control.{is_open_on, is_socket_on, lets_go}
 use Rattle.ark_held.specs.declared.areas.Area.{Area}
 use Rattle.ark_held.specs.Words.{Labels, AreaList, without_area}
 use Rattle.ark_held.specs.Totals.{bit, total, uses, covers, object_covers}
-use Rattle.ark_held.specs.Kept.{BufferKept, CardKept, Tables}
+use Rattle.ark_held.specs.Kept.{BufferKept, Tables}
 use Rattle.ark_held.specs.Around.{Around, slot_at}
 use Rattle.ark_held.specs.Held.{AreDistinctLabels, Holds, is_area, area_labels}
 use Rattle.ark_held.specs.Keeps.{SameAt, IsSpread, Keeps, any_piece}
@@ -31,6 +31,7 @@ use Rattle.ark_held.proofs.Removing.{others_value, others_was, others_areas, tot
 use Rattle.ark_held.proofs.Spreading.{spread_same}
 use Rattle.ark_held.proofs.Staying.{within}
 use Rattle.ark_held.proofs.Without.{one_fewer, without_other}
+use Rattle.ark_held.proofs.Opens.{stays_same}
 
 -- of the areas' labels one fewer stays
 fewer_areas : (l : List ℕ) (ps : Labels) (c : Capability) → AreDistinctLabels ps → value_at ps l ≡ Some c → is_area c.kind ≡ true → length (area_labels (others l ps)) + 1 ≡ length (area_labels ps)
@@ -96,6 +97,7 @@ module _ (x y : Around) (h : Holds x) (l : List ℕ) (cap : Capability) (there :
     now = omega (arith, now);
     numbers = λ i n is. ap (λ (ns : List ℕ). slice_get ns i) numbers ∙ is;
     frames = ap (λ (z : Tables). length z.memory.taken) tables;
+    base = ap (λ (z : History). z.base) history;
     bytes = λ b rests. ap (λ (z : Tables). bytes_of z.memory b) tables;
     granted = λ k c i is old. others_was l k c x.labels (ap (λ (ls : Labels). value_at ls k) (sym labels) ∙ is);
     spread = λ i g a old is. by_test (λ t. nat_eq g cap.grant ≡ t → IsSpread (lookup (nat_eq g) x.areas) a) (nat_eq g cap.grant)
@@ -103,7 +105,7 @@ module _ (x y : Around) (h : Holds x) (l : List ℕ) (cap : Capability) (there :
         (λ no q. spread_same x.areas g a (sym (ap (λ (es : AreaList). lookup (nat_eq g) es) areas ∙ without_other x.areas cap.grant g q) ∙ is)) refl;
     labels = λ k c apart is. ap (λ (ls : Labels). value_at ls k) labels ∙ others_value l k x.labels (not_but l k apart) ∙ is;
     places = λ k c apart is its. ap (λ (z : Tables). option_map (λ (b : BufferKept). b.piece) (z.buffers c.key)) tables;
-    logs = λ k c apart is its. ap (λ (z : Tables). option_and_then (λ (q : CardKept). q.log) (z.cards c.key)) tables;
+    logs = λ s k d c card same at apart is its there on. stays_same d.grant card (x.tables.cards c.key) (y.tables.cards c.key) (ap (λ (z : Tables). z.cards c.key) tables) there;
     buffers = λ k c apart is its. ap (λ (z : Tables). z.buffers c.key) tables;
     cards = λ k c apart is its. ap (λ (z : Tables). z.cards c.key) tables;
     nets = λ k c apart is its. ap (λ (z : Tables). z.nets c.key) tables;
@@ -112,7 +114,6 @@ module _ (x y : Around) (h : Holds x) (l : List ℕ) (cap : Capability) (there :
     sockets = λ k c apart is its. ap (λ (z : Tables). z.sockets c.key) tables;
     rules = λ k c apart is its. ap (λ (rs : List Live). find (λ v. nat_eq v.grant c.grant) rs) rules;
     areas = λ k c apart is its. ap (λ (es : AreaList). lookup (nat_eq c.grant) es) areas ∙ without_other x.areas cap.grant c.grant (other_grant k c apart is);
-    chains = λ k c apart is its. ap (λ (z : Tables). z.chains c.grant) tables;
     slots = slots;
     history = λ k u apart is. subst (λ (o : History). SameAt x.history o u.blocks) (sym history) (same_history x.history u.blocks);
     lent = λ k apart. counts (λ z. uses k z.object) (closed_uses k held.object closed);

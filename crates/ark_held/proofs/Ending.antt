@@ -11,6 +11,8 @@ use Rattle.ark_vic.specs.declared.descriptor.Completion.{Completion}
 use Rattle.ark_vic.specs.declared.door.Bell.TheVariants as bell
 use Rattle.ark_vic.specs.declared.door.Counts.{Counts}
 use Rattle.ark_vic.specs.Bells.{one_more}
+use Rattle.ark_caladan.specs.Chain.{Phase}
+use Rattle.ark_log.specs.Open.{OpenChain}
 use Rattle.ark_machine.specs.Objects
 use Rattle.ark_machine.specs.Objects.{Object, Vsic, Job, Paced, transfer, flush, phase}
 use Rattle.ark_machine.specs.Machine.{Machine, Held, at, holding, with_object}
@@ -21,15 +23,16 @@ use Rattle.ark_held.specs.Words.{Labels}
 use Rattle.ark_held.specs.Totals.{bit, total, uses, vsic_uses, open_count}
 use Rattle.ark_held.specs.Kept.{CardKept, PaceKept}
 use Rattle.ark_held.specs.Around.{Around, Each, Both}
-use Rattle.ark_held.specs.Cards.{IsCard, IsJob, IsEnded, IsPaced, IsWatched}
+use Rattle.ark_held.specs.Cards.{IsCard, IsJob, IsPhase, IsEnded, IsPaced, IsWatched}
 use Rattle.ark_held.specs.Held.{IsObjectOf, AllMatch, AreDistinctLabels, Holds}
-use Rattle.ark_held.specs.Keeps.{Keeps, Within, JobWithin, any_label, any_piece}
+use Rattle.ark_held.specs.Keeps.{IsOpenOn, StaysOpen, Keeps, Within, JobWithin, any_label, any_piece}
 use Rattle.ark_held.specs.Ringing.{Sets, Rings}
 use Rattle.ark_held.proofs.Lists.{by_test, same_name, some_same, total_last, each_kept}
 use Rattle.ark_held.proofs.Changing.{put_at, none_put}
 use Rattle.ark_held.proofs.Creating.{but}
 use Rattle.ark_held.proofs.Devising.{with_devices, card_keeps, card_set, open_same, door_set}
 use Rattle.ark_held.proofs.Finding.{its_own, stands_at}
+use Rattle.ark_held.proofs.Opens.{none_open, stays_same}
 use Rattle.ark_held.proofs.Keeping.{job_kept, ended_kept, paced_kept, watched_kept}
 use Rattle.ark_held.proofs.Staying.{within}
 
@@ -123,13 +126,13 @@ module _ (x : Around) (v : List ℕ) (c : Capability) (k : CardKept) (card : Vsi
   same_machine : with_object x.machine v (Objects.vsic card) ≡ x.machine
   same_machine = ap (λ (hs : List Held). record x.machine { held = hs }) (put_same (Objects.vsic card) on.held x.labels x.machine.held on.holds.apart on.holds.held on.there on.object)
 
-  module _ (new : Vsic) (now : CardKept) (cards : ℕ → Option CardKept) (sets : Sets c.key now x.tables.cards cards) (log : now.log ≡ k.log) (used : (l : List ℕ) → uses l (Objects.vsic new) ≡ uses l (Objects.vsic card))
+  module _ (new : Vsic) (now : CardKept) (cards : ℕ → Option CardKept) (sets : Sets c.key now x.tables.cards cards) (stays : (grant : ℕ) → IsOpenOn grant k → StaysOpen grant k (Some now)) (used : (l : List ℕ) → uses l (Objects.vsic new) ≡ uses l (Objects.vsic card))
       (fits : StandsFor x v now new) where
     abbrev y : Around
     y = with_devices x cards x.tables.doors (with_object x.machine v (Objects.vsic new))
 
     keeps : Keeps (but v) any_label any_piece x y
-    keeps = card_keeps x on.holds v c on.named on.kind on.held on.there card new on.object cards k now on.was sets log used
+    keeps = card_keeps x on.holds v c on.named on.kind on.held on.there card new on.object cards k now on.was sets stays used
 
     fits_then : IsCard y v c new
     fits_then =
@@ -144,32 +147,33 @@ module _ (x : Around) (v : List ℕ) (c : Capability) (k : CardKept) (card : Vsi
           bound = fits.bound;
           pace = paced_kept (but v) any_label any_piece x y keeps now.pace new.pace w.2 fits.pace;
           door = watched_kept (but v) any_label any_piece x y keeps now.door new.door w.3 fits.door;
-          log = fits.log ∙ sym (open_same x on.holds v c on.named on.kind on.held on.there card new on.object cards k now on.was sets log used);
+          log = fits.log ∙ sym (open_same x on.holds v c on.named on.kind on.held on.there card new on.object cards k now on.was sets stays used);
         }
 
     pub card_holds : Holds y
-    card_holds = card_set x on.holds v c on.named on.kind on.held on.there card new on.object cards k now on.was sets log used fits_then
+    card_holds = card_set x on.holds v c on.named on.kind on.held on.there card new on.object cards k now on.was sets stays used fits_then
 
     pub card_watched : Both (IsWatched x) now.door new.door → Both (IsWatched y) now.door new.door
     card_watched watched = watched_kept (but v) any_label any_piece x y keeps now.door new.door (within (Objects.vsic new)).3 watched
 
   -- a card that did not move
   pub stays : (cards : ℕ → Option CardKept) → Sets c.key k x.tables.cards cards → Holds (with_devices x cards x.tables.doors x.machine)
-  stays cards sets = subst (λ (m : Machine). Holds (with_devices x cards x.tables.doors m)) same_machine (card_holds card k cards sets refl (λ l. refl) on.fits)
+  stays cards sets = subst (λ (m : Machine). Holds (with_devices x cards x.tables.doors m)) same_machine (card_holds card k cards sets (λ grant on_it. stays_same grant k (Some k) (Some k) refl refl) (λ l. refl) on.fits)
 
   -- a block more has moved
-  pub moves_on : (paced : Option PaceKept) (pace : Option Paced) → Both (IsPaced x) paced pace → (cards : ℕ → Option CardKept) → Sets c.key (record k { ring = record k.ring { moved = k.ring.moved + 1 }; pace = paced }) x.tables.cards cards
+  pub moves_on : k.log ≡ None → (paced : Option PaceKept) (pace : Option Paced) → Both (IsPaced x) paced pace → (cards : ℕ → Option CardKept) → Sets c.key (record k { ring = record k.ring { moved = k.ring.moved + 1 }; pace = paced }) x.tables.cards cards
       → Holds (with_devices x cards x.tables.doors (with_object x.machine v (Objects.vsic (block_moved pace card))))
-  moves_on paced pace both cards sets = card_holds (block_moved pace card) (record k { ring = record k.ring { moved = k.ring.moved + 1 }; pace = paced }) cards sets refl (λ l. refl) (record {
-    size = on.fits.size;
-    posted = on.fits.posted;
-    unreaped = on.fits.unreaped;
-    moved = ap (λ n. n + 1) on.fits.moved;
-    bound = on.fits.bound;
-    pace = both;
-    door = on.fits.door;
-    log = on.fits.log;
-  })
+  moves_on none paced pace both cards sets = card_holds (block_moved pace card) (record k { ring = record k.ring { moved = k.ring.moved + 1 }; pace = paced }) cards sets
+      (λ grant on_it. none_open grant k (Some (record k { ring = record k.ring { moved = k.ring.moved + 1 }; pace = paced })) none on_it) (λ l. refl) (record {
+        size = on.fits.size;
+        posted = on.fits.posted;
+        unreaped = on.fits.unreaped;
+        moved = ap (λ n. n + 1) on.fits.moved;
+        bound = on.fits.bound;
+        pace = both;
+        door = on.fits.door;
+        log = on.fits.log;
+      })
 
   -- The oldest descriptor has ended.
   module _ (d : Descriptor) (ds : List Descriptor) (j : Job) (js : List Job) (posted : k.ring.posted ≡ d ∷ ds) (jobs : card.queue.posted ≡ j ∷ js) (o : Outcome) where
@@ -179,7 +183,11 @@ module _ (x : Around) (v : List ℕ) (c : Capability) (k : CardKept) (card : Vsi
     ended_one : (i : Job) → IsJob x k.log d i → IsEnded x k.log (completion_of d o 0) (i, o)
     ended_one (transfer t) is = (refl, is.does, is.buffer)
     ended_one flush is = (refl, is.0, is.1)
-    ended_one (phase p) is = (refl, ap is_some is.0)
+    ended_one (phase p) is = (refl, its_log k.log p is)
+      where
+        its_log : (log : Option OpenChain) (q : Phase) → IsPhase log q d → is_some log ≡ true
+        its_log None q is = absurd is
+        its_log (Some v) q is = refl
 
     each_last : (cs : List Completion) (us : List (Job × Outcome)) → Each (IsEnded x k.log) cs us → Each (IsEnded x k.log) (cs ++ completion_of d o 0 ∷ []) (us ++ (j, o) ∷ [])
     each_last [] [] each = (ended_one j its_jobs.0, tt)
@@ -193,12 +201,13 @@ module _ (x : Around) (v : List ℕ) (c : Capability) (k : CardKept) (card : Vsi
         let had : total (λ i. bit (job_has l i)) card.queue.posted ≡ bit (job_has l j) + total (λ i. bit (job_has l i)) js = ap (λ (zs : List Job). total (λ i. bit (job_has l i)) zs) jobs in
         omega (arith, more, had)
 
-    pub ends_so : (paced : Option PaceKept) (pace : Option Paced) → Both (IsPaced x) paced pace → (cards : ℕ → Option CardKept) (doors : ℕ → Option Counts)
+    pub ends_so : k.log ≡ None → (paced : Option PaceKept) (pace : Option Paced) → Both (IsPaced x) paced pace → (cards : ℕ → Option CardKept) (doors : ℕ → Option Counts)
         → Sets c.key (record k { ring = finished k.ring d o 0; pace = paced }) x.tables.cards cards → Rings k.door x.tables.doors doors
         → Holds (with_devices x cards doors (rung (with_object x.machine v (Objects.vsic (ending j js o (block_passed pace card)))) card.door bell.Io))
-    ends_so paced pace both cards doors sets rings =
+    ends_so none paced pace both cards doors sets rings =
         let now : CardKept = record k { ring = finished k.ring d o 0; pace = paced } in
         let new : Vsic = ending j js o (block_passed pace card) in
+        let opens : (grant : ℕ) → IsOpenOn grant k → StaysOpen grant k (Some now) = λ grant on_it. none_open grant k (Some now) none on_it in
         let rest : drop 1 k.ring.posted ≡ ds = ap (λ (zs : List Descriptor). drop 1 zs) posted in
         let fits : StandsFor x v now new = record {
           size = on.fits.size;
@@ -210,4 +219,4 @@ module _ (x : Around) (v : List ℕ) (c : Capability) (k : CardKept) (card : Vsi
           door = on.fits.door;
           log = on.fits.log;
         } in
-        rung_holds (y new now cards sets refl (uses_same pace) fits) (card_holds new now cards sets refl (uses_same pace) fits) doors k.door card.door (card_watched new now cards sets refl (uses_same pace) fits on.fits.door) rings
+        rung_holds (y new now cards sets opens (uses_same pace) fits) (card_holds new now cards sets opens (uses_same pace) fits) doors k.door card.door (card_watched new now cards sets opens (uses_same pace) fits on.fits.door) rings

@@ -1,6 +1,6 @@
 -- The ring of a card and the right to a buffer change together: what stays, and what labels stand for then.
-use Rattle.std.proofs.Common.{◌≡◌, inl, inr, ℕ, ◌+◌, Bool, true, false, not, cond, ◌&&◌, List, length, refl, sym, ◌∙◌, ap, subst, arith, bytes_eq, nat_eq}
-use Rattle.std.specs.Prelude.{Option, Some, is_some, is_none, option_map, option_and_then, slice_get, slice_index_or}
+use Rattle.std.proofs.Common.{◌≡◌, inl, inr, ℕ, ◌+◌, Bool, true, false, not, cond, ◌&&◌, List, length, refl, sym, ◌∙◌, ap, subst, arith, bytes_eq, nat_eq, None}
+use Rattle.std.specs.Prelude.{Option, Some, is_some, is_none, option_map, slice_get, slice_index_or}
 use Rattle.std.specs.Map.{lookup}
 use Rattle.std.proofs.lemmas.Bool.{cases_eq, false≢true, and_parts}
 use Rattle.ark_base.specs.declared.kind.Outcome.{Outcome}
@@ -24,7 +24,7 @@ use Rattle.ark_held.specs.Pacing.{rate_kept}
 use Rattle.ark_held.specs.Around.{Around, Each, Both, piece_of}
 use Rattle.ark_held.specs.Cards.{IsBuffer, IsCard, IsJob, IsEnded, IsPaced, IsWatched}
 use Rattle.ark_held.specs.Held.{IsObjectOf, Matches, Holds, has_key}
-use Rattle.ark_held.specs.Keeps.{Keeps, JobWithin, Within, any_label, any_piece}
+use Rattle.ark_held.specs.Keeps.{Keeps, JobWithin, Within, any_label, any_piece, LogsStay}
 use Rattle.ark_held.specs.Beyond.{Beyond, around}
 use Rattle.ark_held.specs.declared.allowance.Allowance.{Allowance}
 use Rattle.ark_held.specs.declared.app.App.{App}
@@ -39,6 +39,7 @@ use Rattle.ark_held.proofs.Members.{In}
 use Rattle.ark_held.proofs.Spreading.{spread_same}
 use Rattle.ark_held.proofs.Staying.{within}
 use Rattle.ark_held.proofs.Turning.{turned}
+use Rattle.ark_held.proofs.Opens.{card_logs_by, shut_stays}
 
 -- a card and a buffer under their labels
 pub record HasBoth (x : Around) (v b : List ℕ) : Type 0 where
@@ -61,7 +62,7 @@ with_ring q one = record one { vsic = record one.vsic { ring = q } }
 abbrev pub with_queue : Objects.Queue Job (Job × Outcome) → Vsic → Vsic
 with_queue q v = record v { queue = q }
 
-module _ (r : Beyond) (app app1 : App) (v b : List ℕ) (h : Holds (around r app)) (both : HasBoth (around r app) v b) (one : StorageCard) (here : key_at app.devices.cards both.card.key ≡ Some one) (lent : kept.Buffer)
+module _ (r : Beyond) (app app1 : App) (v b : List ℕ) (h : Holds (around r app)) (both : HasBoth (around r app) v b) (one : StorageCard) (here : key_at app.devices.cards both.card.key ≡ Some one) (shut : one.log ≡ None) (lent : kept.Buffer)
     (was : key_at app.store.buffers both.cap.key ≡ Some lent) (ring : Queue) (queue : Objects.Queue Job (Job × Outcome)) (right : Option Piece)
     (cards : Changes app.devices.cards app1.devices.cards both.card.key (Some (with_ring ring one))) (buffers : Changes app.store.buffers app1.store.buffers both.cap.key (Some (record lent { buf = right })))
     (region : app1.store.region ≡ app.store.region) (labels : app1.labels ≡ app.labels) (doors : app1.devices.doors ≡ app.devices.doors) (rates : app1.devices.rates ≡ app.devices.rates) (areas : app1.areas ≡ app.areas)
@@ -113,24 +114,21 @@ module _ (r : Beyond) (app app1 : App) (v b : List ℕ) (h : Holds (around r app
     | inr other ↦ ap (λ z. option_map (λ (w : BufferKept). w.piece) (option_map kept_of z)) (buffers.others key other)
   ]
 
-  same_log : (key : ℕ) → option_and_then (λ (z : CardKept). z.log) (card_kept app1.devices.cards key) ≡ option_and_then (λ (z : CardKept). z.log) (card_kept app.devices.cards key)
-  same_log key = elim (cases_eq key both.card.key) [
-    | inl e ↦ subst (λ i. option_and_then (λ (z : CardKept). z.log) (card_kept app1.devices.cards i) ≡ option_and_then (λ (z : CardKept). z.log) (card_kept app.devices.cards i)) (sym e)
-        (ap (λ z. option_and_then (λ (w : CardKept). w.log) (option_map kept_card z)) cards.changed ∙ sym (ap (λ z. option_and_then (λ (w : CardKept). w.log) (option_map kept_card z)) here))
-    | inr other ↦ ap (λ z. option_and_then (λ (w : CardKept). w.log) (option_map kept_card z)) (cards.others key other)
-  ]
+  logs_stay : LogsStay app.labels (card_kept app.devices.cards) (card_kept app1.devices.cards)
+  logs_stay = card_logs_by app.labels app.devices.cards app1.devices.cards both.card.key one (with_ring ring one) here cards (shut_stays one (with_ring ring one) (ap is_some shut))
 
   pub keeps : Keeps rest any_label any_piece x y
   keeps = record {
     now = omega arith;
     numbers = λ i n is. is;
     frames = ap (λ (s : Space). length s.taken) region;
+    base = refl;
     bytes = λ p rests. ap (λ (s : Space). bytes_of s p) region;
     granted = λ k c i is old. ap (λ (ls : Labels). value_at ls k) (sym labels) ∙ is;
     spread = λ i g a old is. spread_same app.areas g a (ap (λ (es : AreaList). lookup (nat_eq g) es) (sym areas) ∙ is);
     labels = λ k c named is. ap (λ (ls : Labels). value_at ls k) labels ∙ is;
     places = λ k c named is kind. same_place c.key;
-    logs = λ k c named is kind. same_log c.key;
+    logs = λ s k d c card same at named is kind there on. logs_stay k c is kind card d.grant there on;
     buffers = other_buffer;
     cards = other_card;
     nets = λ k c stays is kind. refl;
@@ -139,7 +137,6 @@ module _ (r : Beyond) (app app1 : App) (v b : List ℕ) (h : Holds (around r app
     sockets = λ k c stays is kind. refl;
     rules = λ k c stays is kind. refl;
     areas = λ k c stays is kind. ap (λ (es : AreaList). lookup (nat_eq c.grant) es) areas;
-    chains = λ k c stays is kind. refl;
     slots = λ k stays. refl;
     history = λ k u stays is. same_history r.history u.blocks;
     lent = λ k stays. lent_same k (name_other k b (λ e. other_name b k (apart k stays).1 (sym e)));

@@ -11,7 +11,8 @@ use Rattle.ark_caps.specs.declared.capability.Capability.{Capability}
 use Rattle.ark_region.specs.Frames.{Piece}
 use Rattle.ark_vic.specs.declared.descriptor.Descriptor.{Descriptor}
 use Rattle.ark_vic.specs.declared.descriptor.Completion.{Completion}
-use Rattle.ark_caladan.specs.Chain.{Opened}
+use Rattle.ark_caladan.specs.Chain.{Log, Opened}
+use Rattle.ark_log.specs.Open.{OpenChain}
 use Rattle.ark_machine.specs.Objects
 use Rattle.ark_machine.specs.Objects.{Object, Job, transfer, flush, phase, Place, named as in_buffer, taken, Paced}
 use Rattle.ark_machine.specs.Machine.{Machine, Held}
@@ -19,9 +20,9 @@ use Rattle.ark_machine.specs.Buffers.{is_lent, has_buffer, job_has, place_has}
 use Rattle.ark_machine.specs.Control.{has_log, is_label, is_open_on, is_paced, is_paced_by, is_watched}
 use Rattle.ark_held.specs.Words.{Labels}
 use Rattle.ark_held.specs.Totals.{bit, total, uses, lent_count, open_count}
-use Rattle.ark_held.specs.Kept.{PaceKept, ChainKept}
+use Rattle.ark_held.specs.Kept.{PaceKept}
 use Rattle.ark_held.specs.Around.{Around, Names, IsGranted, Each, Both}
-use Rattle.ark_held.specs.Areas.{IsOpened}
+use Rattle.ark_held.specs.Areas.{IsOpenedAs}
 use Rattle.ark_held.specs.Cards.{IsPaced, IsWatched, IsJob, IsEnded}
 use Rattle.ark_held.specs.Network.{IsFramePlace, IsReceiving, IsReceived, IsSending, IsSent}
 use Rattle.ark_held.specs.Held.{IsObjectOf, AllMatch}
@@ -86,12 +87,12 @@ name_none : (x : Around) (l : List ℕ) (kind : CapKind) → ((c : Capability) �
 name_none x l kind other b key n = ap bit (name_other l b (λ e. other n.cap (ap (λ k. value_at x.labels k) e ∙ n.there) n.its_kind))
 
 module _ (x : Around) (l : List ℕ) (other : (c : Capability) → value_at x.labels l ≡ Some c → c.kind ≡ cap_kind.Buf → ⊥) where
-  job_none : (log : Option ℕ) (d : Descriptor) (j : Job) → IsJob x log d j → bit (job_has l j) ≡ 0
+  job_none : (log : Option OpenChain) (d : Descriptor) (j : Job) → IsJob x log d j → bit (job_has l j) ≡ 0
   job_none log d (transfer t) is = name_none x l cap_kind.Buf other t.buffer d.tag is.buffer.named
   job_none log d flush is = refl
   job_none log d (phase p) is = refl
 
-  ended_none : (log : Option ℕ) (c : Completion) (u : Job × Outcome) → IsEnded x log c u → bit (job_has l u.0) ≡ 0
+  ended_none : (log : Option OpenChain) (c : Completion) (u : Job × Outcome) → IsEnded x log c u → bit (job_has l u.0) ≡ 0
   ended_none log c (transfer t, o) is = name_none x l cap_kind.Buf other t.buffer c.tag is.2.named
   ended_none log c (flush, o) is = refl
   ended_none log c (phase p, o) is = refl
@@ -141,14 +142,12 @@ none_lent x l absent ps hs all = none_used x l (λ c is kind. not_some (value_at
 -- Nor is a log open on a card there.
 
 module _ (x : Around) (l : List ℕ) (absent : value_at x.labels l ≡ None) where
-  opened_none : (grant : ℕ) (k : Option ChainKept) (o : Option Opened) → Both (IsOpened x grant) k o → bit (unwrap_or (option_map (λ z. bytes_eq l z.card) o) false) ≡ 0
-  opened_none grant None None is = refl
-  opened_none grant (Some k) (Some o) is = name_none x l cap_kind.Vsic (λ c is kind. not_some (value_at x.labels l) c absent is) o.card k.card is.card
-  opened_none grant None (Some o) is = absurd is
-  opened_none grant (Some k) None is = absurd is
+  opened_none : (grant : ℕ) (blocks : List ℕ) (g : Log) (o : Option Opened) → IsOpenedAs x grant blocks g o → bit (unwrap_or (option_map (λ z. bytes_eq l z.card) o) false) ≡ 0
+  opened_none grant blocks g None is = refl
+  opened_none grant blocks g (Some o) is = name_none x l cap_kind.Vsic (λ c is kind. not_some (value_at x.labels l) c absent is) o.card is.key is.card
 
   object_open : (k : List ℕ) (c : Capability) (o : Object) → IsObjectOf x k c o → bit (is_open_on l o) ≡ 0
-  object_open k c (Objects.log g) f = opened_none c.grant (x.tables.chains c.grant) g.opened f.opened
+  object_open k c (Objects.log g) f = opened_none c.grant f.slot.blocks g g.opened f.opened
   object_open k c (Objects.vsic v) f = refl
   object_open k c (Objects.vnic v) f = refl
   object_open k c (Objects.raw z) f = refl
@@ -209,15 +208,13 @@ module _ (x : Around) (l : List ℕ) (cap : Capability) (there : value_at x.labe
   card_narrow None (Some v) is = absurd is
   card_narrow (Some k) None is = absurd is
 
-  opened_narrow : (grant : ℕ) (k : Option ChainKept) (o : Option Opened) → Both (IsOpened x grant) k o → (cap.kind ≡ cap_kind.Vsic → unwrap_or (option_map (λ z. bytes_eq l z.card) o) false ≡ false) → OpenedWithin any_label rests o → OpenedWithin (but l) rests o
-  opened_narrow grant None None is closed w = tt
-  opened_narrow grant (Some k) (Some o) is closed w = (name_apart o.card is.card.cap cap_kind.Vsic is.card.there is.card.its_kind closed, w.1)
-  opened_narrow grant None (Some o) is closed w = absurd is
-  opened_narrow grant (Some k) None is closed w = absurd is
+  opened_narrow : (grant : ℕ) (blocks : List ℕ) (g : Log) (o : Option Opened) → IsOpenedAs x grant blocks g o → (cap.kind ≡ cap_kind.Vsic → unwrap_or (option_map (λ z. bytes_eq l z.card) o) false ≡ false) → OpenedWithin any_label rests o → OpenedWithin (but l) rests o
+  opened_narrow grant blocks g None is closed w = tt
+  opened_narrow grant blocks g (Some o) is closed w = (name_apart o.card is.card.cap cap_kind.Vsic is.card.there is.card.its_kind closed, w.1, w.2)
 
   pub narrowed_from : (k : List ℕ) (c : Capability) (o : Object) → IsObjectOf x k c o → uses l o ≡ 0 → (cap.kind ≡ cap_kind.Door → is_watched l o ≡ false) → (cap.kind ≡ cap_kind.Vsic → is_open_on l o ≡ false) → (cap.kind ≡ cap_kind.Rate → is_paced l o ≡ false) → Within any_label rests o → Within (but l) rests o
   narrowed_from k c (Objects.raw z) f none seen closed unpaced w = tt
-  narrowed_from k c (Objects.log g) f none seen closed unpaced w = opened_narrow c.grant (x.tables.chains c.grant) g.opened f.opened closed w
+  narrowed_from k c (Objects.log g) f none seen closed unpaced w = opened_narrow c.grant f.slot.blocks g g.opened f.opened closed w
   narrowed_from k c (Objects.vsic v) f none seen closed unpaced w = (
     narrow (JobWithin any_label rests) (JobWithin (but l) rests) (λ j. bit (job_has l j)) job_narrow v.queue.posted (omega (arith, none)) w.0,
     narrow (λ u. JobWithin any_label rests u.0) (λ u. JobWithin (but l) rests u.0) (λ u. bit (job_has l u.0)) (λ u. job_narrow u.0) v.queue.unreaped (omega (arith, none)) w.1,

@@ -1,6 +1,6 @@
 -- A card, a door or a rate that goes, with its label.
-use Rattle.std.proofs.Common.{◌≡◌, ℕ, true, false, List, length, refl, sym, ◌∙◌, ap, arith}
-use Rattle.std.specs.Prelude.{Option, Some, None, option_map, option_and_then, slice_get, slice_index_or, unwrap_or}
+use Rattle.std.proofs.Common.{◌≡◌, ℕ, true, false, List, length, refl, sym, subst, ◌∙◌, ap, arith}
+use Rattle.std.specs.Prelude.{Option, Some, None, option_map, slice_get, slice_index_or, unwrap_or}
 use Rattle.ark_caps.specs.Labels.{value_at, others}
 use Rattle.ark_caps.specs.declared.capability.Capability.{Capability}
 use Rattle.ark_caps.specs.declared.capability.CapKind.TheVariants as cap_kind
@@ -13,7 +13,7 @@ use Rattle.ark_held.specs.Kept.{CardKept, Tables}
 use Rattle.ark_held.specs.Around.{Around}
 use Rattle.ark_held.specs.Held.{Holds, AtLabel, is_area, is_area_cap, has_key}
 use Rattle.ark_held.specs.Keeps.{Keeps, any_piece}
-use Rattle.ark_held.proofs.Lists.{other_name, some_same}
+use Rattle.ark_held.proofs.Lists.{not_some, other_name, some_same}
 use Rattle.ark_held.proofs.Besides.{same_history}
 use Rattle.ark_held.proofs.Creating.{but}
 use Rattle.ark_held.proofs.Finding.{found}
@@ -25,6 +25,7 @@ use Rattle.ark_held.proofs.Seeing.{none_in}
 use Rattle.ark_held.proofs.Spreading.{spread_same}
 use Rattle.ark_held.proofs.Staying.{within}
 use Rattle.ark_held.proofs.Unbound.{unbound_tables, unbound_all}
+use Rattle.ark_held.proofs.Opens.{stays_same}
 
 -- what is under a label has the grant of its number
 pub numbered : (x : Around) (l : List ℕ) (cap : Capability) (held : Held) → Holds x → value_at x.labels l ≡ Some cap → at x.machine l ≡ Some held → slice_get x.numbers (serial_at x.machine l) ≡ Some cap.grant
@@ -80,12 +81,13 @@ module _ (x : Around) (h : Holds x) (l : List ℕ) (cap : Capability) (there : v
     now = omega arith;
     numbers = λ i n is. is;
     frames = same (λ t. length t.memory.taken) (λ cs ds rs. refl);
+    base = refl;
     bytes = λ p rests. same (λ t. bytes_of t.memory p) (λ cs ds rs. refl);
     granted = λ k c i is old. others_was l k c x.labels is;
     spread = λ i g a old is. spread_same x.areas g a is;
     labels = λ k c apart is. others_value l k x.labels (not_but l k apart) ∙ is;
     places = λ k c apart is its. same (λ t. option_map (λ b. b.piece) (t.buffers c.key)) (λ cs ds rs. refl);
-    logs = λ k c apart is its. ap (λ (o : Option CardKept). option_and_then (λ z. z.log) o) (same_card k c apart is its);
+    logs = λ s k d c card same at apart is its there on. stays_same d.grant card (x.tables.cards c.key) (tables.cards c.key) (same_card k c apart is its) there;
     buffers = λ k c apart is its. same (λ t. t.buffers c.key) (λ cs ds rs. refl);
     cards = same_card;
     nets = λ k c apart is its. same (λ t. t.nets c.key) (λ cs ds rs. refl);
@@ -94,7 +96,6 @@ module _ (x : Around) (h : Holds x) (l : List ℕ) (cap : Capability) (there : v
     sockets = λ k c apart is its. same (λ t. t.sockets c.key) (λ cs ds rs. refl);
     rules = λ k c apart is its. refl;
     areas = λ k c apart is its. refl;
-    chains = λ k c apart is its. same (λ t. t.chains c.grant) (λ cs ds rs. refl);
     slots = λ k apart. refl;
     history = λ k u apart is. same_history x.history u.blocks;
     lent = λ k apart. counts (λ z. uses k z.object) (nothing.uses k);
@@ -121,3 +122,5 @@ module _ (x : Around) (h : Holds x) (l : List ℕ) (cap : Capability) (there : v
   -- the machine holds all else
   pub lost_all : Holds given_up
   lost_all = unbound_all y lost l (serial_at x.machine l) cap.grant (numbered x l cap held h there at_l) (others_gone l x.labels)
+      (λ k c is same. not_some (value_at (others l x.labels) l) c (others_gone l x.labels)
+      (subst (λ (z : List ℕ). value_at (others l x.labels) z ≡ Some c) (sym (h.own.grants l k cap c there (others_was l k c x.labels is) (sym same))) is))

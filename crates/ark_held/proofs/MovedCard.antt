@@ -33,20 +33,23 @@ use Rattle.ark_machine.specs.Follow.{Follows, MakesAt, Took, end_of, ends_of, en
 use Rattle.ark_machine.specs.Moves.{Move, move, moves, moved as machine_moved, ends, gated, tried, transferred, transfer_call, raw_numbered, is_bound, first_end}
 use Rattle.ark_machine.specs.Rates.{is_over_burst, may_pass}
 use Rattle.ark_held.specs.Around.{Around, slot_at, blocks_under, Each, piece_of}
-use Rattle.ark_held.specs.Cards.{IsJob, IsTransfer}
+use Rattle.ark_log.specs.Open.{OpenChain}
+use Rattle.ark_held.specs.Cards.{IsJob, IsPhase, IsTransfer}
 use Rattle.ark_held.specs.Kept.{CardKept}
 use Rattle.ark_held.specs.Beside.{AreBeside}
 use Rattle.ark_held.specs.Does.{IsSited, LogsAtFronts}
+use Rattle.ark_held.specs.Idle.{is_idle}
 use Rattle.ark_held.specs.Held.{Holds}
 use Rattle.ark_held.specs.Moving.{area_named, area_of_grant, card_of, blocks_held, pace_moved, said_of}
 use Rattle.ark_held.specs.declared.areas.Area.{Area}
-use Rattle.ark_held.proofs.Lists.{by_test, not_some}
+use Rattle.ark_held.proofs.Lists.{by_test}
 use Rattle.ark_held.proofs.Fronts.{logs_left, logs_beside_raw}
 use Rattle.ark_held.proofs.Rewriting.{with_written}
 use Rattle.ark_held.proofs.Effects.{at_other, at_each, labels_apart, read_holds, sync_holds, got_holds, settles_holds, put_holds}
 use Rattle.ark_held.proofs.Reaching.{IsReached, IsGone, reached}
 use Rattle.ark_held.proofs.Dues.{due_by_tests}
 use Rattle.ark_held.proofs.Ending.{OnCard}
+use Rattle.ark_held.proofs.OpenCards.{none_posted}
 use Rattle.ark_held.proofs.MoveRows.{ended_by, move_is, ends_is, gate_unbound, gate_over, gate_waits, gate_opens, put_is, put_call, get_is, get_call, get_fails}
 use Rattle.ark_held.proofs.Transferring.{due_gone, due_reached, inside, at_next, ItsBuffer, its_buffer, below, room, content}
 use Rattle.ark_held.proofs.Carrying.{carried, Carries, WasMoved, made_of, leaves_of, answer_by, sets_by, rings_by, carries_by, still, ended_quietly, none_made}
@@ -85,7 +88,7 @@ module _ (x : Around) (v : List ℕ) (c : Capability) (k : CardKept) (card : Vsi
       (ap (λ (y : Due). pace_moved k.pace y x.now) is) (rings_by x v c k card on told es a memory cards doors w moved.Idle (answer_by x v c k card on told es a memory cards doors w due.Nothing is)) (row_of [] jobs)
 
   -- A sync.
-  module _ (d : Descriptor) (ds : List Descriptor) (js : List Job) (posted : k.ring.posted ≡ d ∷ ds) (jobs : card.queue.posted ≡ flush ∷ js) (is : IsJob x k.log d flush) where
+  module _ (d : Descriptor) (ds : List Descriptor) (js : List Job) (posted : k.ring.posted ≡ d ∷ ds) (jobs : card.queue.posted ≡ flush ∷ js) (none : k.log ≡ None) (is : IsJob x k.log d flush) where
     head : head_of k.ring ≡ Some d
     head = ap (λ (zs : List Descriptor). slice_get zs 0) posted
 
@@ -104,8 +107,8 @@ module _ (x : Around) (v : List ℕ) (c : Capability) (k : CardKept) (card : Vsi
         (ap said_of so) (subst (λ (zs : List Event). Follows (MakesAt (blocks_under x)) (Row.syncs ∷ []) zs) (sym came) (goes_on {c = Row.syncs} {e = Sync true} tt refl refl ended))
         (subst (λ (zs : List Event). Holds (carried x zs (ended_by m1 v card flush js outcome.Ok card.pace) memory cards doors)) (sym came)
         (subst (λ (z : Space). Holds (carried x (Sync true ∷ []) (ended_by m1 v card flush js outcome.Ok card.pace) z cards doors)) (sym same)
-        (ends_then x v c k card on (Sync true ∷ []) m1 x.tables.memory (settles_holds x on.holds in_base) (holding (settled on.held.object) on.held) there object cards doors d ds flush js posted jobs outcome.Ok k.pace card.pace
-        (then_on x v c k card on (Sync true ∷ []) m1 x.tables.memory (settles_holds x on.holds in_base) (holding (settled on.held.object) on.held) there object cards doors d ds flush js posted jobs).fits.pace
+        (ends_then x v c k card on (Sync true ∷ []) m1 x.tables.memory (settles_holds x on.holds in_base) (holding (settled on.held.object) on.held) there object cards doors d ds flush js posted jobs none outcome.Ok k.pace card.pace
+        (then_on x v c k card on (Sync true ∷ []) m1 x.tables.memory (settles_holds x on.holds in_base) (holding (settled on.held.object) on.held) there object cards doors d ds flush js posted jobs none).fits.pace
         (sets_by x v c k card on told es a memory cards doors w due.Sync due_sync (moved.Done outcome.Ok) so) (rings_by x v c k card on told es a memory cards doors w (moved.Done outcome.Ok) so))))
         (logs_left x es on.holds in_base (λ l t g placed log. subst (λ (zs : List Event). AreBeside t.blocks zs) (sym came) tt))
     synced_so false bad came same so =
@@ -115,8 +118,8 @@ module _ (x : Around) (v : List ℕ) (c : Capability) (k : CardKept) (card : Vsi
         (ap said_of so) (subst (λ (zs : List Event). Follows (MakesAt (blocks_under x)) (Row.syncs ∷ []) zs) (sym came) (fails {c = Row.syncs} {e = Sync false} tt refl))
         (subst (λ (zs : List Event). Holds (carried x zs (ended_by m v card flush js outcome.DeviceFault card.pace) memory cards doors)) (sym came)
         (subst (λ (z : Space). Holds (carried x (Sync false ∷ []) (ended_by m v card flush js outcome.DeviceFault card.pace) z cards doors)) (sym same)
-        (ends_then x v c k card on (Sync false ∷ []) m x.tables.memory (sync_holds x on.holds in_base false) on.held on.there on.object cards doors d ds flush js posted jobs outcome.DeviceFault k.pace card.pace
-        (then_on x v c k card on (Sync false ∷ []) m x.tables.memory (sync_holds x on.holds in_base false) on.held on.there on.object cards doors d ds flush js posted jobs).fits.pace
+        (ends_then x v c k card on (Sync false ∷ []) m x.tables.memory (sync_holds x on.holds in_base false) on.held on.there on.object cards doors d ds flush js posted jobs none outcome.DeviceFault k.pace card.pace
+        (then_on x v c k card on (Sync false ∷ []) m x.tables.memory (sync_holds x on.holds in_base false) on.held on.there on.object cards doors d ds flush js posted jobs none).fits.pace
         (sets_by x v c k card on told es a memory cards doors w due.Sync due_sync (moved.Done outcome.DeviceFault) so) (rings_by x v c k card on told es a memory cards doors w (moved.Done outcome.DeviceFault) so))))
         (logs_left x es on.holds in_base (λ l t g placed log. subst (λ (zs : List Event). AreBeside t.blocks zs) (sym came) tt))
 
@@ -127,7 +130,7 @@ module _ (x : Around) (v : List ℕ) (c : Capability) (k : CardKept) (card : Vsi
         (answer_by x v c k card on told es a memory cards doors w due.Sync due_sync)
 
   -- Blocks between an area and a buffer.
-  module _ (d : Descriptor) (ds : List Descriptor) (t : Transfer) (js : List Job) (posted : k.ring.posted ≡ d ∷ ds) (jobs : card.queue.posted ≡ transfer t ∷ js) (is : IsTransfer x d t) where
+  module _ (d : Descriptor) (ds : List Descriptor) (t : Transfer) (js : List Job) (posted : k.ring.posted ≡ d ∷ ds) (jobs : card.queue.posted ≡ transfer t ∷ js) (none : k.log ≡ None) (is : IsTransfer x d t) where
     oldest : head_of k.ring ≡ Some d
     oldest = ap (λ (zs : List Descriptor). slice_get zs 0) posted
 
@@ -148,7 +151,7 @@ module _ (x : Around) (v : List ℕ) (c : Capability) (k : CardKept) (card : Vsi
     ends_early o ends_so gate =
         let y = due_is ∙ ends_so in
         ended_quietly x v c k card on told es a memory cards doors w (none_made es (worked a) (made_of x v c k card on told es a memory cards doors w (Some d) oldest (due.Ends o) y))
-        (leaves_of x v c k card on told es a memory cards doors w (Some d) oldest (due.Ends o) y) d ds (transfer t) js posted jobs o y
+        (leaves_of x v c k card on told es a memory cards doors w (Some d) oldest (due.Ends o) y) d ds (transfer t) js posted jobs none o y
         (answer_by x v c k card on told es a memory cards doors w (due.Ends o) y)
         (row_of (transfer t ∷ js) jobs ∙ gate ∙ ends_is m v card on.held on.there on.object (transfer t) js o [])
 
@@ -181,7 +184,7 @@ module _ (x : Around) (v : List ℕ) (c : Capability) (k : CardKept) (card : Vsi
             (h : Holds (called x (ev ∷ []) m1 memory)) (there : at m1 v ≡ Some on.held) (ok_is : (end_of ev).ok ≡ worked a)
             (follows : Follows (MakesAt (blocks_under x)) (calls ∷ []) (ev ∷ [])) (logs : LogsAtFronts x (ev ∷ [])) where
           its : Tries x (tried x.now (worked a) t.count m1 v card (transfer t) js (calls ∷ [])) (ev ∷ []) (calls ∷ []) a memory cards doors
-          its = tries x v c k card on (ev ∷ []) m1 memory h on.held there on.object cards doors d ds (transfer t) js posted jobs t.count is.count (calls ∷ []) (worked a) a answer_is may
+          its = tries x v c k card on (ev ∷ []) m1 memory h on.held there on.object cards doors d ds (transfer t) js posted jobs none t.count is.count (calls ∷ []) (worked a) a answer_is may
               (sets_by x v c k card on told es a memory cards doors w (due.Block n) y a refl) (rings_by x v c k card on told es a memory cards doors w a refl)
 
           row_is : row ≡ tried x.now (worked a) t.count m1 v card (transfer t) js (calls ∷ [])
@@ -346,11 +349,22 @@ module _ (x : Around) (v : List ℕ) (c : Capability) (k : CardKept) (card : Vsi
   -- a card on which no log is open
   by_posted : k.log ≡ None → (ds : List Descriptor) (js : List Job) → k.ring.posted ≡ ds → card.queue.posted ≡ js → Each (IsJob x k.log) ds js → Result
   by_posted none [] [] posted jobs each = idle posted jobs
-  by_posted none (d ∷ ds) (flush ∷ js) posted jobs each = flushed d ds js posted jobs each.0
-  by_posted none (d ∷ ds) (transfer t ∷ js) posted jobs each = transfer_done d ds t js posted jobs each.0
-  by_posted none (d ∷ ds) (phase p ∷ js) posted jobs each = absurd (not_some k.log d.grant none each.0.0)
+  by_posted none (d ∷ ds) (flush ∷ js) posted jobs each = flushed d ds js posted jobs none each.0
+  by_posted none (d ∷ ds) (transfer t ∷ js) posted jobs each = transfer_done d ds t js posted jobs none each.0
+  by_posted none (d ∷ ds) (phase p ∷ js) posted jobs each = absurd (subst (λ (log : Option OpenChain). IsPhase log p d) none each.0)
   by_posted none [] (j ∷ js) posted jobs each = absurd each
   by_posted none (d ∷ ds) [] posted jobs each = absurd each
 
-  pub carries : k.log ≡ None → Carries x row es a memory cards doors
-  carries none = by_posted none k.ring.posted card.queue.posted refl refl on.fits.posted
+  -- nothing is posted for an open log so far
+  pub carries : is_idle k.log ≡ true → Carries x row es a memory cards doors
+  carries still_idle = by k.log refl
+    where
+      none_there : (js : List Job) → Each (IsJob x k.log) [] js → js ≡ []
+      none_there [] each = refl
+      none_there (j ∷ js) each = absurd each
+
+      by : (log : Option OpenChain) → k.log ≡ log → Result
+      by None none = by_posted none k.ring.posted card.queue.posted refl refl on.fits.posted
+      by (Some q) is =
+          let none = none_posted x v c k card on q is still_idle in
+          idle none (none_there card.queue.posted (subst (λ (ds : List Descriptor). Each (IsJob x k.log) ds card.queue.posted) none on.fits.posted))

@@ -41,6 +41,6 @@ module _ (x : Around) (l : List ℕ) (r : Raw) (off n : ℕ) (b : List ℕ) (too
   pub own_written : Holds (with_write x l r off n b took ok)
   own_written = written x (with_write x l r off n b took ok) h l w.slot r (raw_written off b took r) w.held w.there w.object w.placed
       (raw_stands x.history w.slot.blocks r off n b took ok w.distinct w.near w.block (w.inside l w.slot n w.placed its_block) before)
-      refl refl refl refl refl refl (λ k. refl)
+      refl refl refl refl refl refl (λ k. refl) refl
       (λ k u apart is. same_beside x.history (Write n b took ok ∷ []) u.blocks (λ m has. w.inside k u m is has) (w.others k u (not_but l k apart) is, tt))
       refl

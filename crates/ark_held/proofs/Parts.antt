@@ -1,7 +1,7 @@
 -- What stays where a word changes cards, doors and rates, and neither its application's memory nor its areas. A new object that counts
 -- nothing, and one that counts as before.
 use Rattle.std.proofs.Common.{◌≡◌, ℕ, ◌+◌, Bool, true, false, List, [], ◌∷◌, ◌++◌, length, refl, sym, ◌∙◌, ap, arith, nat_eq}
-use Rattle.std.specs.Prelude.{Some, None, option_map, option_and_then, slice_get, slice_index_or}
+use Rattle.std.specs.Prelude.{Some, None, option_map, slice_get, slice_index_or}
 use Rattle.std.specs.Map.{lookup}
 use Rattle.ark_objects.specs.Held.{at as key_at}
 use Rattle.ark_caps.specs.Labels.{value_at}
@@ -18,7 +18,7 @@ use Rattle.ark_held.specs.Rings.{card_kept}
 use Rattle.ark_held.specs.Pacing.{rate_kept}
 use Rattle.ark_held.specs.Around.{Around}
 use Rattle.ark_held.specs.Held.{Holds, IsObjectOf, has_key, is_area, is_area_cap, area_labels}
-use Rattle.ark_held.specs.Keeps.{Keeps, any_label, any_piece}
+use Rattle.ark_held.specs.Keeps.{Keeps, any_label, any_piece, LogsStay}
 use Rattle.ark_held.specs.Beyond.{Beyond, around}
 use Rattle.ark_held.specs.Does.{IsFresh}
 use Rattle.ark_held.specs.declared.app.App.{App}
@@ -39,8 +39,7 @@ pub record KeepsParts (same : List ℕ → Bool) (app app1 : App) : Type 0 where
   pub store : app1.store ≡ app.store
   pub areas : app1.areas ≡ app.areas
   pub labels : (k : List ℕ) (c : Capability) → value_at app.labels k ≡ Some c → value_at app1.labels k ≡ Some c
-  pub logs : (k : List ℕ) (c : Capability) → value_at app.labels k ≡ Some c → c.kind ≡ cap_kind.Vsic
-      → option_and_then (λ z. z.log) (card_kept app1.devices.cards c.key) ≡ option_and_then (λ z. z.log) (card_kept app.devices.cards c.key)
+  pub logs : LogsStay app.labels (card_kept app.devices.cards) (card_kept app1.devices.cards)
   pub cards : (k : List ℕ) (c : Capability) → same k ≡ true → value_at app.labels k ≡ Some c → c.kind ≡ cap_kind.Vsic → card_kept app1.devices.cards c.key ≡ card_kept app.devices.cards c.key
   pub doors : (k : List ℕ) (c : Capability) → same k ≡ true → value_at app.labels k ≡ Some c → c.kind ≡ cap_kind.Door → key_at app1.devices.doors c.key ≡ key_at app.devices.doors c.key
   pub rates : (k : List ℕ) (c : Capability) → same k ≡ true → value_at app.labels k ≡ Some c → c.kind ≡ cap_kind.Rate → rate_kept app1.devices.rates c.key ≡ rate_kept app.devices.rates c.key
@@ -52,12 +51,13 @@ module _ (r : Beyond) (app app1 : App) (numbers : List ℕ) (machine : Machine) 
     now = omega arith;
     numbers = grown;
     frames = ap (λ (s : Store). length s.region.taken) p.store;
+    base = refl;
     bytes = λ q rests. ap (λ (s : Store). bytes_of s.region q) p.store;
     granted = granted;
     spread = λ i g a old is. spread_same app.areas g a (ap (λ (es : AreaList). lookup (nat_eq g) es) (sym p.areas) ∙ is);
     labels = λ k c among is. p.labels k c is;
     places = λ k c among is kind. ap (λ (s : Store). option_map (λ z. z.piece) (buffer_kept s.buffers c.key)) p.store;
-    logs = λ k c among is kind. p.logs k c is kind;
+    logs = λ s k d c card stays at among is kind there on. p.logs k c is kind card d.grant there on;
     buffers = λ k c stays is kind. ap (λ (s : Store). buffer_kept s.buffers c.key) p.store;
     cards = λ k c stays is kind. p.cards k c stays is kind;
     nets = λ k c stays is kind. refl;
@@ -66,7 +66,6 @@ module _ (r : Beyond) (app app1 : App) (numbers : List ℕ) (machine : Machine) 
     sockets = λ k c stays is kind. refl;
     rules = λ k c stays is kind. refl;
     areas = λ k c stays is kind. ap (λ (es : AreaList). lookup (nat_eq c.grant) es) p.areas;
-    chains = λ k c stays is kind. refl;
     slots = λ k stays. refl;
     history = λ k u stays is. same_history r.history u.blocks;
     lent = λ k stays. (counts k stays).0;

@@ -28,6 +28,7 @@ use Rattle.ark_held.proofs.Creating.{but}
 use Rattle.ark_held.proofs.Changing.{changed, same_put}
 use Rattle.ark_held.proofs.Covering.{within_clear, other_clear}
 use Rattle.ark_held.proofs.Spreading.{spread_same}
+use Rattle.ark_held.proofs.Opens.{stays_same}
 
 -- the buffer with these bytes from a place on
 abbrev pub with_written : Buffer → ℕ → List ℕ → Buffer
@@ -62,12 +63,13 @@ module _ (x : Around) (l : List ℕ) (b : Buffer) (held : Held) (off : ℕ) (byt
     now = omega arith;
     numbers = λ i n is. is;
     frames = ap (λ (t : List Bool). length t) wrote.taken;
+    base = refl;
     bytes = λ p rests. wrote.others p rests;
     granted = λ k c i is old. is;
     spread = λ i g a old is. spread_same x.areas g a is;
     labels = λ k c named is. is;
     places = λ k c named is kind. refl;
-    logs = λ k c named is kind. refl;
+    logs = λ s k d c card same at named is kind there on. stays_same d.grant card (x.tables.cards c.key) (x.tables.cards c.key) refl there;
     buffers = λ k c same is kind. refl;
     cards = λ k c same is kind. refl;
     nets = λ k c same is kind. refl;
@@ -76,7 +78,6 @@ module _ (x : Around) (l : List ℕ) (b : Buffer) (held : Held) (off : ℕ) (byt
     sockets = λ k c same is kind. refl;
     rules = λ k c same is kind. refl;
     areas = λ k c same is kind. refl;
-    chains = λ k c same is kind. refl;
     slots = λ k same. refl;
     history = λ k u same is. same_history x.history u.blocks;
     lent = λ k same. counts (uses k) (λ z. refl);

@@ -25,6 +25,7 @@ use Rattle.ark_held.proofs.Besides.{same_history, current_beside, may_beside}
 use Rattle.ark_held.proofs.Keeping.{fits_kept}
 use Rattle.ark_held.proofs.Staying.{within}
 use Rattle.ark_held.proofs.Turning.{turned}
+use Rattle.ark_held.proofs.Opens.{stays_same}
 
 -- whether a sync succeeded among these events
 abbrev pub has_synced : List Event → Bool
@@ -67,12 +68,13 @@ module _ (x : Around) (h : Holds x)
     now = omega arith;
     numbers = λ i g is. is;
     frames = refl;
+    base = refl;
     bytes = λ p rests. refl;
     granted = λ l c i is old. is;
     spread = λ i g a old is. spread_same x.areas g a is;
     labels = λ l c named is. is;
     places = λ l c named is its. refl;
-    logs = λ l c named is its. refl;
+    logs = λ s l d c card same at named is its there on. stays_same d.grant card (x.tables.cards c.key) (x.tables.cards c.key) refl there;
     buffers = λ l c same is its. refl;
     cards = λ l c same is its. refl;
     nets = λ l c same is its. refl;
@@ -81,7 +83,6 @@ module _ (x : Around) (h : Holds x)
     sockets = λ l c same is its. refl;
     rules = λ l c same is its. refl;
     areas = λ l c same is its. refl;
-    chains = λ l c same is its. refl;
     slots = λ l same. refl;
     history = λ l t same is. same_history x.history t.blocks;
     lent = λ l same. same_total settled (uses l) (settled_same (uses l) (λ r q. refl)) x.machine.held;
@@ -95,12 +96,13 @@ module _ (x : Around) (h : Holds x)
     now = keeps.now;
     numbers = keeps.numbers;
     frames = refl;
+    base = refl;
     bytes = keeps.bytes;
     granted = keeps.granted;
     spread = keeps.spread;
     labels = keeps.labels;
     places = keeps.places;
-    logs = keeps.logs;
+    logs = λ s l d c card same. absurd (false≢true same);
     buffers = λ l c same is its. refl;
     cards = λ l c same is its. refl;
     nets = λ l c same is its. refl;
@@ -109,7 +111,6 @@ module _ (x : Around) (h : Holds x)
     sockets = λ l c same is its. refl;
     rules = λ l c same is its. refl;
     areas = λ l c same is its. refl;
-    chains = λ l c same is its. refl;
     slots = λ l same. refl;
     history = λ l t same is. same_history x.history t.blocks;
     lent = λ l same. keeps.lent l refl;

@@ -1,19 +1,25 @@
 -- Each buffer that an application holds has a frame at least.
-use Rattle.std.proofs.Common.{◌≡◌, ℕ, ◌<◌, List, [], ◌∷◌, ◌++◌, length, refl, arith}
-use Rattle.std.specs.Prelude.{Option, Some, None}
+use Rattle.std.proofs.Common.{ℕ, ◌<◌, List, [], ◌∷◌, ◌++◌, length, refl, sym, subst, arith}
+use Rattle.std.specs.Prelude.{Option, Some, None, map}
 use Rattle.std.specs.List.{flat_map}
 use Rattle.std.proofs.lemmas.Bool.Decides.{nat_tests}
 use Rattle.ark_caps.specs.declared.capability.Capability.{Capability}
 use Rattle.ark_region.specs.Frames.{frames_of}
-use Rattle.ark_caladan.specs.Chain.{Opened}
+use Rattle.ark_entry.specs.Entry.{entry_blocks}
+use Rattle.ark_entry.proofs.Readings.{some_block}
+use Rattle.ark_caladan.specs.Chain as chain
+use Rattle.ark_caladan.specs.Chain.{Log, Opened}
+use Rattle.ark_log.specs.declared.command.Command.{Command}
+use Rattle.ark_log.specs.declared.command.Command.TheVariants.{Append, Trim, Pop}
+use Rattle.ark_log.specs.declared.command.Waiting.{Waiting}
+use Rattle.ark_running.specs.Buffers.{AreRoomsOf, buffers_by}
 use Rattle.ark_machine.specs.Objects
-use Rattle.ark_machine.specs.Objects.{Object, object_frames}
+use Rattle.ark_machine.specs.Objects.{Object, object_frames, opened_frames}
 use Rattle.ark_machine.specs.Machine.{Held, live_frames}
 use Rattle.ark_machine.specs.Places.{AreSized}
 use Rattle.ark_held.specs.Words.{Labels}
-use Rattle.ark_held.specs.Kept.{ChainKept}
-use Rattle.ark_held.specs.Around.{Around, Both}
-use Rattle.ark_held.specs.Areas.{IsOpened}
+use Rattle.ark_held.specs.Around.{Around}
+use Rattle.ark_held.specs.Areas.{IsOpenedAs}
 use Rattle.ark_held.specs.Held.{IsObjectOf, AllMatch, Holds}
 use Rattle.ark_held.specs.Beyond.{Beyond, around}
 use Rattle.ark_held.specs.declared.app.App.{App}
@@ -30,14 +36,25 @@ module _ (r : Beyond) (app : App) where
   abbrev x : Around
   x = around r app
 
-  -- no log is open, and no card is there, so far
-  closed : (grant : ℕ) (o : Option Opened) → Both {X = ChainKept} (IsOpened x grant) None o → o ≡ None
-  closed grant None b = refl
-  closed grant (Some o) b = absurd b
+  -- the header's frame, and those of commands
+  sized_rooms : (ws : List Waiting) (ms : List chain.Waiting) → AreRoomsOf ws ms → AreSized (flat_map (λ (m : chain.Waiting). m.room) ms)
+  sized_rooms [] [] are = tt
+  sized_rooms (w ∷ ws) (m ∷ ms) are = sized_join m.room (flat_map (λ (z : chain.Waiting). z.room) ms) (subst AreSized (sym are.0) (by w.command)) (sized_rooms ws ms are.1)
+    where
+      by : (c : Command) → AreSized (map (λ b. (b.start, entry_blocks w.len)) (buffers_by c w))
+      by (Append n) = (some_block w.len, tt)
+      by (Trim n) = tt
+      by (Pop n) = (some_block w.len, tt)
+  sized_rooms [] (m ∷ ms) are = absurd are
+  sized_rooms (w ∷ ws) [] are = absurd are
+
+  sized_opened : (grant : ℕ) (blocks : List ℕ) (g : Log) (o : Option Opened) → IsOpenedAs x grant blocks g o → AreSized (opened_frames o)
+  sized_opened grant blocks g None is = tt
+  sized_opened grant blocks g (Some o) is = (omega arith, sized_rooms is.chain.waiting o.waiting is.runs.is.rooms)
 
   sized_object : (l : List ℕ) (c : Capability) (o : Object) → IsObjectOf x l c o → AreSized (object_frames o)
   sized_object l c (Objects.raw z) f = tt
-  sized_object l c (Objects.log z) f = let e = closed c.grant z.opened f.opened in rw e tt
+  sized_object l c (Objects.log z) f = sized_opened c.grant f.slot.blocks z z.opened f.opened
   sized_object l c (Objects.vsic z) f = tt
   sized_object l c (Objects.vnic z) f = absurd (not_some None f.net refl f.kept)
   sized_object l c (Objects.filter z y) f = tt

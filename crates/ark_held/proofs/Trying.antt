@@ -70,7 +70,7 @@ pub record Tries (x : Around) (tries : Move) (es : List Event) (calls : List Cal
   pub holds : Holds (carried x es machine memory cards doors)
 
 module _ (x : Around) (v : List ℕ) (c : Capability) (k : CardKept) (card : Vsic) (on : OnCard x v c k card) (es : List Event) (m : Machine) (memory : Space) (h : Holds (called x es m memory)) (held : Held) (there : at m v ≡ Some held) (object : held.object ≡ Objects.vsic card)
-    (cards : ℕ → Option CardKept) (doors : ℕ → Option Counts) (d : Descriptor) (ds : List Descriptor) (j : Job) (js : List Job) (posted : k.ring.posted ≡ d ∷ ds) (jobs : card.queue.posted ≡ j ∷ js) where
+    (cards : ℕ → Option CardKept) (doors : ℕ → Option Counts) (d : Descriptor) (ds : List Descriptor) (j : Job) (js : List Job) (posted : k.ring.posted ≡ d ∷ ds) (jobs : card.queue.posted ≡ j ∷ js) (none : k.log ≡ None) where
   abbrev z : Around
   z = called x es m memory
 
@@ -84,7 +84,7 @@ module _ (x : Around) (v : List ℕ) (c : Capability) (k : CardKept) (card : Vsi
   pub ends_then : (o : Outcome) (paced : Option PaceKept) (pace : Option Paced) → Both (IsPaced z) paced pace → Sets c.key (record k { ring = ring_after k.ring (moved.Done o); pace = paced }) x.tables.cards cards → Rings k.door x.tables.doors doors
       → Holds (carried x es (ended_by m v card j js o pace) memory cards doors)
   ends_then o paced pace both sets rings =
-      ends_so z v c k card then_on d ds j js posted jobs o paced pace both cards doors
+      ends_so z v c k card then_on d ds j js posted jobs o none paced pace both cards doors
       (subst (λ (q : Queue). Sets c.key (record k { ring = q; pace = paced }) x.tables.cards cards) (ended_is o) sets) rings
 
   module _ (count : ℕ) (counted : count ≡ d.count) (calls : List Call) (ok : Bool) (a : Moved) (answer : a ≡ answer_tried (nat_le d.count (k.ring.moved + 1)) ok) (may : may_pass card.pace x.now 512 ≡ true)
@@ -107,7 +107,7 @@ module _ (x : Around) (v : List ℕ) (c : Capability) (k : CardKept) (card : Vsi
           row = goes_on m v card held there object x.now count j js calls ok (same_test ∙ is);
           same = ap said_of so;
           holds = subst (λ (f : ℕ → Option Counts). Holds (carried x es (with_object m v (Objects.vsic (block_moved (passed x.now 512 card.pace) card))) memory cards f)) (sym (subst (λ (b : Moved). RingsAt b k.door x.tables.doors doors) so rings))
-              (moves_on z v c k card then_on (option_map (with_pass x.now) k.pace) (passed x.now 512 card.pace) paced cards
+              (moves_on z v c k card then_on none (option_map (with_pass x.now) k.pace) (passed x.now 512 card.pace) paced cards
               (subst (λ (b : Moved). Sets c.key (record k { ring = ring_after k.ring b; pace = option_map (with_pass x.now) k.pace }) x.tables.cards cards) so sets));
         }
     by_more false is =

@@ -1,6 +1,6 @@
 -- What is given up ends with it: no card is bound to an area that goes.
 use Rattle.std.proofs.Common.{◌≡◌, ℕ, Bool, true, false, not, cond, List, [], ◌∷◌, nat_eq, refl, sym, ◌∙◌, ap, subst, arith, eqb-true}
-use Rattle.std.specs.Prelude.{Option, Some, None, ◌==◌, option_map, option_and_then, slice_get, filter as select, unwrap_or}
+use Rattle.std.specs.Prelude.{Option, Some, None, ◌==◌, option_map, slice_get, filter as select, unwrap_or}
 use Rattle.std.proofs.lemmas.Bool.{false≢true}
 use Rattle.std.proofs.lemmas.Bool.Decides.{nat_tests}
 use Rattle.ark_filters.specs.declared.filter.Filter.{Filter}
@@ -41,6 +41,7 @@ use Rattle.ark_held.proofs.Spreading.{spread_same}
 use Rattle.ark_held.proofs.Settling.{same_total}
 use Rattle.ark_held.proofs.Staying.{within}
 use Rattle.ark_held.proofs.Turning.{turned}
+use Rattle.ark_held.proofs.Opens.{still_bound}
 
 -- a card without the area of a grant among those that are bound
 abbrev pub unbound_kept : ℕ → CardKept → CardKept
@@ -87,11 +88,8 @@ abbrev no_card : CapKind → Bool
 no_card cap_kind.Vsic = false
 no_card _ = true
 
-same_log : (grant : ℕ) (k : Option CardKept) → option_and_then (λ z. z.log) (option_map (unbound_kept grant) k) ≡ option_and_then (λ z. z.log) k
-same_log grant None = refl
-same_log grant (Some k) = refl
-
-module _ (x : Around) (h : Holds x) (l : List ℕ) (n grant : ℕ) (numbered : slice_get x.numbers n ≡ Some grant) (absent : value_at x.labels l ≡ None) where
+module _ (x : Around) (h : Holds x) (l : List ℕ) (n grant : ℕ) (numbered : slice_get x.numbers n ≡ Some grant) (absent : value_at x.labels l ≡ None)
+    (gone : (k : List ℕ) (c : Capability) → value_at x.labels k ≡ Some c → c.grant ≡ grant → ⊥) where
   abbrev pub unbound_around : Around
   unbound_around = record x { tables = unbound_tables grant x.tables; machine = each_object (lets_go l n) x.machine }
 
@@ -103,12 +101,19 @@ module _ (x : Around) (h : Holds x) (l : List ℕ) (n grant : ℕ) (numbered : s
     now = omega arith;
     numbers = λ i g is. is;
     frames = refl;
+    base = refl;
     bytes = λ p rests. refl;
     granted = λ k c i is old. is;
     spread = λ i g a old is. spread_same x.areas g a is;
     labels = λ k c named is. is;
     places = λ k c named is its. refl;
-    logs = λ k c named is its. same_log grant (x.tables.cards c.key);
+    logs = λ s k d c card stays at named is its there on. record {
+      card = unbound_kept grant card;
+      there = ap (λ (o : Option CardKept). option_map (unbound_kept grant) o) there;
+      log = refl;
+      ring = refl;
+      bound = still_bound d.grant grant (gone s d at) card.bound;
+    };
     buffers = λ k c stays is its. refl;
     cards = λ k c stays is its. absurd (none k c stays is its);
     nets = λ k c stays is its. refl;
@@ -117,7 +122,6 @@ module _ (x : Around) (h : Holds x) (l : List ℕ) (n grant : ℕ) (numbered : s
     sockets = λ k c stays is its. refl;
     rules = λ k c stays is its. refl;
     areas = λ k c stays is its. refl;
-    chains = λ k c stays is its. refl;
     slots = λ k stays. refl;
     history = λ k t stays is. same_history x.history t.blocks;
     lent = λ k stays. counts (uses k) (λ v bound. refl) (λ r on now. refl);

@@ -1,20 +1,24 @@
 -- What areas of blocks stand for.
-use Rattle.std.specs.Prelude.{◌≡◌, ℕ, ◌+◌, ◌*◌, ◌<◌, List, [], ◌∷◌, length, nat_eq, get_or, slice_range, Option, Some, None, option_and_then, Contains}
+use Rattle.std.specs.Prelude.{◌≡◌, ℕ, ◌*◌, ◌<◌, true, List, [], length, nat_eq, get_or, Option, Some, None, Contains}
 use Rattle.std.specs.Map.{lookup}
 use Rattle.ark_base.specs.declared.kind.Kind.TheVariants as kind
-use Rattle.ark_media.specs.Journal.{History, block, current}
+use Rattle.ark_media.specs.Journal.{History, AllBlocks, block, current}
 use Rattle.ark_media.specs.Standing.{MayStand}
 use Rattle.ark_table.specs.Slots.{Slot}
 use Rattle.ark_caps.specs.declared.capability.CapKind.TheVariants as cap_kind
 use Rattle.ark_caps.specs.declared.capability.Capability.{Capability}
-use Rattle.ark_region.specs.Frames.{Piece, LiesInRegion, bytes_of}
-use Rattle.ark_caladan.specs.Chain.{Log, Opened, Waiting, Command, append, trim, pop}
-pub use Rattle.ark_caladan.specs.Listed.{MayShow, OpensToLists, IsListed}
+use Rattle.ark_region.specs.Frames.{Piece}
+use Rattle.ark_caladan.specs.Chain.{Log, Opened}
+pub use Rattle.ark_caladan.specs.Listed.{MayShow, OpensToLists, IsListed, AreFull}
+use Rattle.ark_caladan.specs.Open.{Layout}
+use Rattle.ark_vsic.specs.Card.{is_bound}
+use Rattle.ark_log.specs.Open.{OpenChain}
+use Rattle.ark_running.specs.Running.{IsRunning}
 use Rattle.ark_machine.specs.Objects.{Raw}
 use Rattle.ark_machine.specs.Bytes.{Frames}
 use Rattle.ark_held.specs.Words.{area_in}
-use Rattle.ark_held.specs.Kept.{BufferKept, ChainKept, CommandKept, appends, trims, pops, WaitingKept}
-use Rattle.ark_held.specs.Around.{Around, slot_at, Names, Each, Both}
+use Rattle.ark_held.specs.Kept.{CardKept}
+use Rattle.ark_held.specs.Around.{Around, slot_at, Names}
 
 -- the area's content is the current image at these blocks, and each content that a stop may leave of a block is one that the
 -- machine lists
@@ -37,45 +41,27 @@ pub record IsArea (x : Around) (l : List ℕ) (c : Capability) (r : Raw) : Type 
 abbrev pub frames_piece : Frames → Piece
 frames_piece f = record { start = f.0; len = 512 * f.1 }
 
--- a buffer has these frames of the region
-pub record IsRoom (x : Around) (b : BufferKept) (f : Frames) : Type 0 where
-  pub piece : b.piece ≡ frames_piece f
-  pub lies : LiesInRegion x.tables.memory.taken (frames_piece f)
+-- The log of this grant as it is open on a card, which is bound to its area. Its list lies in its blocks in some way.
+pub record IsOpened (x : Around) (grant : ℕ) (blocks : List ℕ) (g : Log) (o : Opened) : Type 0 where
+  pub key : ℕ
+  pub card : Names x o.card cap_kind.Vsic key
+  pub its_card : CardKept
+  pub kept : x.tables.cards key ≡ Some its_card
+  pub chain : OpenChain
+  pub on : its_card.log ≡ Some chain
+  pub its_grant : chain.grant ≡ grant
+  pub bound : is_bound grant its_card.bound ≡ true
+  pub lies : Layout
+  pub runs : IsRunning x.history blocks x.tables.memory its_card.ring chain lies g o
 
--- the buffer of a command, as the frames that it takes
-abbrev pub IsRooms : Around → Option BufferKept → List Frames → Type 0
-IsRooms x None [] = Unit {0}
-IsRooms x (Some b) (f ∷ []) = IsRoom x b f
-IsRooms x _ _ = ⊥
+-- a log that is open is so
+abbrev pub IsOpenedAs : Around → ℕ → List ℕ → Log → Option Opened → Type 0
+IsOpenedAs x grant blocks g None = Unit {0}
+IsOpenedAs x grant blocks g (Some o) = IsOpened x grant blocks g o
 
--- an entry has so many bytes before its payload
-abbrev pub entry_head : ℕ
-entry_head = 20
-
--- the payload of an entry stands in these frames, behind the entry's head
-abbrev pub HoldsPayload : Around → List Frames → List ℕ → Type 0
-HoldsPayload x [] payload = ⊥
-HoldsPayload x (f ∷ fs) payload = slice_range (bytes_of x.tables.memory (frames_piece f)) entry_head (entry_head + length payload) ≡ payload
-
-abbrev pub IsCommandKept : Around → List Frames → CommandKept → Command → Type 0
-IsCommandKept x room (appends n) (append m payload) = (n ≡ m) × HoldsPayload x room payload
-IsCommandKept x room (trims n) (trim m) = n ≡ m
-IsCommandKept x room (pops n) (pop m) = n ≡ m
-IsCommandKept x room _ _ = ⊥
-
--- a command that waits
-pub record IsWaiting (x : Around) (k : WaitingKept) (w : Waiting) : Type 0 where
-  pub room : IsRooms x k.room w.room
-  pub command : IsCommandKept x w.room k.command w.command
-
--- the log of this grant as it is open on its card
-pub record IsOpened (x : Around) (grant : ℕ) (k : ChainKept) (o : Opened) : Type 0 where
-  pub card : Names x o.card cap_kind.Vsic k.card
-  pub on : option_and_then (λ card. card.log) (x.tables.cards k.card) ≡ Some grant
-  pub failed : k.failed ≡ o.failed
-  pub header : IsRoom x k.header (o.header_frame, 1)
-  pub waiting : Each (IsWaiting x) k.waiting o.waiting
-  pub done : k.done ≡ o.done
+-- on a device whose blocks had 512 bytes at first, each content that a stop may leave of these has
+abbrev pub AreFullIf : History → List ℕ → Type 0
+AreFullIf h blocks = AllBlocks h.base → AreFull h blocks
 
 -- a log or queue
 pub record IsLog (x : Around) (l : List ℕ) (c : Capability) (g : Log) : Type 0 where
@@ -86,5 +72,6 @@ pub record IsLog (x : Around) (l : List ℕ) (c : Capability) (g : Log) : Type 0
   pub same_kind : slot.kind ≡ g.kind
   pub no_raw : g.kind ≡ kind.Raw → ⊥
   pub blocks : g.blocks ≡ length slot.blocks
-  pub opened : Both (IsOpened x c.grant) (x.tables.chains c.grant) g.opened
+  pub opened : IsOpenedAs x c.grant slot.blocks g g.opened
   pub listed : IsListed x.history slot.blocks g
+  pub full : AreFullIf x.history slot.blocks

@@ -1,10 +1,11 @@
 -- What the tables of an application keep of its objects, as plain values. A card's rings, a buffer's place and the like are
 -- named by the keys and grant numbers that its capabilities carry.
-use Rattle.std.specs.Prelude.{ℕ, Bool, List, Option}
+use Rattle.std.specs.Prelude.{ℕ, List, Option}
 use Rattle.ark_region.specs.Frames.{Piece, Space}
 use Rattle.ark_vic.specs.Pace.{Pace}
 use Rattle.ark_vic.specs.Queue.{Queue}
 use Rattle.ark_vic.specs.declared.door.Counts.{Counts}
+use Rattle.ark_log.specs.Open.{OpenChain}
 use Rattle.ark_machine.specs.Objects.{Datagram}
 
 -- a buffer: where it lies, and the right to it unless a descriptor has that
@@ -18,13 +19,13 @@ pub record PaceKept : Type 0 where
   pub pace : Pace
 
 -- a storage card: its ring, the areas bound to it by their grants, its pace, the key of the door that watches it, and the
--- grant of the log that is open on it
+-- log that is open on it
 pub record CardKept : Type 0 where
   pub ring : Queue
   pub bound : List ℕ
   pub pace : Option PaceKept
   pub door : Option ℕ
-  pub log : Option ℕ
+  pub log : Option OpenChain
 
 -- a network card, and how many sockets are on it once one was made there
 pub record NetKept : Type 0 where
@@ -42,27 +43,7 @@ pub record SocketKept : Type 0 where
   pub port : ℕ
   pub datagrams : List Datagram
 
--- a command by its number: of the entry that it adds, the first that stays, or the entry that it drops
-pub data CommandKept : Type 0 where
-  appends : ℕ → CommandKept
-  trims : ℕ → CommandKept
-  pops : ℕ → CommandKept
-
--- a command that waits, and its buffer if it takes one; an entry to be added stands in the buffer
-pub record WaitingKept : Type 0 where
-  pub command : CommandKept
-  pub room : Option BufferKept
-
--- an open log: the key of its card, whether it has failed, its header's buffer, the commands that wait, and how many phases
--- of the oldest are finished and polled
-pub record ChainKept : Type 0 where
-  pub card : ℕ
-  pub failed : Bool
-  pub header : BufferKept
-  pub waiting : List WaitingKept
-  pub done : ℕ
-
--- All tables of an application but those of its labels and areas. Objects are found by key, open logs by their area's grant.
+-- All tables of an application but those of its labels and areas. Objects are found by key.
 pub record Tables : Type 0 where
   pub memory : Space
   pub buffers : ℕ → Option BufferKept
@@ -72,4 +53,3 @@ pub record Tables : Type 0 where
   -- bytes a tick, and bytes of a burst
   pub rates : ℕ → Option (ℕ × ℕ)
   pub sockets : ℕ → Option SocketKept
-  pub chains : ℕ → Option ChainKept

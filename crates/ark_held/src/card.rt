@@ -1,3 +1,4 @@
+use ark_log::Chain;
 use ark_vsic::Vsic;
 
 /// A storage card, with the other objects of its application that it has to do with.
@@ -8,6 +9,6 @@ pub struct StorageCard {
     pub rate: u32,
     /// The key of the door that watches it.
     pub door: Option<u32>,
-    /// The grant of the log that is open on it.
-    pub log: Option<u64>,
+    /// The log that is open on it.
+    pub log: Option<Chain>,
 }

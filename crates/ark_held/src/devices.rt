@@ -3,6 +3,7 @@ ghost use Rattle.ark_objects.specs.Held.{Changes, at, held};
 ghost use Rattle.ark_vic.specs.Bells.{counts_of};
 ghost use Rattle.ark_vsic.specs.Moves.{CanMove};
 ghost use Rattle.ark_held.specs.Bound.{HasRoomToBind, with_bound};
+ghost use Rattle.ark_held.specs.Idle.{AreIdle};
 ghost use Rattle.ark_held.specs.Rings.{AreSound, ChangesCard, HasRoomFor, new_card, no_ring, unbound, with_posted, with_reaped};
 
 use crate::allowance::Allowance;
@@ -22,6 +23,8 @@ pub struct Devices {
     /// The frames of the memory in which the buffers of descriptors lie.
     pub frames: u32,
     pub ghost sound: { ∥ AreSound frames cards ∥₁ },
+    /// So far no word gives an open log a command.
+    pub ghost idle: { ∥ AreIdle cards ∥₁ },
 }
 
 impl Devices {

@@ -41,7 +41,7 @@ use Rattle.ark_held.specs.Keeps.{SameAt}
 use Rattle.ark_held.specs.Words.{Labels, AreaList, area_in, without_area}
 use Rattle.ark_held.specs.Kept.{Tables}
 use Rattle.ark_held.specs.Beyond.{tables_of}
-use Rattle.ark_held.proofs.Lists.{turned}
+use Rattle.ark_held.proofs.Lists.{turned, not_some}
 use Rattle.ark_held.proofs.Members.{contains_in}
 use Rattle.ark_held.proofs.Besides.{same_beside}
 use Rattle.ark_held.proofs.Creating.{but}
@@ -49,7 +49,7 @@ use Rattle.ark_held.proofs.Granted.{not_but}
 use Rattle.ark_held.proofs.Passing as passing
 use Rattle.ark_held.proofs.Settling.{has_synced, synced_alone, settles}
 use Rattle.ark_held.proofs.Losing.{numbered}
-use Rattle.ark_held.proofs.Removing.{others_gone}
+use Rattle.ark_held.proofs.Removing.{others_gone, others_was}
 use Rattle.ark_held.proofs.Unbound.{LosesArea, unbound_all, area_tables}
 use Rattle.ark_held.proofs.Without.{one_fewer, without_none}
 use Rattle.ark_held.proofs.Dropped.{IsClosed, dropped, synced_given_up, synced_at}
@@ -73,6 +73,7 @@ use Rattle.ark_host.proofs.Planned.{ended_sync, made_fault, made_sync, made_besi
 use Rattle.ark_host.proofs.Removed.{fits, stayed, rest_agrees, front_agrees, front_table, rest_table, counted_front, name_gone, name_stays}
 use Rattle.ark_host.proofs.Given.{given_free}
 use Rattle.ark_host.proofs.Dropping.{HoldsArea, under_as, done_row, fault_row, drop_begins}
+use Rattle.ark_caps.specs.declared.capability.Capability.{Capability}
 
 module _ (host : Host) (size : ℕ) (past : History) (s : System) (a l : List ℕ) (place grant index : ℕ) (app : App) (st : Stands host size past s) (ok : MayGo host a l place grant index) (there : get_or host.apps.items place app ≡ app) where
   abbrev line : Line
@@ -83,6 +84,9 @@ module _ (host : Host) (size : ℕ) (past : History) (s : System) (a l : List �
 
   abbrev f : HoldsArea past s a l app grant index
   f = under_as host size past s a l app st h (Ok (grant, index)) (sym (ok.area app there))
+
+  its_closed : IsClosed f.held.object
+  its_closed = f.shut (ok.shut app there)
 
   abbrev pub slot : Slot
   slot = f.t
@@ -110,7 +114,7 @@ module _ (host : Host) (size : ℕ) (past : History) (s : System) (a l : List �
 
   -- the change that the line begins
   pub begins : begun s (Some (Ok line)) ≡ Some (drops slot (object_at (machine_of s a) l))
-  begins = drop_begins s a l h.holds.made f.held slot f.there f.closed f.named fine
+  begins = drop_begins s a l h.holds.made f.held slot f.there its_closed f.named fine
 
   slot_fits : SlotFits size slot
   slot_fits = fits size s.plane.slots agree slot slot_held
@@ -179,7 +183,7 @@ module _ (host : Host) (size : ℕ) (past : History) (s : System) (a l : List �
     one = synced_by (ends_of es) (each_object (lets_go l (serial_at (machine_of s a) l)) (without (machine_of s a) l))
 
     module _ (now : Host) (app1 : App) (loses : LosesArea app app1 l grant)
-        (items : now.apps.items ≡ set host.apps.items place app1) (tables : now.table ≡ with_slot host.table index None) (grants : now.grants ≡ host.grants) (clock : now.clock ≡ host.clock)
+        (items : now.apps.items ≡ set host.apps.items place app1) (tables : now.table ≡ with_slot host.table index None) (grants : now.grants ≡ host.grants) (clock : now.clock ≡ host.clock) (addresses : now.own ≡ host.own)
         (p : Plane) (slots : p.slots ≡ rest) where
       abbrev later : System
       later = with_set s p a one
@@ -204,17 +208,25 @@ module _ (host : Host) (size : ℕ) (past : History) (s : System) (a l : List �
       middle_holds : (b : Bool) (m : Machine) → m ≡ synced b (machine_of s a) → Holds (then m) → Holds (middle m)
       middle_holds b m is holds =
           let g : (z : Held) × (at m l ≡ Some z) × IsClosed z.object = subst (λ (n : Machine). (z : Held) × (at n l ≡ Some z) × IsClosed z.object) (sym is)
-          (synced_at b (machine_of s a) l f.held f.there f.closed) in
+          (synced_at b (machine_of s a) l f.held f.there its_closed) in
           dropped (then m) (middle m) holds l f.cap f.labelled f.its_kind (area_in slot) f.kept g.0 g.1 g.2
           refl refl loses.labels (loses.areas ∙ ap (λ n. without_area app.areas n) (sym f.its_grant)) (ap (λ (n : ℕ). lookup (nat_eq n) app1.areas) f.its_grant ∙ loses.gone) refl refl refl
           (λ k apart. other_slot a k (other_label k apart)) gone_slot refl
+
+      -- no label that stays has its grant
+      gone_grant : (k : List ℕ) (c : Capability) → value_at app1.labels k ≡ Some c → c.grant ≡ f.cap.grant → ⊥
+      gone_grant k c is same =
+          let there = ap (λ (ls : Labels). value_at ls k) (sym loses.labels) ∙ is in
+          let was = others_was l k c app.labels there in
+          not_some (value_at app1.labels l) c (ap (λ (ls : Labels). value_at ls l) loses.labels ∙ others_gone l app.labels)
+          (subst (λ (z : List ℕ). value_at app1.labels z ≡ Some c) (sym (h.holds.own.grants l k f.cap c f.labelled was (sym same))) is)
 
       -- no card is bound to it any more
       holds_gone : (b : Bool) (m : Machine) → m ≡ synced b (machine_of s a) → Holds (then m) → Holds (around later (after past es) a h.numbers app1 (each_object (lets_go l (serial_at (machine_of s a) l)) (without m l)))
       holds_gone b m is holds =
           subst (λ (z : Tables). Holds (record (around later (after past es) a h.numbers app1 (each_object (lets_go l (serial_at (machine_of s a) l)) (without m l))) { tables = z })) (sym (area_tables app app1 l grant f.cap.grant f.its_grant loses))
           (unbound_all (middle m) (middle_holds b m is holds) l (serial_at (machine_of s a) l) f.cap.grant (numbered (around s past a h.numbers app (machine_of s a)) l f.cap f.held h.holds f.labelled f.there)
-          (ap (λ (ls : Labels). value_at ls l) loses.labels ∙ others_gone l app.labels))
+          (ap (λ (ls : Labels). value_at ls l) loses.labels ∙ others_gone l app.labels) gone_grant)
 
       one_is : one ≡ each_object (lets_go l (serial_at (machine_of s a) l)) (without (synced (has_synced es) (machine_of s a)) l)
       one_is = ap (λ b. synced b (each_object (lets_go l (serial_at (machine_of s a) l)) (without (machine_of s a) l))) sync ∙ synced_given_up (has_synced es) (machine_of s a) l (serial_at (machine_of s a) l)
@@ -301,7 +313,7 @@ module _ (host : Host) (size : ℕ) (past : History) (s : System) (a l : List �
           (ap (λ (o : Option Area). is_of b o) (area_there size s.plane.slots agree.fit agree.apart slot (contains_in s.plane.slots slot slot_held)) ∙ ap (λ (z : List ℕ). bytes_eq b z) (sym its_app) ∙ apart) refl
 
       machines_now : (b : List ℕ) → AtApp now.grants (after past es) later b (app_of now.apps.items b)
-      machines_now = set_apps s p a one one_made host.grants now.grants past (after past es) host.apps.items now.apps.items app1 (omega (arith, grants)) own
+      machines_now = set_apps s p a one one_made host.grants now.grants past (after past es) host.apps.items now.apps.items app1 (omega (arith, grants)) refl own
           (λ b q. now_app b ∙ ap (λ t. cond t (Some app1) (app_of host.apps.items b)) q)
           (λ b q. now_app b ∙ ap (λ t. cond t (Some app1) (app_of host.apps.items b)) q)
           (λ b k q. other_slot b k (ap (λ t. t && bytes_eq k slot.label) (ap (λ z. bytes_eq b z) (sym its_app) ∙ q)))
@@ -310,7 +322,7 @@ module _ (host : Host) (size : ℕ) (past : History) (s : System) (a l : List �
     -- A call failed: the slot is held no more, the table has failed, and a stop decides whether the slot is there.
 
     module _ (now : Host) (app1 : App) (loses : LosesArea app app1 l grant)
-        (items : now.apps.items ≡ set host.apps.items place app1) (tables : now.table ≡ with_slot host.table index None) (grants : now.grants ≡ host.grants) (clock : now.clock ≡ host.clock) where
+        (items : now.apps.items ≡ set host.apps.items place app1) (tables : now.table ≡ with_slot host.table index None) (grants : now.grants ≡ host.grants) (clock : now.clock ≡ host.clock) (addresses : now.own ≡ host.own) where
       module _ (failed : now.failed ≡ true) (bad : well ≡ false) where
         abbrev lost : Plane
         lost = record s.plane { failed = true; unsettled = Some (drops slot (object_at (machine_of s a) l)); slots = rest }
@@ -322,7 +334,7 @@ module _ (host : Host) (size : ℕ) (past : History) (s : System) (a l : List �
             (left_stays past slot (Some f.held.object) es (record { inside = λ n among. slot_based host size past s st slot n slot_held among; left = f.left }) (beside slot slot_held))
 
         pub drop_lost : RowDone now size (after past es) s a line (drop_row s a l es (said.Refused r.DeviceFault)) es (said.Refused r.DeviceFault) []
-        drop_lost = rw (fault_row s a l h.holds.made f.held slot f.there f.closed f.named fine es (said.Refused r.DeviceFault) (made_fault (remove_calls slot.index) well es calls_made ∙ ap not bad)) (record {
+        drop_lost = rw (fault_row s a l h.holds.made f.held slot f.there its_closed f.named fine es (said.Refused r.DeviceFault) (made_fault (remove_calls slot.index) well es calls_made ∙ ap not bad)) (record {
           said = refl;
           bytes = refl;
           calls = follows_from es calls_made;
@@ -330,23 +342,23 @@ module _ (host : Host) (size : ℕ) (past : History) (s : System) (a l : List �
           stands = subst (λ (c : Option Change). Stands now size (after past es) (with_set s (failed_change s.plane c) a one)) (sym change_is) (record {
             plane = record {
               size = st.plane.size;
-              own = st.plane.own;
+              own = st.plane.own ∙ sym addresses;
               filters = st.plane.filters;
-              apps = sym (names_now now app1 loses items tables grants clock lost refl);
-              table = its_table now app1 loses items tables grants clock lost refl;
+              apps = sym (names_now now app1 loses items tables grants clock addresses lost refl);
+              table = its_table now app1 loses items tables grants clock addresses lost refl;
               failed = sym failed;
               free = λ no. absurd (false≢true (sym no ∙ failed));
               settled = λ no. absurd (false≢true (sym no ∙ failed));
               beside = front_agrees size s.plane.slots agree slot slot_held;
-              apart = all_apart now app1 loses items tables grants clock lost refl refl;
-              named = all_named now app1 loses items tables grants clock lost refl;
-              counted = all_counted now app1 loses items tables grants clock lost refl;
+              apart = all_apart now app1 loses items tables grants clock addresses lost refl refl;
+              named = all_named now app1 loses items tables grants clock addresses lost refl;
+              counted = all_counted now app1 loses items tables grants clock addresses lost refl;
             };
             based = st.based;
             table = (subst (λ (t : Table). IsUnsettled (after past es) t (removes slot.index)) (sym (front_table size s.plane.slots agree slot slot_held)) (goes.failed bad), leaves);
             now = st.now ∙ sym clock;
-            machines = machines_now now app1 loses items tables grants clock lost refl;
-            same_now = set_now s lost a one (one_made now app1 loses items tables grants clock lost refl) (one_now now app1 loses items tables grants clock lost refl) st.same_now;
+            machines = machines_now now app1 loses items tables grants clock addresses lost refl;
+            same_now = set_now s lost a one (one_made now app1 loses items tables grants clock addresses lost refl) (one_now now app1 loses items tables grants clock addresses lost refl) st.same_now;
           });
         })
 
@@ -363,7 +375,7 @@ module _ (host : Host) (size : ℕ) (past : History) (s : System) (a l : List �
         no_filters = rw st.plane.filters refl
 
         pub drop_done : RowDone now size (after past es) s a line (drop_row s a l es said.Ok) es said.Ok []
-        drop_done = rw (done_row s a l h.holds.made f.held slot f.there f.closed f.named fine es said.Ok (made_fault (remove_calls slot.index) well es calls_made ∙ ap not good)) (record {
+        drop_done = rw (done_row s a l h.holds.made f.held slot f.there its_closed f.named fine es said.Ok (made_fault (remove_calls slot.index) well es calls_made ∙ ap not good)) (record {
           said = refl;
           bytes = refl;
           calls = follows_from es calls_made;
@@ -371,22 +383,22 @@ module _ (host : Host) (size : ℕ) (past : History) (s : System) (a l : List �
           stands = subst (λ (c : Option Change). Stands now size (after past es) (with_set s (without_label (changed s.plane c) a l) a one)) (sym change_is) (record {
             plane = record {
               size = st.plane.size;
-              own = st.plane.own;
+              own = st.plane.own ∙ sym addresses;
               filters = no_filters;
-              apps = sym (names_now now app1 loses items tables grants clock done refl);
-              table = its_table now app1 loses items tables grants clock done refl;
+              apps = sym (names_now now app1 loses items tables grants clock addresses done refl);
+              table = its_table now app1 loses items tables grants clock addresses done refl;
               failed = st.plane.failed ∙ sym failed;
               free = λ no. free_now;
               settled = λ no. st.plane.settled (sym failed ∙ no);
               beside = subst (λ (u : Option Change). StandsBeside size rest u) (sym (st.plane.settled ok.settled)) tt;
-              apart = all_apart now app1 loses items tables grants clock done refl refl;
-              named = all_named now app1 loses items tables grants clock done refl;
-              counted = all_counted now app1 loses items tables grants clock done refl;
+              apart = all_apart now app1 loses items tables grants clock addresses done refl refl;
+              named = all_named now app1 loses items tables grants clock addresses done refl;
+              counted = all_counted now app1 loses items tables grants clock addresses done refl;
             };
             based = st.based;
             table = subst (λ (u : Option Change). TableStands (after past es) rest u) (sym (st.plane.settled ok.settled)) (subst (λ (t : Table). IsTableOf (after past es) t) (rest_table size s.plane.slots agree slot slot_held) (goes.done good));
             now = st.now ∙ sym clock;
-            machines = machines_now now app1 loses items tables grants clock done refl;
-            same_now = set_now s done a one (one_made now app1 loses items tables grants clock done refl) (one_now now app1 loses items tables grants clock done refl) st.same_now;
+            machines = machines_now now app1 loses items tables grants clock addresses done refl;
+            same_now = set_now s done a one (one_made now app1 loses items tables grants clock addresses done refl) (one_now now app1 loses items tables grants clock addresses done refl) st.same_now;
           });
         })

@@ -28,19 +28,21 @@ use Rattle.ark_machine.specs.System.{System, machine_of}
 use Rattle.ark_machine.specs.Recovers.{begun, begun_with}
 use Rattle.ark_machine.specs.Follow.{ends_of}
 use Rattle.ark_held.specs.Words.{area_in, grant_slot, slot_of_kind, slot_of_cap, slot_under}
-use Rattle.ark_held.specs.Areas.{MayShow, OpensToLists, IsOpened}
-use Rattle.ark_held.specs.Around.{Around, Both}
+use Rattle.ark_held.specs.Areas.{MayShow, OpensToLists}
+use Rattle.ark_held.specs.OpenLogs.{opened_on}
+use Rattle.ark_held.specs.Around.{Around}
 use Rattle.ark_held.specs.Held.{IsObjectOf, AtLabel, is_shared, is_shared_kind}
-use Rattle.ark_held.proofs.Lists.{not_some}
+use Rattle.ark_held.proofs.Lists.{not_some, some_same}
+use Rattle.ark_held.proofs.OpenCards.{open_there, is_there, shut}
 use Rattle.ark_held.proofs.Dropped.{IsClosed}
 use Rattle.ark_held.proofs.Finding.{found}
 use Rattle.ark_held.specs.declared.areas.Area.{Area}
 use Rattle.ark_held.specs.declared.app.App.{App}
 use Rattle.ark_host.specs.declared.host.Host.{Host}
 use Rattle.ark_host.specs.Tabled.{LeavesAs}
-use Rattle.ark_host.specs.Stands.{Stands, IsHeld, around, drop_row}
+use Rattle.ark_host.specs.Stands.{Stands, IsHeld, beyond, around, drop_row}
 
--- an area that is held under a label, by its grant and slot: no card is open on it
+-- an area that is held under a label, by its grant and slot: it is in use where the code finds a card on which it is open
 pub record HoldsArea (past : History) (s : System) (a l : List ℕ) (app : App) (grant slot : ℕ) : Type 0 where
   pub cap : Capability
   pub labelled : value_at app.labels l ≡ Some cap
@@ -48,7 +50,9 @@ pub record HoldsArea (past : History) (s : System) (a l : List ℕ) (app : App) 
   pub its_grant : cap.grant ≡ grant
   pub held : Held
   pub there : at (machine_of s a) l ≡ Some held
-  pub closed : IsClosed held.object
+  pub area : (is_buffer held.object ≡ false) × (is_vsa held.object ≡ true)
+  pub shut : opened_on app.devices.cards grant app.labels ≡ None → IsClosed held.object
+  pub used : (p : List ℕ × Capability) → opened_on app.devices.cards grant app.labels ≡ Some p → is_in_use (machine_of s a) l held.object ≡ true
   pub t : Slot
   pub named : slot_of s.plane a l ≡ Some t
   pub index : t.index ≡ slot
@@ -71,14 +75,17 @@ module _ (host : Host) (size : ℕ) (past : History) (s : System) (a l : List �
   as_log blocks kind.Log g same none opens = subst (λ (k : Kind). (contents : List (List ℕ)) → MayShow past blocks contents → Contains (lists g) (found_of k contents)) (sym same) opens
   as_log blocks kind.Queue g same none opens = subst (λ (k : Kind). (contents : List (List ℕ)) → MayShow past blocks contents → Contains (lists g) (found_of k contents)) (sym same) opens
 
-  -- no log is open so far
-  unopened : (grant : ℕ) (o : Option Opened) → Both (IsOpened x grant) None o → o ≡ None
-  unopened grant None is = refl
-  unopened grant (Some o) is = absurd is
+  -- it is in use where it is found open
+  in_use : (c : Capability) → value_at app.labels l ≡ Some c → (p : List ℕ × Capability) → opened_on app.devices.cards c.grant app.labels ≡ Some p → (g : Held) → at (machine_of s a) l ≡ Some g → is_in_use (machine_of s a) l g.object ≡ true
+  in_use c is p found g there =
+      let r = beyond s past a h.numbers (machine_of s a) in
+      let o = open_there r app h.holds l c is p found in
+      let same : g ≡ o.held = some_same (at (machine_of s a) l) g o.held there (is_there r app h.holds l c is p found) in
+      ap (λ (z : Held). is_in_use (machine_of s a) l z.object) same ∙ ap (λ (z : Object). is_in_use (machine_of s a) l z) o.object ∙ ap (λ (z : Option Opened). is_some z) o.is_open
 
-  area_found : (c : Capability) (g : Held) (o : Object) (t : Slot) → value_at app.labels l ≡ Some c → at (machine_of s a) l ≡ Some g → g.object ≡ o → c.kind ≡ cap_kind.Vsa → lookup (nat_eq c.grant) app.areas ≡ Some (area_in t) → slot_of s.plane a l ≡ Some t → IsClosed o → LeavesAs past t.blocks t.kind (Some o)
+  area_found : (c : Capability) (g : Held) (o : Object) (t : Slot) → value_at app.labels l ≡ Some c → at (machine_of s a) l ≡ Some g → g.object ≡ o → c.kind ≡ cap_kind.Vsa → lookup (nat_eq c.grant) app.areas ≡ Some (area_in t) → slot_of s.plane a l ≡ Some t → (is_buffer o ≡ false) × (is_vsa o ≡ true) → (opened_on app.devices.cards c.grant app.labels ≡ None → IsClosed o) → LeavesAs past t.blocks t.kind (Some o)
       → Under (slot_of_kind app.areas c.kind c.grant)
-  area_found c g o t is there same its_kind kept named closed left =
+  area_found c g o t is there same its_kind kept named plain closed left =
       subst (λ (k : CapKind). Under (slot_of_kind app.areas k c.grant)) (sym its_kind)
       (subst (λ (o : Option Area). Under (grant_slot c.grant o)) (sym kept)
       (record {
@@ -88,7 +95,9 @@ module _ (host : Host) (size : ℕ) (past : History) (s : System) (a l : List �
         its_grant = refl;
         held = g;
         there = there;
-        closed = subst (λ (z : Object). IsClosed z) (sym same) closed;
+        area = subst (λ (z : Object). (is_buffer z ≡ false) × (is_vsa z ≡ true)) (sym same) plain;
+        shut = λ none. subst (λ (z : Object). IsClosed z) (sym same) (closed none);
+        used = λ p found. in_use c is p found g there;
         t = t;
         named = named;
         index = refl;
@@ -104,10 +113,10 @@ module _ (host : Host) (size : ℕ) (past : History) (s : System) (a l : List �
 
   by_object : (c : Capability) (g : Held) (o : Object) → value_at app.labels l ≡ Some c → at (machine_of s a) l ≡ Some g → g.object ≡ o → IsObjectOf x l c o → Under (slot_of_kind app.areas c.kind c.grant)
   by_object c g (Objects.raw z) is there same f =
-      area_found c g (Objects.raw z) f.slot is there same f.its_kind f.kept f.there tt
+      area_found c g (Objects.raw z) f.slot is there same f.its_kind f.kept f.there (refl, refl) (λ none. tt)
       (subst (λ (k : Kind). LeavesAs past f.slot.blocks k (Some (Objects.raw z))) (sym f.raw) (λ k lt c left. f.fits.maybe k lt c left))
   by_object c g (Objects.log z) is there same f =
-      area_found c g (Objects.log z) f.slot is there same f.its_kind f.kept f.there (unopened c.grant z.opened f.opened) (as_log f.slot.blocks f.slot.kind z f.same_kind f.no_raw f.listed.left)
+      area_found c g (Objects.log z) f.slot is there same f.its_kind f.kept f.there (refl, refl) (shut (beyond s past a h.numbers (machine_of s a)) app h.holds l c is f.slot.blocks z z.opened refl f.opened) (as_log f.slot.blocks f.slot.kind z f.same_kind f.no_raw f.listed.left)
   by_object c g (Objects.vsic z) is there same f = of_kind c cap_kind.Vsic f.its_kind (plain c cap_kind.Vsic is f.its_kind refl)
   by_object c g (Objects.vnic z) is there same f = of_kind c cap_kind.Vnic f.its_kind (plain c cap_kind.Vnic is f.its_kind refl)
   by_object c g (Objects.filter z q) is there same f = absurd (not_some None f.live refl f.kept)
@@ -142,6 +151,15 @@ module _ (s : System) (a l : List ℕ) where
     unfolding answer
     drop_missing none = rw (made, none) refl
 
+    module _ (g : Held) (t : Slot) (there : at (machine_of s a) l ≡ Some g) (plain : (is_buffer g.object ≡ false) × (is_vsa g.object ≡ true)) (named : slot_of s.plane a l ≡ Some t) where
+      pub drop_failed : s.plane.failed ≡ true → HeldBack r.TableFailed
+      unfolding answer
+      drop_failed bad = let b = plain.0 in let v = plain.1 in rw (made, there, b, v, named, bad) refl
+
+      pub drop_busy : s.plane.failed ≡ false → is_in_use (machine_of s a) l g.object ≡ true → HeldBack r.Busy
+      unfolding answer
+      drop_busy fine used = let b = plain.0 in let v = plain.1 in rw (made, there, b, v, used, named, fine) refl
+
     module _ (g : Held) (t : Slot) (there : at (machine_of s a) l ≡ Some g) (closed : IsClosed g.object) (named : slot_of s.plane a l ≡ Some t) where
       -- an area is no buffer, and it is not in use where no card is open on it
       facts : (o : Object) → IsClosed o → (is_buffer o ≡ false) × (is_vsa o ≡ true) × (is_in_use (machine_of s a) l o ≡ false)
@@ -157,10 +175,6 @@ module _ (s : System) (a l : List ℕ) where
 
       unused : is_in_use (machine_of s a) l g.object ≡ false
       unused = (facts g.object closed).2
-
-      pub drop_failed : s.plane.failed ≡ true → HeldBack r.TableFailed
-      unfolding answer
-      drop_failed bad = let b = no_buffer in let v = area in rw (made, there, b, v, named, bad) refl
 
       module _ (fine : s.plane.failed ≡ false) where
         -- the row where each call succeeded

@@ -38,16 +38,17 @@ use Rattle.ark_held.proofs.Members.{contains_in}
 use Rattle.ark_held.specs.declared.app.App.{App}
 use Rattle.ark_host.specs.declared.host.Host.{Host}
 use Rattle.ark_host.specs.Tabled.{table_of}
-use Rattle.ark_host.specs.Stands.{Stands, Stood, Steps, RowDone, LineDone, IsHeldBack, IsEarly, IsItsOwn, MayGo, drop_row}
+use Rattle.ark_host.specs.Stands.{Stands, Stood, Steps, RowDone, LineDone, IsHeld, IsHeldBack, IsEarly, IsItsOwn, MayGo, drop_row}
 use Rattle.ark_host.proofs.Standing.{refused, same_apps, slot_fits}
 use Rattle.ark_host.proofs.Apps.{not_made, held_there}
 use Rattle.ark_host.proofs.Lifting.{acted_by, quiet_steps}
+use Rattle.ark_held.specs.OpenLogs.{opened_on}
 use Rattle.ark_held.proofs.Unbound.{LosesArea}
 use Rattle.ark_host.proofs.Contents.{logs_open}
 use Rattle.ark_host.proofs.Recovering.{removed_fronts}
 use Rattle.ark_host.proofs.Stepping.{early_enough}
 use Rattle.ark_host.proofs.Tabling.{area_there}
-use Rattle.ark_host.proofs.Dropping.{HoldsArea, Under, HeldBack, under_as, drop_unmade, drop_missing, drop_failed}
+use Rattle.ark_host.proofs.Dropping.{HoldsArea, Under, HeldBack, under_as, drop_unmade, drop_missing, drop_failed, drop_busy}
 use Rattle.ark_host.proofs.Dropped.{slot, slot_held, agree, begins, goes, beside, drop_lost, drop_done}
 
 -- the turn of a line is its row
@@ -63,12 +64,12 @@ early_plane _ p m a l early = refl
 -- Refusals.
 
 module _ (host : Host) (a l : List ℕ) where
-  pub steps_back : (now : Host) (told : Told) (e : Refusal) → IsHeldBack host a l e → IsEarly e → now.apps.items ≡ host.apps.items → now.free ≡ host.free → now.table ≡ host.table → now.failed ≡ host.failed → now.grants ≡ host.grants → now.clock ≡ host.clock
+  pub steps_back : (now : Host) (told : Told) (e : Refusal) → IsHeldBack host a l e → IsEarly e → now.apps.items ≡ host.apps.items → now.free ≡ host.free → now.table ≡ host.table → now.failed ≡ host.failed → now.grants ≡ host.grants → now.clock ≡ host.clock → now.own ≡ host.own
       → Steps host now told (Ok (w.drop a l)) [] (said.Refused e) []
-  steps_back now told e is early apps free table failed grants clock =
+  steps_back now told e is early apps free table failed grants clock addresses =
       quiet_steps host now told (Ok (w.drop a l)) (said.Refused e) (said.Refused e) [] refl refl
       (λ s h st. drop_answered now told.blocks h s a l [] (said.Refused e) [] (early_enough e early)
-      (refused now told.blocks h s a (w.drop a l) _ e (early_plane e s.plane (machine_of s a) a l early) (is told.blocks h s st) (same_apps host now told.blocks h s apps free table failed grants clock st)))
+      (refused now told.blocks h s a (w.drop a l) _ e (early_plane e s.plane (machine_of s a) a l early) (is told.blocks h s st) (same_apps host now told.blocks h s apps free table failed grants clock addresses st)))
 
   pub back_unmade : position (λ app. bytes_eq a app.name) host.apps.items ≡ None → IsHeldBack host a l r.NoApplication
   back_unmade none size h s st = drop_unmade s a l (not_made s host size h a st none)
@@ -89,7 +90,19 @@ module _ (host : Host) (a l : List ℕ) where
     back_failed grant index is bad size past s st =
         let h = held_there s host size past a st place app at there in
         let f : HoldsArea past s a l app grant index = under_as host size past s a l app st h (Ok (grant, index)) is in
-        drop_failed s a l h.holds.made f.held f.t f.there f.closed f.named (st.plane.failed ∙ bad)
+        drop_failed s a l h.holds.made f.held f.t f.there f.area f.named (st.plane.failed ∙ bad)
+
+    -- its log is open on a card
+    pub back_busy : (grant index : ℕ) → Ok (grant, index) ≡ slot_under app.labels app.areas l → host.failed ≡ false → (o : Option Capability) → is_some o ≡ true → o ≡ option_map (λ p. p.1) (opened_on app.devices.cards grant app.labels)
+        → IsHeldBack host a l r.Busy
+    back_busy grant index is well o some found size past s st =
+        let h = held_there s host size past a st place app at there in
+        let f : HoldsArea past s a l app grant index = under_as host size past s a l app st h (Ok (grant, index)) is in
+        by (opened_on app.devices.cards grant app.labels) refl (ap is_some (sym found) ∙ some) f h
+      where
+        by : (z : Option (List ℕ × Capability)) → opened_on app.devices.cards grant app.labels ≡ z → is_some (option_map (λ p. p.1) z) ≡ true → (f : HoldsArea past s a l app grant index) → (h : IsHeld host.grants past s a app) → HeldBack s a l r.Busy
+        by (Some p) e there_is f h = drop_busy s a l h.holds.made f.held f.t f.there f.area f.named (st.plane.failed ∙ well) (f.used p e)
+        by None e there_is f h = absurd (false≢true there_is)
 
 -- The device was called.
 
@@ -115,7 +128,7 @@ module _ (host : Host) (a l : List ℕ) (place grant index : ℕ) (app : App) (o
       absurd (omega (arith, low, f.index, zero))
 
   module _ (now : Host) (told : Told) (es : List Event) (app1 : App) (loses : LosesArea app app1 l grant)
-      (items : now.apps.items ≡ set host.apps.items place app1) (tables : now.table ≡ with_slot host.table index None) (grants : now.grants ≡ host.grants) (clock : now.clock ≡ host.clock) where
+      (items : now.apps.items ≡ set host.apps.items place app1) (tables : now.table ≡ with_slot host.table index None) (grants : now.grants ≡ host.grants) (clock : now.clock ≡ host.clock) (addresses : now.own ≡ host.own) where
     fronts : (well : Bool) → Made (remove_calls index) well es → (s : System) (h : History) → Stood host told h es s → AtEachFront h.base h.journal s (Some (Ok (w.drop a l))) es
     fronts well made s h stood =
         removed_fronts host told.blocks h s stood.stands (Some (Ok (w.drop a l))) (slot host told.blocks h s a l place grant index app stood.stands ok there) (object_at (machine_of s a) l) well es
@@ -128,7 +141,7 @@ module _ (host : Host) (a l : List ℕ) (place grant index : ℕ) (app : App) (o
     steps_gone_lost made failed = record {
       devices = makes_devices (remove_calls index) false es made;
       answered = λ s h stood. drop_answered now told.blocks (after h es) s a l es (said.Refused r.DeviceFault) [] refl
-          (drop_lost host told.blocks h s a l place grant index app stood.stands ok there false es made now app1 loses items tables grants clock failed refl);
+          (drop_lost host told.blocks h s a l place grant index app stood.stands ok there false es made now app1 loses items tables grants clock addresses failed refl);
       fronts = fronts false made;
     }
 
@@ -137,7 +150,7 @@ module _ (host : Host) (a l : List ℕ) (place grant index : ℕ) (app : App) (o
     steps_gone made failed area spans used runs gains rises = record {
       devices = makes_devices (remove_calls index) true es made;
       answered = λ s h stood. drop_answered now told.blocks (after h es) s a l es said.Ok [] refl
-          (drop_done host told.blocks h s a l place grant index app stood.stands ok there true es made now app1 loses items tables grants clock failed refl
+          (drop_done host told.blocks h s a l place grant index app stood.stands ok there true es made now app1 loses items tables grants clock addresses failed refl
           (subst (λ (bs : List ℕ). Gains host.free now.free bs) (sym (same_blocks told.blocks h s stood.stands)) gains) rises);
       fronts = fronts true made;
     }
@@ -174,10 +187,10 @@ unshared (Some c) is = by c.kind is
 
 module _ (host : Host) (a l : List ℕ) (place : ℕ) (app : App) (own : IsItsOwn host a l place) (there : get_or host.apps.items place app ≡ app) (now : Host) (told : Told) (app1 : App) (reply : Said) where
   -- it goes, or is refused, as in its application
-  pub steps_own : wants_memory reply ≡ false → now.apps.items ≡ set host.apps.items place app1 → now.free ≡ host.free → now.grants ≡ host.grants + 1 → now.table ≡ host.table → now.failed ≡ host.failed → now.clock ≡ host.clock
+  pub steps_own : wants_memory reply ≡ false → now.apps.items ≡ set host.apps.items place app1 → now.free ≡ host.free → now.grants ≡ host.grants + 1 → now.table ≡ host.table → now.failed ≡ host.failed → now.clock ≡ host.clock → now.own ≡ host.own
       → Acts told app app1 (λ m g. control.drop m l g) [] reply [] → Steps host now told (Ok (w.drop a l)) [] reply []
   unfolding step
-  steps_own enough items free grants table failed clock acts =
+  steps_own enough items free grants table failed clock addresses acts =
       acted_by host now told a (w.drop a l) place app app1 [] reply [] refl refl
       (λ s past st h x. plane_stays s.plane (machine_of s a) a l (h.holds.unlisted l (unshared (value_at app.labels l) (own.own app there))) st.plane.filters x)
-      (λ m g lacks. absurd (false≢true lacks)) own.place there (λ no. enough) items free grants table failed clock (acts host.grants host.clock)
+      (λ m g lacks. absurd (false≢true lacks)) own.place there (λ no. enough) items free grants table failed clock addresses (acts host.grants host.clock)

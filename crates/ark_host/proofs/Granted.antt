@@ -45,7 +45,7 @@ use Rattle.ark_machine.specs.Follow.{Follow, ends_of}
 use Rattle.ark_machine.specs.Recovers.{begun}
 use Rattle.ark_machine.proofs.Grants.{makes_apart, new_fits, free_index, lowest_free}
 use Rattle.ark_media.specs.Standing.{after, MayStand}
-use Rattle.ark_held.specs.Areas.{IsRaw}
+use Rattle.ark_held.specs.Areas.{IsRaw, AreFullIf}
 use Rattle.ark_held.specs.Around.{Around}
 use Rattle.ark_held.specs.Beside.{AreBeside}
 use Rattle.ark_held.specs.Held.{Holds, is_area_cap}
@@ -265,7 +265,7 @@ module _ (host : Host) (size : ℕ) (past : History) (s : System) (a l : List �
 
     -- A call failed: the table has failed from now on, and a stop decides whether the slot is there.
 
-    module _ (now : Host) (items : now.apps.items ≡ host.apps.items) (kept : now.table ≡ host.table) (failed : now.failed ≡ true) (grants : now.grants ≡ host.grants) (clock : now.clock ≡ host.clock) (bad : well ≡ false) where
+    module _ (now : Host) (items : now.apps.items ≡ host.apps.items) (kept : now.table ≡ host.table) (failed : now.failed ≡ true) (grants : now.grants ≡ host.grants) (clock : now.clock ≡ host.clock) (addresses : now.own ≡ host.own) (bad : well ≡ false) where
       abbrev lost : Plane
       lost = record s.plane { failed = true; unsettled = Some (makes slot) }
 
@@ -299,7 +299,7 @@ module _ (host : Host) (size : ℕ) (past : History) (s : System) (a l : List �
         stands = record {
           plane = record {
             size = st.plane.size;
-            own = st.plane.own;
+            own = st.plane.own ∙ sym addresses;
             filters = st.plane.filters;
             apps = st.plane.apps ∙ ap (λ (xs : List App). map (λ x. x.name) xs) (sym items);
             table = kept ∙ st.plane.table;
@@ -314,7 +314,7 @@ module _ (host : Host) (size : ℕ) (past : History) (s : System) (a l : List �
           based = st.based;
           table = goes.failed bad;
           now = st.now ∙ sym clock;
-          machines = set_apps s lost a left left_made host.grants now.grants past (after past es) host.apps.items now.apps.items app (omega (arith, grants)) left_held
+          machines = set_apps s lost a left left_made host.grants now.grants past (after past es) host.apps.items now.apps.items app (omega (arith, grants)) refl left_held
               (λ b q. same_app b ∙ ap (λ (c : List ℕ). app_of host.apps.items c) ((bytes_eq-Decides b a).0 q) ∙ (first_found (λ x. bytes_eq a x.name) host.apps.items place app ok.place).1 ∙ ap (λ x. Some x) there)
               (λ b q. same_app b) (λ b k q. refl) (λ b k t q is. same_others b k t is) st.plane.apart st.plane.named (λ b q. refl) st.machines;
           same_now = set_now s lost a left left_made (synced_now (ended_sync (ends_of es)) (machine_of s a) ∙ st.same_now a) st.same_now;
@@ -363,15 +363,19 @@ module _ (host : Host) (size : ℕ) (past : History) (s : System) (a l : List �
             (0, omega arith, get_or-replicate n k zero_block [] (omega (arith, lt, count)) ∙ sym is);
       }
 
+      -- its zeros are whole blocks
+      zeros_full : AreFullIf (after past es) slot.blocks
+      zeros_full whole k lt c left = ap (λ (b : List ℕ). length b) (zero_left (get_or slot.blocks k 0) c (Contains-get_or slot.blocks k 0 lt) left)
+
       -- the object under the new label
       new_one : (z : Kind) → slot.kind ≡ z → IsNewArea (after past es) slot (settled (areas.new_area z n))
       new_one kind.Raw its = (its, zero_content)
-      new_one kind.Log its = (its, (λ e. cc (e)), sym count, refl, zeros_listed (after past es) slot.blocks kind.Log n has_some zero_now zero_left)
-      new_one kind.Queue its = (its, (λ e. cc (e)), sym count, refl, zeros_listed (after past es) slot.blocks kind.Queue n has_some zero_now zero_left)
+      new_one kind.Log its = (its, (λ e. cc (e)), sym count, refl, zeros_listed (after past es) slot.blocks kind.Log n has_some zero_now zero_left, zeros_full)
+      new_one kind.Queue its = (its, (λ e. cc (e)), sym count, refl, zeros_listed (after past es) slot.blocks kind.Queue n has_some zero_now zero_left, zeros_full)
 
       module _ (now : Host) (app1 : App) (labels : app1.labels ≡ app.labels ++ (l, new_area_cap host.grants) ∷ []) (held : app1.areas ≡ with_area app.areas host.grants (record { kind = k; slot = i; spans = spans })) (region : app1.store.region ≡ app.store.region) (buffers : app1.store.buffers ≡ app.store.buffers) (devices : app1.devices ≡ app.devices) (name : app1.name ≡ app.name)
           (items : now.apps.items ≡ set host.apps.items place app1) (free : now.free ≡ drop n host.free) (tables : now.table ≡ with_slot host.table i (Some (record { app = a; label = l; kind = k; runs = runs_of spans }))) (failed : now.failed ≡ host.failed)
-          (grants : now.grants ≡ host.grants + 1) (clock : now.clock ≡ host.clock) where
+          (grants : now.grants ≡ host.grants + 1) (clock : now.clock ≡ host.clock) (addresses : now.own ≡ host.own) where
         abbrev plane : Plane
         plane = record s.plane { slots = s.plane.slots ++ slot ∷ [] }
 
@@ -408,7 +412,7 @@ module _ (host : Host) (size : ℕ) (past : History) (s : System) (a l : List �
         own = record {
           numbers = h.numbers ++ host.grants ∷ [];
           holds = granted (record then { machine = each_object settled (machine_of s a) }) (around later (after past es) a (h.numbers ++ host.grants ∷ []) app1 (machine_of later a)) (heeded true synced_yes) l host.grants slot (settled (areas.new_area k n))
-              unlabelled (h.unused host.grants (omega arith)) new_number refl refl refl (new_one k refl)
+              unlabelled (h.unused host.grants (omega arith)) new_number refl refl (new_one k refl)
               refl refl refl labels more_areas (same_tables app1.store app.store app1.devices app.devices region buffers devices) refl refl refl (set_here s plane a one one_made ∙ one_is);
           below = λ k g is. elim (number_cases h.numbers host.grants k g is) [
             | inl old ↦ let lt = h.below k g old in omega (arith, lt, grants)
@@ -474,7 +478,7 @@ module _ (host : Host) (size : ℕ) (past : History) (s : System) (a l : List �
           stands = record {
             plane = record {
               size = st.plane.size;
-              own = st.plane.own;
+              own = st.plane.own ∙ sym addresses;
               filters = st.plane.filters;
               apps = st.plane.apps ∙ sym (ap (λ (xs : List App). map (λ x. x.name) xs) items ∙ names_set host.apps.items a place app app1 ok.place there name);
               table = its_table;
@@ -489,7 +493,7 @@ module _ (host : Host) (size : ℕ) (past : History) (s : System) (a l : List �
             based = st.based;
             table = subst (λ (u : Option Change). TableStands (after past es) plane.slots u) (sym (st.plane.settled ok.settled)) (subst (λ (t : Table). IsTableOf (after past es) t) (sym more_slots) stands_now);
             now = st.now ∙ sym clock;
-            machines = set_apps s plane a one one_made host.grants now.grants past (after past es) host.apps.items now.apps.items app1 (omega (arith, grants)) own
+            machines = set_apps s plane a one one_made host.grants now.grants past (after past es) host.apps.items now.apps.items app1 (omega (arith, grants)) refl own
                 (λ b q. now_app b ∙ ap (λ t. cond t (Some app1) (app_of host.apps.items b)) q)
                 (λ b q. now_app b ∙ ap (λ t. cond t (Some app1) (app_of host.apps.items b)) q)
                 (λ b k q. slot_other b k s.plane.slots slot q) (λ b k t q is. same_others b k t is) st.plane.apart st.plane.named same_stored st.machines;

@@ -3,6 +3,7 @@ use Rattle.std.proofs.Common.{◌≡◌, ◌≤◌, ℕ, Bool, true, false, List
 use Rattle.std.proofs.lemmas.Bool.{false≢true}
 use Rattle.std.specs.Prelude.{Option}
 use Rattle.ark_base.specs.declared.kind.Kind.{Kind}
+use Rattle.ark_packet.specs.declared.own.Own.{Own}
 use Rattle.ark_script.specs.Attributes.{attributes}
 use Rattle.ark_script.specs.Form.{a_billion}
 use Rattle.ark_script.specs.Line as w
@@ -23,6 +24,7 @@ has_built group.Control = true
 has_built group.Memory = true
 has_built group.Rates = true
 has_built group.Cards = true
+has_built group.Network = true
 has_built _ = false
 
 -- no word of any other group is
@@ -39,6 +41,7 @@ unbuilt_group (w.copy a b c len) none = absurd (false≢true (sym none))
 unbuilt_group (w.free a b) none = absurd (false≢true (sym none))
 unbuilt_group (w.drop a x) none = absurd (false≢true (sym none))
 unbuilt_group (w.tick n) none = absurd (false≢true (sym none))
+unbuilt_group (w.nic own) none = absurd (false≢true (sym none))
 unbuilt_group (w.vsic a v size) none = absurd (false≢true (sym none))
 unbuilt_group (w.bind a v s) none = absurd (false≢true (sym none))
 unbuilt_group (w.unbind a v s) none = absurd (false≢true (sym none))
@@ -54,12 +57,13 @@ unbuilt_group (w.rate a r q b) none = absurd (false≢true (sym none))
 unbuilt_group (w.pace a v r q) none = absurd (false≢true (sym none))
 unbuilt_group _ none = refl
 
-pub other_group : (g : Group) → (g ≡ group.Control → ⊥) → (g ≡ group.Memory → ⊥) → (g ≡ group.Rates → ⊥) → (g ≡ group.Cards → ⊥) → has_built g ≡ false
-other_group group.Control no_control no_memory no_rates no_cards = absurd (no_control refl)
-other_group group.Memory no_control no_memory no_rates no_cards = absurd (no_memory refl)
-other_group group.Rates no_control no_memory no_rates no_cards = absurd (no_rates refl)
-other_group group.Cards no_control no_memory no_rates no_cards = absurd (no_cards refl)
-other_group _ no_control no_memory no_rates no_cards = refl
+pub other_group : (g : Group) → (g ≡ group.Control → ⊥) → (g ≡ group.Memory → ⊥) → (g ≡ group.Rates → ⊥) → (g ≡ group.Cards → ⊥) → (g ≡ group.Network → ⊥) → has_built g ≡ false
+other_group group.Control no_control no_memory no_rates no_cards no_network = absurd (no_control refl)
+other_group group.Memory no_control no_memory no_rates no_cards no_network = absurd (no_memory refl)
+other_group group.Rates no_control no_memory no_rates no_cards no_network = absurd (no_rates refl)
+other_group group.Cards no_control no_memory no_rates no_cards no_network = absurd (no_cards refl)
+other_group group.Network no_control no_memory no_rates no_cards no_network = absurd (no_network refl)
+other_group _ no_control no_memory no_rates no_cards no_network = refl
 
 two_groups : group.Control ≡ group.Memory → ⊥
 two_groups h = cc
@@ -78,6 +82,18 @@ no_cards_memory h = cc
 
 no_cards_rates : group.Cards ≡ group.Rates → ⊥
 no_cards_rates h = cc
+
+no_network_control : group.Network ≡ group.Control → ⊥
+no_network_control h = cc
+
+no_network_memory : group.Network ≡ group.Memory → ⊥
+no_network_memory h = cc
+
+no_network_rates : group.Network ≡ group.Rates → ⊥
+no_network_rates h = cc
+
+no_network_cards : group.Network ≡ group.Cards → ⊥
+no_network_cards h = cc
 
 -- the words about applications, areas and time that are not built
 pub unbuilt_control : (x : Step) → (attributes (line_of x)).group ≡ group.Control
@@ -109,6 +125,7 @@ unbuilt_control (step.Put a v s off n b) about no_app no_vsa no_grow no_drop no_
 unbuilt_control (step.Flush a v) about no_app no_vsa no_grow no_drop no_tick = absurd (no_cards_control about)
 unbuilt_control (step.Reap a v) about no_app no_vsa no_grow no_drop no_tick = absurd (no_cards_control about)
 unbuilt_control (step.Dev a v) about no_app no_vsa no_grow no_drop no_tick = absurd (no_cards_control about)
+unbuilt_control (step.Nic own) about no_app no_vsa no_grow no_drop no_tick = absurd (no_network_control about)
 unbuilt_control _ about no_app no_vsa no_grow no_drop no_tick = refl
 
 -- each word about blocks and buffers is built
@@ -141,6 +158,7 @@ all_memory (step.Put a v s off n b) about no_peek no_poke no_buf no_show no_fill
 all_memory (step.Flush a v) about no_peek no_poke no_buf no_show no_fill no_copy no_free = absurd (no_cards_memory about)
 all_memory (step.Reap a v) about no_peek no_poke no_buf no_show no_fill no_copy no_free = absurd (no_cards_memory about)
 all_memory (step.Dev a v) about no_peek no_poke no_buf no_show no_fill no_copy no_free = absurd (no_cards_memory about)
+all_memory (step.Nic own) about no_peek no_poke no_buf no_show no_fill no_copy no_free = absurd (no_network_memory about)
 all_memory _ about no_peek no_poke no_buf no_show no_fill no_copy no_free = refl
 
 -- the words about rates and doors that are not built
@@ -171,6 +189,7 @@ unbuilt_rates (step.Put a v s off n b) about no_door no_watch no_look no_rate no
 unbuilt_rates (step.Flush a v) about no_door no_watch no_look no_rate no_pace = absurd (no_cards_rates about)
 unbuilt_rates (step.Reap a v) about no_door no_watch no_look no_rate no_pace = absurd (no_cards_rates about)
 unbuilt_rates (step.Dev a v) about no_door no_watch no_look no_rate no_pace = absurd (no_cards_rates about)
+unbuilt_rates (step.Nic own) about no_door no_watch no_look no_rate no_pace = absurd (no_network_rates about)
 unbuilt_rates _ about no_door no_watch no_look no_rate no_pace = refl
 
 -- the words about storage cards that are not built
@@ -202,7 +221,38 @@ unbuilt_cards (step.Show a l off n) about no_vsic no_bind no_unbind no_get no_pu
 unbuilt_cards (step.Fill a l off hex) about no_vsic no_bind no_unbind no_get no_put no_flush no_reap no_dev = absurd (no_cards_memory (sym about))
 unbuilt_cards (step.Copy a l m n) about no_vsic no_bind no_unbind no_get no_put no_flush no_reap no_dev = absurd (no_cards_memory (sym about))
 unbuilt_cards (step.Free a l) about no_vsic no_bind no_unbind no_get no_put no_flush no_reap no_dev = absurd (no_cards_memory (sym about))
+unbuilt_cards (step.Nic own) about no_vsic no_bind no_unbind no_get no_put no_flush no_reap no_dev = absurd (no_network_cards about)
 unbuilt_cards _ about no_vsic no_bind no_unbind no_get no_put no_flush no_reap no_dev = refl
+
+-- the words about network cards that are not built
+pub unbuilt_network : (x : Step) → (attributes (line_of x)).group ≡ group.Network → ((own : Own) → x ≡ step.Nic own → ⊥) → is_built (line_of x) ≡ false
+unbuilt_network (step.Nic own) about no_nic = absurd (no_nic own refl)
+unbuilt_network (step.App a frames) about no_nic = absurd (no_network_control (sym about))
+unbuilt_network (step.Vsa a l n k) about no_nic = absurd (no_network_control (sym about))
+unbuilt_network (step.Grow a l n) about no_nic = absurd (no_network_control (sym about))
+unbuilt_network (step.Drop a l) about no_nic = absurd (no_network_control (sym about))
+unbuilt_network (step.Tick n) about no_nic = absurd (no_network_control (sym about))
+unbuilt_network (step.Peek a l off) about no_nic = absurd (no_network_memory (sym about))
+unbuilt_network (step.Poke a l off hex) about no_nic = absurd (no_network_memory (sym about))
+unbuilt_network (step.Buf a l n) about no_nic = absurd (no_network_memory (sym about))
+unbuilt_network (step.Show a l off n) about no_nic = absurd (no_network_memory (sym about))
+unbuilt_network (step.Fill a l off hex) about no_nic = absurd (no_network_memory (sym about))
+unbuilt_network (step.Copy a l m n) about no_nic = absurd (no_network_memory (sym about))
+unbuilt_network (step.Free a l) about no_nic = absurd (no_network_memory (sym about))
+unbuilt_network (step.Door a d) about no_nic = absurd (no_network_rates (sym about))
+unbuilt_network (step.Watch a v d q) about no_nic = absurd (no_network_rates (sym about))
+unbuilt_network (step.Look a d) about no_nic = absurd (no_network_rates (sym about))
+unbuilt_network (step.Rate a l n b) about no_nic = absurd (no_network_rates (sym about))
+unbuilt_network (step.Pace a v l q) about no_nic = absurd (no_network_rates (sym about))
+unbuilt_network (step.Vsic a v size) about no_nic = absurd (no_network_cards (sym about))
+unbuilt_network (step.Bind a v s) about no_nic = absurd (no_network_cards (sym about))
+unbuilt_network (step.Unbind a v s) about no_nic = absurd (no_network_cards (sym about))
+unbuilt_network (step.Get a v s off n b) about no_nic = absurd (no_network_cards (sym about))
+unbuilt_network (step.Put a v s off n b) about no_nic = absurd (no_network_cards (sym about))
+unbuilt_network (step.Flush a v) about no_nic = absurd (no_network_cards (sym about))
+unbuilt_network (step.Reap a v) about no_nic = absurd (no_network_cards (sym about))
+unbuilt_network (step.Dev a v) about no_nic = absurd (no_network_cards (sym about))
+unbuilt_network _ about no_nic = refl
 
 -- a word's counts are those of a line
 pub counted : (old now : Host) (ticks most : ℕ) → ticks ≤ a_billion → most ≤ 1 → Counts old now ticks most → CountsLine old now

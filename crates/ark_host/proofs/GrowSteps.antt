@@ -106,12 +106,12 @@ too_many : (k : ℕ) → (k ≤ 16 → ⊥) → 16 < k
 too_many k more = by_test (nat_le k 16) (λ b. nat_le k 16 ≡ b → 16 < k) (λ yes q. absurd (more (grind (arith, nat_tests, q)))) (λ other q. grind (arith, nat_tests, q)) refl
 
 module _ (host : Host) (a l : List ℕ) (n : ℕ) where
-  pub grow_refused : (now : Host) (told : Told) (e : Refusal) → IsGrowRefused host a l n e → IsEarly e → now.apps.items ≡ host.apps.items → now.free ≡ host.free → now.table ≡ host.table → now.failed ≡ host.failed → now.grants ≡ host.grants → now.clock ≡ host.clock
+  pub grow_refused : (now : Host) (told : Told) (e : Refusal) → IsGrowRefused host a l n e → IsEarly e → now.apps.items ≡ host.apps.items → now.free ≡ host.free → now.table ≡ host.table → now.failed ≡ host.failed → now.grants ≡ host.grants → now.clock ≡ host.clock → now.own ≡ host.own
       → Steps host now told (Ok (w.grow a l n)) [] (said.Refused e) []
-  grow_refused now told e is early apps free table failed grants clock =
+  grow_refused now told e is early apps free table failed grants clock addresses =
       quiet_steps host now told (Ok (w.grow a l n)) (said.Refused e) (said.Refused e) [] refl refl
       (λ s h st. grow_answered now told.blocks h s a l n [] (said.Refused e) [] (early_enough e early)
-      (refused now told.blocks h s a (w.grow a l n) _ e (early_plane e s.plane (machine_of s a) a l n early) (is told.blocks h s st) (same_apps host now told.blocks h s apps free table failed grants clock st)))
+      (refused now told.blocks h s a (w.grow a l n) _ e (early_plane e s.plane (machine_of s a) a l n early) (is told.blocks h s st) (same_apps host now told.blocks h s apps free table failed grants clock addresses st)))
 
   pub unmade_refused : position (λ app. bytes_eq a app.name) host.apps.items ≡ None → IsGrowRefused host a l n r.NoApplication
   unmade_refused none size h s st = grow_unmade host size h s a l n st (not_made s host size h a st none)
@@ -208,21 +208,21 @@ module _ (host now : Host) (told : Told) (a l : List ℕ) (n : ℕ) (g : Growth)
         (goes host told.blocks h s a l n g app stood.stands small some ok there own f well es (calls well made))
         (logs_open host told.blocks h s stood.stands es (beside host told.blocks h s a l n g app stood.stands small some ok there own f well es (calls well made)))
 
-  pub lost_steps : plan false → now.apps.items ≡ host.apps.items → now.table ≡ host.table → now.failed ≡ true → now.grants ≡ host.grants → now.clock ≡ host.clock → Steps host now told (Ok (w.grow a l n)) es (said.Refused r.DeviceFault) []
-  lost_steps made items kept failed grants clock = record {
+  pub lost_steps : plan false → now.apps.items ≡ host.apps.items → now.table ≡ host.table → now.failed ≡ true → now.grants ≡ host.grants → now.clock ≡ host.clock → now.own ≡ host.own → Steps host now told (Ok (w.grow a l n)) es (said.Refused r.DeviceFault) []
+  lost_steps made items kept failed grants clock addresses = record {
     devices = makes_devices _ false es made;
     answered = λ s h stood. grow_answered now told.blocks (after h es) s a l n es (said.Refused r.DeviceFault) [] refl
-        (grow_lost host told.blocks h s a l n g app stood.stands small some ok there (own s h stood) (f s h stood) false es (calls s h stood false made) now items kept failed grants clock refl);
+        (grow_lost host told.blocks h s a l n g app stood.stands small some ok there (own s h stood) (f s h stood) false es (calls s h stood false made) now items kept failed grants clock addresses refl);
     fronts = λ s h stood. fronts s h stood false made;
   }
 
   pub done_steps : plan true → (app1 : App) → app1.labels ≡ app.labels → app1.areas ≡ with_spans app.areas g.grant g.spans → app1.store.region ≡ app.store.region → app1.store.buffers ≡ app.store.buffers → app1.devices ≡ app.devices → app1.name ≡ app.name
-      → now.apps.items ≡ set host.apps.items g.place app1 → now.free ≡ drop n host.free → now.table ≡ with_slot host.table g.area.slot (Some (grown_area ok.joins.area g.more)) → now.failed ≡ host.failed → now.grants ≡ host.grants → now.clock ≡ host.clock
+      → now.apps.items ≡ set host.apps.items g.place app1 → now.free ≡ drop n host.free → now.table ≡ with_slot host.table g.area.slot (Some (grown_area ok.joins.area g.more)) → now.failed ≡ host.failed → now.grants ≡ host.grants → now.clock ≡ host.clock → now.own ≡ host.own
       → Steps host now told (Ok (w.grow a l n)) es said.Ok []
-  done_steps made app1 labels areas region buffers devices name items free tables failed grants clock = record {
+  done_steps made app1 labels areas region buffers devices name items free tables failed grants clock addresses = record {
     devices = makes_devices _ true es made;
     answered = λ s h stood. grow_answered now told.blocks (after h es) s a l n es said.Ok [] refl
         (grow_done host told.blocks h s a l n g app stood.stands small some ok there (own s h stood) (f s h stood) true es (calls s h stood true made) refl now app1 labels areas region buffers devices name items free
-        (tables ∙ ap (λ (z : Area). with_slot host.table g.area.slot (Some (grown_area z g.more))) (same_area s h stood)) failed grants clock);
+        (tables ∙ ap (λ (z : Area). with_slot host.table g.area.slot (Some (grown_area z g.more))) (same_area s h stood)) failed grants clock addresses);
     fronts = λ s h stood. fronts s h stood true made;
   }

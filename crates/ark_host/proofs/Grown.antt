@@ -277,7 +277,7 @@ module _ (host : Host) (size : ℕ) (past : History) (s : System) (a l : List �
 
     -- A call failed: the table has failed from now on, and a stop decides whether the slot has the blocks.
 
-    module _ (now : Host) (items : now.apps.items ≡ host.apps.items) (kept_table : now.table ≡ host.table) (failed : now.failed ≡ true) (grants : now.grants ≡ host.grants) (clock : now.clock ≡ host.clock) (bad : well ≡ false) where
+    module _ (now : Host) (items : now.apps.items ≡ host.apps.items) (kept_table : now.table ≡ host.table) (failed : now.failed ≡ true) (grants : now.grants ≡ host.grants) (clock : now.clock ≡ host.clock) (addresses : now.own ≡ host.own) (bad : well ≡ false) where
       abbrev lost : Plane
       lost = record s.plane { failed = true; unsettled = Some (grows t more) }
 
@@ -309,7 +309,7 @@ module _ (host : Host) (size : ℕ) (past : History) (s : System) (a l : List �
       its_stands = record {
         plane = record {
           size = st.plane.size;
-          own = st.plane.own;
+          own = st.plane.own ∙ sym addresses;
           filters = st.plane.filters;
           apps = st.plane.apps ∙ ap (λ (xs : List App). map (λ z. z.name) xs) (sym items);
           table = kept_table ∙ st.plane.table;
@@ -324,7 +324,7 @@ module _ (host : Host) (size : ℕ) (past : History) (s : System) (a l : List �
         based = st.based;
         table = goes.failed bad;
         now = st.now ∙ sym clock;
-        machines = set_apps s lost a left left_made host.grants now.grants past (after past es) host.apps.items now.apps.items app (omega (arith, grants)) left_held
+        machines = set_apps s lost a left left_made host.grants now.grants past (after past es) host.apps.items now.apps.items app (omega (arith, grants)) refl left_held
             (λ b q. same_app b ∙ ap (λ (c : List ℕ). app_of host.apps.items c) ((bytes_eq-Decides b a).0 q) ∙ (first_found (λ z. bytes_eq a z.name) host.apps.items g.place app ok.place).1 ∙ ap (λ z. Some z) there)
             (λ b q. same_app b) (λ b k q. refl) (λ b k u q is. same_others b k u is) st.plane.apart st.plane.named (λ b q. refl) st.machines;
         same_now = set_now s lost a left left_made (synced_now (ended_sync (ends_of es)) (machine_of s a) ∙ st.same_now a) st.same_now;
@@ -440,7 +440,7 @@ module _ (host : Host) (size : ℕ) (past : History) (s : System) (a l : List �
 
       module _ (now : Host) (app1 : App) (labels : app1.labels ≡ app.labels) (areas_are : app1.areas ≡ with_spans app.areas g.grant g.spans) (region : app1.store.region ≡ app.store.region) (buffers : app1.store.buffers ≡ app.store.buffers) (devices : app1.devices ≡ app.devices) (name : app1.name ≡ app.name)
           (items : now.apps.items ≡ set host.apps.items g.place app1) (free : now.free ≡ drop n host.free) (tables : now.table ≡ with_slot host.table g.area.slot (Some (grown_area (area_of t) g.more))) (failed : now.failed ≡ host.failed)
-          (grants : now.grants ≡ host.grants) (clock : now.clock ≡ host.clock) where
+          (grants : now.grants ≡ host.grants) (clock : now.clock ≡ host.clock) (addresses : now.own ≡ host.own) where
         abbrev one : Machine
         one = synced_by (ends_of es) (with_object (machine_of s a) l (Objects.raw (areas.grown n old_raw)))
 
@@ -484,7 +484,7 @@ module _ (host : Host) (size : ℕ) (past : History) (s : System) (a l : List �
               refl refl labels its_spans (same_tables app1.store app.store app1.devices app.devices region buffers devices) refl
               (find_longer t more a l s.plane.slots ∙ ap (λ o. option_map (longer t more) o) placed ∙ ap (λ z. Some z) (its_longer t more))
               (λ k apart_label. stays a k (λ u is e. false≢true (sym (not_but l k apart_label) ∙ name_same l k (mine.2 ∙ ap (λ (z : Slot). z.label) (sym e) ∙ sym (slot_names s.plane.slots a k u is).2))))
-              (λ k u apart_label is. same_history (after past es) u.blocks) (set_here s plane a one one_made ∙ one_is);
+              refl (λ k u apart_label is. same_history (after past es) u.blocks) (set_here s plane a one one_made ∙ one_is);
           below = λ k z is. let lt = h.below k z is in omega (arith, lt, grants);
           unused = λ z le. ap (λ (xs : AreaList). lookup (nat_eq z) xs) areas_are ∙ spans_unused g.grant g.spans z app.areas (h.unused z (omega (arith, le, grants)));
         }
@@ -530,7 +530,7 @@ module _ (host : Host) (size : ℕ) (past : History) (s : System) (a l : List �
         its_stands_now = record {
           plane = record {
             size = st.plane.size;
-            own = st.plane.own;
+            own = st.plane.own ∙ sym addresses;
             filters = st.plane.filters;
             apps = st.plane.apps ∙ sym (ap (λ (xs : List App). map (λ z. z.name) xs) items ∙ names_set host.apps.items a g.place app app1 ok.place there name);
             table = its_table;
@@ -545,7 +545,7 @@ module _ (host : Host) (size : ℕ) (past : History) (s : System) (a l : List �
           based = st.based;
           table = subst (λ (u : Option Change). TableStands (after past es) plane.slots u) (sym (st.plane.settled ok.settled)) (subst (λ (z : Table). IsTableOf (after past es) z) (sym (grown_table host size past s st t more mine.0)) stands_now);
           now = st.now ∙ sym clock;
-          machines = set_apps s plane a one one_made host.grants now.grants past (after past es) host.apps.items now.apps.items app1 (omega (arith, grants)) own
+          machines = set_apps s plane a one one_made host.grants now.grants past (after past es) host.apps.items now.apps.items app1 (omega (arith, grants)) refl own
               (λ b e. now_app b ∙ ap (λ z. cond z (Some app1) (app_of host.apps.items b)) e)
               (λ b e. now_app b ∙ ap (λ z. cond z (Some app1) (app_of host.apps.items b)) e)
               (λ b k e. stays b k (λ u is same. other_name b a e ((slot_names s.plane.slots b k u is).1 ∙ ap (λ (z : Slot). z.app) same ∙ sym mine.1)))

@@ -33,14 +33,14 @@ module _ (s : System) (p : Plane) (a : List ℕ) (m : Machine) (made : m.made �
       (λ no q. ap (λ (x : Machine). x.now) (set_other b q) ∙ all b) refl
 
   -- what stands for the machines of all applications: a's by itself, the others as they did
-  pub set_apps : (g0 g1 : ℕ) (h0 h1 : History) (apps0 apps1 : List App) (app : App) → g0 ≤ g1 → IsHeld g1 h1 (with_set s p a m) a app
+  pub set_apps : (g0 g1 : ℕ) (h0 h1 : History) (apps0 apps1 : List App) (app : App) → g0 ≤ g1 → h1.base ≡ h0.base → IsHeld g1 h1 (with_set s p a m) a app
       → ((b : List ℕ) → bytes_eq b a ≡ true → app_of apps1 b ≡ Some app) → ((b : List ℕ) → bytes_eq b a ≡ false → app_of apps1 b ≡ app_of apps0 b)
       → ((b l : List ℕ) → bytes_eq b a ≡ false → slot_of p b l ≡ slot_of s.plane b l)
       → ((b l : List ℕ) (t : Slot) → bytes_eq b a ≡ false → slot_of s.plane b l ≡ Some t → SameAt h0 h1 t.blocks)
       → GrantsApart s.plane → AreNamed s.plane → ((b : List ℕ) → bytes_eq b a ≡ false → stored_slots b p.slots ≡ stored_slots b s.plane.slots)
       → ((b : List ℕ) → AtApp g0 h0 s b (app_of apps0 b)) → (b : List ℕ) → AtApp g1 h1 (with_set s p a m) b (app_of apps1 b)
-  set_apps g0 g1 h0 h1 apps0 apps1 app more own here others slots stays agree named stored all b = by_test (bytes_eq b a) (λ t. bytes_eq b a ≡ t → AtApp g1 h1 (with_set s p a m) b (app_of apps1 b))
+  set_apps g0 g1 h0 h1 apps0 apps1 app more base own here others slots stays agree named stored all b = by_test (bytes_eq b a) (λ t. bytes_eq b a ≡ t → AtApp g1 h1 (with_set s p a m) b (app_of apps1 b))
       (λ yes q. subst (λ (o : Option App). AtApp g1 h1 (with_set s p a m) b o) (sym (here b q))
       (subst (λ (c : List ℕ). AtApp g1 h1 (with_set s p a m) c (Some app)) (sym ((bytes_eq-Decides b a).0 q)) own))
       (λ no q. subst (λ (o : Option App). AtApp g1 h1 (with_set s p a m) b o) (sym (others b q))
-      (at_app_kept g0 g1 h0 h1 s (with_set s p a m) b (app_of apps0 b) more (set_other b q) refl (λ l. slots b l q) (λ l t there. stays b l t q there) agree named (stored b q) (all b))) refl
+      (at_app_kept g0 g1 h0 h1 s (with_set s p a m) b (app_of apps0 b) more (set_other b q) refl base (λ l. slots b l q) (λ l t there. stays b l t q there) agree named (stored b q) (all b))) refl

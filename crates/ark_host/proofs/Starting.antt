@@ -31,7 +31,7 @@ use Rattle.ark_machine.specs.System.{System, machine_of}
 use Rattle.ark_machine.specs.Told.{own_slots, area_in, with_areas}
 use Rattle.ark_laws.proofs.Stored.{stored_apart}
 use Rattle.ark_laws.proofs.Told.{start_private}
-use Rattle.ark_held.specs.Areas.{IsRaw, IsListed, MayShow}
+use Rattle.ark_held.specs.Areas.{IsRaw, IsListed, MayShow, AreFullIf}
 use Rattle.ark_held.specs.Beside.{AreBeside}
 use Rattle.ark_held.proofs.Besides.{may_beside}
 use Rattle.ark_held.proofs.Lists.{same_name, name_same}
@@ -127,6 +127,11 @@ module _ (image : List (List ℕ)) (es : List Event) (reads : AreReads es) where
       left = λ seen may. subst (λ (x : List (List ℕ)). Contains (list_choices (found_of k contents) None) (found_of k x)) (sym (shown seen may)) (choice_first (found_of k contents));
     }
 
+    full_stands : AreFullIf h t.blocks
+    full_stands whole k lt c left =
+        let low = inside (get_or t.blocks k 0) (Contains-get_or t.blocks k 0 lt) in
+        ap (λ (b : List ℕ). length b) (still (get_or t.blocks k 0) c low left) ∙ whole (get_or t.blocks k 0) low
+
     log_no_raw : kind.Log ≡ kind.Raw → ⊥
     log_no_raw e = absurd cc
 
@@ -135,8 +140,8 @@ module _ (image : List (List ℕ)) (es : List Event) (reads : AreReads es) where
 
     pub area_stands : (k : Kind) → t.kind ≡ k → IsStoredArea h t (stored_area k contents)
     area_stands kind.Raw is = (is, raw_stands)
-    area_stands kind.Log is = record { same_kind = is; no_raw = log_no_raw; blocks = length-map t.blocks (λ n. block image n); closed = refl; listed = listed_stands kind.Log }
-    area_stands kind.Queue is = record { same_kind = is; no_raw = queue_no_raw; blocks = length-map t.blocks (λ n. block image n); closed = refl; listed = listed_stands kind.Queue }
+    area_stands kind.Log is = record { same_kind = is; no_raw = log_no_raw; blocks = length-map t.blocks (λ n. block image n); closed = refl; listed = listed_stands kind.Log; full = full_stands }
+    area_stands kind.Queue is = record { same_kind = is; no_raw = queue_no_raw; blocks = length-map t.blocks (λ n. block image n); closed = refl; listed = listed_stands kind.Queue; full = full_stands }
 
   -- The machine of an application.
 
@@ -270,7 +275,7 @@ module _ (image : List (List ℕ)) (table : Table) (has : HasTable table image) 
 
     -- The host.
 
-    module _ (host : Host) (apps : host.apps.items ≡ []) (tables : host.table ≡ table) (failed : host.failed ≡ false) (grants : host.grants ≡ 129) (clock : host.clock ≡ 0)
+    module _ (host : Host) (apps : host.apps.items ≡ []) (tables : host.table ≡ table) (failed : host.failed ≡ false) (grants : host.grants ≡ 129) (clock : host.clock ≡ 0) (addresses : host.own ≡ None)
         (increasing : IsStrictlyIncreasing host.free) (unused : IsUnused size table host.free) where
       pub start_stands : StandsLoaded host size image es
       start_stands = record {
@@ -280,7 +285,7 @@ module _ (image : List (List ℕ)) (table : Table) (has : HasTable table image) 
         stands = record {
           plane = record {
             size = refl;
-            own = refl;
+            own = sym addresses;
             filters = refl;
             apps = ap (λ (l : List App). map (λ app. app.name) l) (sym apps);
             table = tables ∙ sym table_is;
@@ -301,10 +306,10 @@ module _ (image : List (List ℕ)) (table : Table) (has : HasTable table image) 
       }
 
 -- The same for a device of so many blocks.
-pub loaded_stands : (blocks : ℕ) (image : List (List ℕ)) (table : Table) (es : List Event) → AreReads es → length image ≡ blocks → HasTable table image → (host : Host) → host.apps.items ≡ [] → host.table ≡ table → host.failed ≡ false → host.grants ≡ 129 → host.clock ≡ 0
+pub loaded_stands : (blocks : ℕ) (image : List (List ℕ)) (table : Table) (es : List Event) → AreReads es → length image ≡ blocks → HasTable table image → (host : Host) → host.apps.items ≡ [] → host.table ≡ table → host.failed ≡ false → host.grants ≡ 129 → host.clock ≡ 0 → host.own ≡ None
     → IsStrictlyIncreasing host.free → IsUnused blocks table host.free → StandsLoaded host blocks image es
-loaded_stands blocks image table es reads len has host apps tables failed grants clock increasing unused =
-    subst (λ n. StandsLoaded host n image es) len (start_stands image table has es reads host apps tables failed grants clock increasing (subst (λ n. IsUnused n table host.free) (sym len) unused))
+loaded_stands blocks image table es reads len has host apps tables failed grants clock addresses increasing unused =
+    subst (λ n. StandsLoaded host n image es) len (start_stands image table has es reads host apps tables failed grants clock addresses increasing (subst (λ n. IsUnused n table host.free) (sym len) unused))
 
 -- By the table that was loaded, the host stands for whatever device it was loaded from.
 pub all_loaded : (told : Told) (r : Result Host LoadFault) (blocks : ℕ) (table : Table) → told.blocks ≡ blocks → ((h : History) → told.history ≡ Some h → length h.base ≡ told.blocks) → ((h : History) → told.history ≡ Some h → HasTable table (current h.base h.journal))

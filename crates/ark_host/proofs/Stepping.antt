@@ -66,12 +66,12 @@ early_room labels areas l e is = by (value_at labels l) is
     by None h = limited (nat_le 64 (length labels) || nat_le 8 (length areas)) h
 
 module _ (host : Host) (a l : List ℕ) (n : ℕ) where
-  pub steps_refused : (k : Kind) (now : Host) (told : Told) (e : Refusal) → IsRefused host a l n e → IsEarly e → now.apps.items ≡ host.apps.items → now.free ≡ host.free → now.table ≡ host.table → now.failed ≡ host.failed → now.grants ≡ host.grants → now.clock ≡ host.clock
+  pub steps_refused : (k : Kind) (now : Host) (told : Told) (e : Refusal) → IsRefused host a l n e → IsEarly e → now.apps.items ≡ host.apps.items → now.free ≡ host.free → now.table ≡ host.table → now.failed ≡ host.failed → now.grants ≡ host.grants → now.clock ≡ host.clock → now.own ≡ host.own
       → Steps host now told (Ok (w.vsa a l n k)) [] (said.Refused e) []
-  steps_refused k now told e is early apps free table failed grants clock =
+  steps_refused k now told e is early apps free table failed grants clock addresses =
       quiet_steps host now told (Ok (w.vsa a l n k)) (said.Refused e) (said.Refused e) [] refl refl
       (λ s h st. vsa_answered now told.blocks h s a l n k [] (said.Refused e) [] (early_enough e early)
-      (refused now told.blocks h s a (w.vsa a l n k) _ e (early_plane e s.plane (machine_of s a) a l n k early) (is k told.blocks h s st) (same_apps host now told.blocks h s apps free table failed grants clock st)))
+      (refused now told.blocks h s a (w.vsa a l n k) _ e (early_plane e s.plane (machine_of s a) a l n k early) (is k told.blocks h s st) (same_apps host now told.blocks h s apps free table failed grants clock addresses st)))
 
   pub refused_unmade : position (λ app. bytes_eq a app.name) host.apps.items ≡ None → IsRefused host a l n r.NoApplication
   refused_unmade none k size h s st = vsa_unmade host size h s a l n k st (not_made s host size h a st none)
@@ -118,21 +118,21 @@ module _ (host now : Host) (told : Told) (a l : List ℕ) (n : ℕ) (k : Kind) (
       (goes host told.blocks h s a l n k i place app stood.stands small some app_name label_name ok there compact spans taken well es made)
       (logs_open host told.blocks h s stood.stands es (beside host told.blocks h s a l n k i place app stood.stands small some app_name label_name ok there compact spans taken well es made))
 
-  pub steps_lost : plan false → now.apps.items ≡ host.apps.items → now.table ≡ host.table → now.failed ≡ true → now.grants ≡ host.grants → now.clock ≡ host.clock → Steps host now told (Ok (w.vsa a l n k)) es (said.Refused r.DeviceFault) []
-  steps_lost made items kept failed grants clock = record {
+  pub steps_lost : plan false → now.apps.items ≡ host.apps.items → now.table ≡ host.table → now.failed ≡ true → now.grants ≡ host.grants → now.clock ≡ host.clock → now.own ≡ host.own → Steps host now told (Ok (w.vsa a l n k)) es (said.Refused r.DeviceFault) []
+  steps_lost made items kept failed grants clock addresses = record {
     devices = makes_devices _ false es made;
     answered = λ s h stood. vsa_answered now told.blocks (after h es) s a l n k es (said.Refused r.DeviceFault) [] refl
-        (vsa_lost host told.blocks h s a l n k i place app stood.stands small some app_name label_name ok there compact spans taken false es made now items kept failed grants clock refl);
+        (vsa_lost host told.blocks h s a l n k i place app stood.stands small some app_name label_name ok there compact spans taken false es made now items kept failed grants clock addresses refl);
     fronts = fronts false made;
   }
 
   pub steps_granted : plan true → (app1 : App) → app1.labels ≡ app.labels ++ (l, new_area_cap host.grants) ∷ [] → app1.areas ≡ with_area app.areas host.grants (record { kind = k; slot = i; spans = spans }) → app1.store.region ≡ app.store.region → app1.store.buffers ≡ app.store.buffers → app1.devices ≡ app.devices → app1.name ≡ app.name
-      → now.apps.items ≡ set host.apps.items place app1 → now.free ≡ drop n host.free → now.table ≡ with_slot host.table i (Some (record { app = a; label = l; kind = k; runs = runs_of spans })) → now.failed ≡ host.failed → now.grants ≡ host.grants + 1 → now.clock ≡ host.clock
+      → now.apps.items ≡ set host.apps.items place app1 → now.free ≡ drop n host.free → now.table ≡ with_slot host.table i (Some (record { app = a; label = l; kind = k; runs = runs_of spans })) → now.failed ≡ host.failed → now.grants ≡ host.grants + 1 → now.clock ≡ host.clock → now.own ≡ host.own
       → Steps host now told (Ok (w.vsa a l n k)) es said.Ok []
-  steps_granted made app1 labels held region buffers devices name items free tables failed grants clock = record {
+  steps_granted made app1 labels held region buffers devices name items free tables failed grants clock addresses = record {
     devices = makes_devices _ true es made;
     answered = λ s h stood. vsa_answered now told.blocks (after h es) s a l n k es said.Ok [] refl
-        (vsa_granted host told.blocks h s a l n k i place app stood.stands small some app_name label_name ok there compact spans taken true es made refl now app1 labels held region buffers devices name items free tables failed grants clock);
+        (vsa_granted host told.blocks h s a l n k i place app stood.stands small some app_name label_name ok there compact spans taken true es made refl now app1 labels held region buffers devices name items free tables failed grants clock addresses);
     fronts = fronts true made;
   }
 

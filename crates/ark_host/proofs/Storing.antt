@@ -24,7 +24,7 @@ use Rattle.ark_held.specs.Totals.{bit, total, covers, object_covers}
 use Rattle.ark_held.specs.Around.{Around, slot_at}
 use Rattle.ark_held.specs.Held.{IsObjectOf, AllMatch, AreDistinctLabels, AreOwn, Holds, is_area_cap, area_labels, has_key}
 use Rattle.ark_held.specs.Keeps.{SameAt}
-use Rattle.ark_held.proofs.Keeping.{raw_kept, listed_kept}
+use Rattle.ark_held.proofs.Keeping.{raw_kept, listed_kept, full_at}
 use Rattle.ark_held.proofs.Fresh.{all_free}
 use Rattle.ark_held.proofs.Lists.{same_name, name_same, name_other, not_some, some_same}
 use Rattle.ark_held.proofs.Members.{In, contains_in, in_contains}
@@ -58,30 +58,30 @@ module _ (size : ℕ) (slots : List Slot) (agree : SlotsAgree size slots) (a : L
 
 -- The areas, as the disk goes on beside them.
 
-area_kept : (h now : History) (t : Slot) (o : Object) → SameAt h now t.blocks → IsStoredArea h t o → IsStoredArea now t o
-area_kept h now t (Objects.raw r) same is = (is.0, raw_kept h now t.blocks r same is.1)
-area_kept h now t (Objects.log g) same is = record { same_kind = is.same_kind; no_raw = is.no_raw; blocks = is.blocks; closed = is.closed; listed = listed_kept h now t.blocks g same is.listed }
-area_kept h now t (Objects.vsic v) same is = absurd is
-area_kept h now t (Objects.vnic v) same is = absurd is
-area_kept h now t (Objects.filter f c) same is = absurd is
-area_kept h now t (Objects.door d) same is = absurd is
-area_kept h now t (Objects.rate q b) same is = absurd is
-area_kept h now t (Objects.buffer b) same is = absurd is
-area_kept h now t (Objects.socket k) same is = absurd is
+area_kept : (h now : History) (t : Slot) (o : Object) → now.base ≡ h.base → SameAt h now t.blocks → IsStoredArea h t o → IsStoredArea now t o
+area_kept h now t (Objects.raw r) base same is = (is.0, raw_kept h now t.blocks r same is.1)
+area_kept h now t (Objects.log g) base same is = record { same_kind = is.same_kind; no_raw = is.no_raw; blocks = is.blocks; closed = is.closed; listed = listed_kept h now t.blocks g same is.listed; full = full_at h now t.blocks base same is.full }
+area_kept h now t (Objects.vsic v) base same is = absurd is
+area_kept h now t (Objects.vnic v) base same is = absurd is
+area_kept h now t (Objects.filter f c) base same is = absurd is
+area_kept h now t (Objects.door d) base same is = absurd is
+area_kept h now t (Objects.rate q b) base same is = absurd is
+area_kept h now t (Objects.buffer b) base same is = absurd is
+area_kept h now t (Objects.socket k) base same is = absurd is
 
-all_kept : (h now : History) (n : ℕ) (ts : List Slot) (xs : List Held) → ((t : Slot) → In ts t → SameAt h now t.blocks) → AllStored h n ts xs → AllStored now n ts xs
-all_kept h now n [] [] same all = tt
-all_kept h now n [] (x ∷ xs) same all = absurd all
-all_kept h now n (t ∷ ts) [] same all = absurd all
-all_kept h now n (t ∷ ts) (x ∷ xs) same all = (
-  record { label = all.0.label; serial = all.0.serial; object = area_kept h now t x.object (same t (inl refl)) all.0.object },
-  all_kept h now (n + 1) ts xs (λ u among. same u (inr among)) all.1,
+all_kept : (h now : History) (n : ℕ) (ts : List Slot) (xs : List Held) → now.base ≡ h.base → ((t : Slot) → In ts t → SameAt h now t.blocks) → AllStored h n ts xs → AllStored now n ts xs
+all_kept h now n [] [] base same all = tt
+all_kept h now n [] (x ∷ xs) base same all = absurd all
+all_kept h now n (t ∷ ts) [] base same all = absurd all
+all_kept h now n (t ∷ ts) (x ∷ xs) base same all = (
+  record { label = all.0.label; serial = all.0.serial; object = area_kept h now t x.object base (same t (inl refl)) all.0.object },
+  all_kept h now (n + 1) ts xs base (λ u among. same u (inr among)) all.1,
 )
 
-pub holds_kept : (g0 g1 : ℕ) (h now : History) (ts : List Slot) (m : Machine) → g0 ≤ g1 → ((t : Slot) → In ts t → SameAt h now t.blocks) → HoldsStored g0 h ts m → HoldsStored g1 now ts m
-holds_kept g0 g1 h now ts m more same holds = record {
+pub holds_kept : (g0 g1 : ℕ) (h now : History) (ts : List Slot) (m : Machine) → g0 ≤ g1 → now.base ≡ h.base → ((t : Slot) → In ts t → SameAt h now t.blocks) → HoldsStored g0 h ts m → HoldsStored g1 now ts m
+holds_kept g0 g1 h now ts m more base same holds = record {
   serial = holds.serial;
-  stored = all_kept h now 0 ts m.held same holds.stored;
+  stored = all_kept h now 0 ts m.held base same holds.stored;
   below = λ t among. let lt = holds.below t among in omega (arith, more, lt);
 }
 
@@ -217,7 +217,7 @@ no_frames h n j (t ∷ ts) (x ∷ xs) all = let rest = no_frames h (n + 1) j ts 
 
 -- An application that was just made holds what is stored for it.
 
-module _ (x : Around) (ts : List Slot) (numbers : x.numbers ≡ stored_numbers ts) (labels : x.labels ≡ stored_labels ts) (areas : x.areas ≡ stored_areas ts) (chains : (g : ℕ) → x.tables.chains g ≡ None)
+module _ (x : Around) (ts : List Slot) (numbers : x.numbers ≡ stored_numbers ts) (labels : x.labels ≡ stored_labels ts) (areas : x.areas ≡ stored_areas ts)
     (there : (t : Slot) → In ts t → slot_at x t.label ≡ Some t) (only : (l : List ℕ) (t : Slot) → slot_at x l ≡ Some t → In ts t × (l ≡ t.label)) (apart : AreApart ts) where
   kept_there : (t : Slot) → In ts t → lookup (nat_eq t.index) x.areas ≡ Some (area_in t)
   kept_there t h = ap (λ (l : AreaList). lookup (nat_eq t.index) l) areas ∙ area_there ts t apart h
@@ -232,8 +232,9 @@ module _ (x : Around) (ts : List Slot) (numbers : x.numbers ≡ stored_numbers t
     same_kind = is.same_kind;
     no_raw = is.no_raw;
     blocks = is.blocks;
-    opened = rw (chains t.index, is.closed) tt;
+    opened = rw is.closed tt;
     listed = is.listed;
+    full = is.full;
   }
   object_stands t (Objects.vsic v) h is = absurd is
   object_stands t (Objects.vnic v) h is = absurd is

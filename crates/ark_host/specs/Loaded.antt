@@ -1,5 +1,5 @@
 -- What a host is made of that is loaded from a device that was there.
-use Rattle.std.specs.Prelude.{◌≡◌, ◌≤◌, ◌<◌, ◌↔◌, ℕ, List, [], ◌∷◌, length, Option, Result, Ok, Some, None, OnOk, Contains}
+use Rattle.std.specs.Prelude.{◌≡◌, ◌≤◌, ◌<◌, ◌↔◌, ℕ, List, [], length, Option, Result, Ok, Some, None, OnOk, Contains}
 use Rattle.ark_media.specs.Journal.{Event, History, AreReads}
 use Rattle.ark_media.specs.Calls.{Told, Went}
 use Rattle.ark_media.specs.Standing.{after}

@@ -10,7 +10,7 @@ use Rattle.ark_machine.specs.Objects.{Object}
 use Rattle.ark_machine.specs.Machine.{Machine, Held}
 use Rattle.ark_machine.specs.Told.{own_slots}
 use Rattle.ark_held.specs.Words.{Labels, AreaList, area_in, new_area_cap}
-use Rattle.ark_held.specs.Areas.{IsRaw, IsListed}
+use Rattle.ark_held.specs.Areas.{IsRaw, IsListed, AreFullIf}
 use Rattle.ark_host.specs.Tabled.{table_of}
 
 -- the slots of an application, in the order of the table
@@ -24,6 +24,7 @@ pub record IsClosedLog (h : History) (t : Slot) (g : Log) : Type 0 where
   pub blocks : g.blocks ≡ length t.blocks
   pub closed : g.opened ≡ None
   pub listed : IsListed h t.blocks g
+  pub full : AreFullIf h t.blocks
 
 -- the object is the area of this slot
 abbrev pub IsStoredArea : History → Slot → Object → Type 0

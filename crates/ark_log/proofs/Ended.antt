@@ -20,7 +20,7 @@ pub ended_lies : (v : OpenChain) (taken : List Bool) (buf : Option Piece) → Ma
 ended_lies v taken buf may = subst (λ o. HasBuffersIn taken (record (returned_at v o buf) { done = v.done + 1 })) (sym may.is) (record { header = may.lies.header; waiting = may.lies.waiting })
 
 -- A buffer that is lent to a descriptor and taken back is where it was.
-lent_back : (v : OpenChain) (stage : Stage) → 0 < length v.waiting → stage_with (stage_with v stage None) stage (posting_of v stage).buf ≡ v
+pub lent_back : (v : OpenChain) (stage : Stage) → 0 < length v.waiting → stage_with (stage_with v stage None) stage (posting_of v stage).buf ≡ v
 lent_back v stage some = by stage v.waiting refl some
   where
     first_back : (ws : List Waiting) → 0 < length ws → first_with (oldest_in ws).buf (first_with None ws) ≡ ws
@@ -38,11 +38,11 @@ lent_back v stage some = by stage v.waiting refl some
     by Clear ws is less = refl
     by Flush ws is less = refl
 
-same_oldest : (ws : List Waiting) → ((oldest_in (first_with None ws)).command ≡ (oldest_in ws).command) × ((oldest_in (first_with None ws)).start ≡ (oldest_in ws).start) × ((oldest_in (first_with None ws)).len ≡ (oldest_in ws).len)
+pub same_oldest : (ws : List Waiting) → ((oldest_in (first_with None ws)).command ≡ (oldest_in ws).command) × ((oldest_in (first_with None ws)).start ≡ (oldest_in ws).start) × ((oldest_in (first_with None ws)).len ≡ (oldest_in ws).len)
 same_oldest [] = (refl, refl, refl)
 same_oldest (w ∷ ws) = (refl, refl, refl)
 
-same_command : (v : OpenChain) (stage : Stage) → stage_of (stage_with v stage None) ≡ stage_of v
+pub same_command : (v : OpenChain) (stage : Stage) → stage_of (stage_with v stage None) ≡ stage_of v
 same_command v Load = ap (λ c. slice_get (stages_of c) v.done) (same_oldest v.waiting).0
 same_command v Draft = ap (λ c. slice_get (stages_of c) v.done) (same_oldest v.waiting).0
 same_command v Mark = ap (λ c. slice_get (stages_of c) v.done) (same_oldest v.waiting).0
@@ -55,7 +55,7 @@ own_buffer v right some =
     let same = same_oldest v.waiting in
     transport (λ i. IfSome (oldest v).buf (λ b. (b.start ≡ sym same.1 i) × (b.len ≡ 512 * entry_blocks (sym same.2 i)))) (oldest_has v right some).1
 
-its_buffer : (v : OpenChain) (stage : Stage) → IsRight v → 0 < length v.waiting → IsOfStage (stage_with v stage None) stage (posting_of v stage).buf
+pub its_buffer : (v : OpenChain) (stage : Stage) → IsRight v → 0 < length v.waiting → IsOfStage (stage_with v stage None) stage (posting_of v stage).buf
 its_buffer v Load right some = own_buffer v right some
 its_buffer v Draft right some = own_buffer v right some
 its_buffer v Mark right some = own_buffer v right some

@@ -28,12 +28,12 @@ first_blocks (x ∷ xs) rest (suc k) le =
     omega (arith, a, b, more)
 
 module _ (v : OpenChain) (l : Entries) (c : log.Command) (cs : List log.Command) (right : IsRight v) (is : StandsFor v l (c ∷ cs)) (h : Header) (start : h.start ≡ v.start) where
-  stored_are : v.stored ≡ log.blocks_of l.payloads
+  pub stored_are : v.stored ≡ log.blocks_of l.payloads
   stored_are =
       let all : take (length l.payloads) l.payloads ≡ l.payloads = take_all (length l.payloads) l.payloads (omega arith) in
       right.stored_is ∙ (λ i. sum_by entry_blocks (take (is.count i) (is.lengths i))) ∙ first_blocks l.payloads (lengths_added (c ∷ cs)) (length l.payloads) (omega arith) ∙ ap log.blocks_of all
 
-  before_are : (k : ℕ) → k ≤ length l.payloads → blocks_before v k ≡ log.blocks_of (take k l.payloads)
+  pub before_are : (k : ℕ) → k ≤ length l.payloads → blocks_before v k ≡ log.blocks_of (take k l.payloads)
   before_are k le = ap (λ t. sum_by entry_blocks (take k t)) is.lengths ∙ first_blocks l.payloads (lengths_added (c ∷ cs)) k le
 
   -- of a list whose first k entries are dropped

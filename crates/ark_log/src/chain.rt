@@ -98,6 +98,13 @@ impl Chain {
         self.waiting.len() as u32
     }
 
+    /// The grant of its area.
+    pub fn grant(&self) -> u64
+        ensures { result ≡ self.now.grant }
+    {
+        self.grant
+    }
+
     /// Whether a descriptor of it has failed since it was opened.
     pub fn failed(&self) -> bool
         ensures { result ≡ self.now.failed }

@@ -26,6 +26,7 @@ use Rattle.ark_held.specs.declared.card.StorageCard.{StorageCard}
 use Rattle.ark_held.proofs.Lists.{le_true, le_false, each_more, total_last}
 use Rattle.ark_held.proofs.Doing.{comes}
 use Rattle.ark_held.proofs.Parts.{CountsAlike}
+use Rattle.ark_held.proofs.Opens.{shut_stays}
 use Rattle.ark_own.specs.Keys.{card_key}
 use Rattle.ark_own.proofs.OfCards.{HasCard, its, full_same, posted_now, unreaped_now, bound_now, pace_now, door_now, size_now, moved_now, opens_now, now, card_keeps, card_opens, kept_now, card_altered, done}
 
@@ -59,15 +60,15 @@ module _ (t : Told) (app app1 : App) (v : List ℕ) (key : ℕ) (is : Ok key ≡
     (labels : app1.labels ≡ app.labels) (doors : app1.devices.doors ≡ app.devices.doors) (rates : app1.devices.rates ≡ app.devices.rates) (store : app1.store ≡ app.store) (areas : app1.areas ≡ app.areas) (name : app1.name ≡ app.name) where
   module _ (y : Beyond) (h : Holds (around y app)) (c : HasCard (around y app) v key) where
     abbrev after : Around
-    after = now app app1 v key is one (with_posted d one) here changes refl labels doors rates store areas y h c (more c.vsic) (alike c.vsic)
+    after = now app app1 v key is one (with_posted d one) here changes (shut_stays one (with_posted d one) free) labels doors rates store areas y h c (more c.vsic) (alike c.vsic)
 
     fits : IsCard after v c.cap (more c.vsic)
     fits =
-        let keeps = card_keeps app app1 v key is one (with_posted d one) here changes refl labels doors rates store areas y h c (more c.vsic) (alike c.vsic) in
+        let keeps = card_keeps app app1 v key is one (with_posted d one) here changes (shut_stays one (with_posted d one) free) labels doors rates store areas y h c (more c.vsic) (alike c.vsic) in
         record {
           its_kind = c.fits.its_kind;
           card = kept_card (with_posted d one);
-          kept = kept_now app app1 v key is one (with_posted d one) here changes refl labels doors rates store areas y h c (more c.vsic) (alike c.vsic);
+          kept = kept_now app app1 v key is one (with_posted d one) here changes (shut_stays one (with_posted d one) free) labels doors rates store areas y h c (more c.vsic) (alike c.vsic);
           size = size_now app v key is one here y c;
           posted = each_more (IsJob after one.log) one.vsic.ring.posted c.vsic.queue.posted d flush (posted_now app v key is one here y c after keeps) (job, buf);
           unreaped = unreaped_now app v key is one here y c after keeps;
@@ -75,11 +76,11 @@ module _ (t : Told) (app app1 : App) (v : List ℕ) (key : ℕ) (is : Ok key ≡
           bound = bound_now app v key is one here y c after keeps;
           pace = pace_now app v key is one here y c after keeps;
           door = door_now app v key is one here y c after keeps;
-          log = opens_now app v key is one here y c ∙ sym (card_opens app app1 v key is one (with_posted d one) here changes refl labels doors rates store areas y h c (more c.vsic) (alike c.vsic));
+          log = opens_now app v key is one here y c ∙ sym (card_opens app app1 v key is one (with_posted d one) here changes (shut_stays one (with_posted d one) free) labels doors rates store areas y h c (more c.vsic) (alike c.vsic));
         }
 
     held : Holds after
-    held = card_altered app app1 v key is one (with_posted d one) here changes refl labels doors rates store areas y h c (more c.vsic) (alike c.vsic) fits
+    held = card_altered app app1 v key is one (with_posted d one) here changes (shut_stays one (with_posted d one) free) labels doors rates store areas y h c (more c.vsic) (alike c.vsic) fits
 
   pub flush_done : Acts t app app1 (λ m g. rows.flush_card m v g) [] said.Ok []
   flush_done = comes t app app1 (λ m g. rows.flush_card m v g) said.Ok [] areas name (λ y g sited h.

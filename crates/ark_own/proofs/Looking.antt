@@ -1,6 +1,6 @@
 -- The row of `look`.
 use Rattle.std.proofs.Common.{◌≡◌, ℕ, true, not, List, [], ◌∷◌, refl, sym, ◌∙◌, ap}
-use Rattle.std.specs.Prelude.{Option, Some, None, Ok, Err, is_none, option_and_then}
+use Rattle.std.specs.Prelude.{Option, Some, None, Ok, Err, is_none}
 use Rattle.ark_base.specs.Conditions.{Conditions, none, early}
 use Rattle.ark_base.specs.declared.refusal.Refusal.{Refusal}
 use Rattle.ark_base.specs.declared.refusal.Refusal.TheVariants as r
@@ -35,6 +35,7 @@ use Rattle.ark_held.proofs.Creating.{but}
 use Rattle.ark_held.proofs.Granted.{not_but}
 use Rattle.ark_held.proofs.Doing.{comes, never, refused_first, refuses}
 use Rattle.ark_held.proofs.Parts.{KeepsParts, altered}
+use Rattle.ark_held.proofs.Opens.{stays_same}
 use Rattle.ark_own.specs.Keys.{door_key}
 use Rattle.ark_own.proofs.OfDoors.{HasDoor, HasNone, found_door, its, entry_is}
 
@@ -71,7 +72,7 @@ module _ (t : Told) (app : App) (l : List ℕ) where
         store = store;
         areas = areas;
         labels = λ k c at. ap (λ (ls : Labels). value_at ls k) labels ∙ at;
-        logs = λ k c at kind. ap (λ (cs : List (Option StorageCard)). option_and_then (λ z. z.log) (card_kept cs c.key)) cards;
+        logs = λ k c at kind q grant there on. stays_same grant q (card_kept app.devices.cards c.key) (card_kept app1.devices.cards c.key) (ap (λ (cs : List (Option StorageCard)). card_kept cs c.key) cards) there;
         cards = λ k c stays at kind. ap (λ (cs : List (Option StorageCard)). card_kept cs c.key) cards;
         doors = λ k c stays at kind. changes.others c.key
             (λ e. other_name l k (not_but l k stays) (h.own.keys l k d.cap c d.label at (d.fits.its_kind ∙ sym kind) (ap has_key d.fits.its_kind) (d.key_is ∙ sym e)));

@@ -1,6 +1,6 @@
 -- The row of `vsic`.
 use Rattle.std.proofs.Common.{◌≡◌, ℕ, ◌<◌, ◌≤◌, Bool, true, false, not, List, [], ◌∷◌, ◌++◌, length, refl, sym, ◌∙◌, ap, arith, bytes_eq}
-use Rattle.std.specs.Prelude.{Option, Some, None, ◌||◌, is_some, option_map, option_and_then, nat_le}
+use Rattle.std.specs.Prelude.{Option, Some, None, ◌||◌, is_some, option_map, nat_le}
 use Rattle.ark_base.specs.Conditions.{Conditions, none}
 use Rattle.ark_base.specs.declared.refusal.Refusal.TheVariants as refusal
 use Rattle.ark_media.specs.Calls.{Told}
@@ -39,6 +39,7 @@ use Rattle.ark_held.proofs.Doing.{makes, refused_first, refuses}
 use Rattle.ark_held.proofs.Finding.{there_same, full_is, stands_at, count_cards}
 use Rattle.ark_held.proofs.Lending.{none_open}
 use Rattle.ark_held.proofs.Parts.{KeepsParts, added}
+use Rattle.ark_held.proofs.Opens.{stays_same}
 use Rattle.ark_held.specs.Held.{card_labels}
 use Rattle.ark_own.proofs.Making.{free_name}
 
@@ -119,7 +120,7 @@ module _ (t : Told) (app : App) (v : List ℕ) (size grant : ℕ) where
             store = store;
             areas = areas;
             labels = λ k c is. ap (λ (ls : Labels). value_at ls k) labels ∙ lookup_front (bytes_eq k) app.labels (v, cap) c is;
-            logs = λ k c is kind. ap (λ o. option_and_then (λ z. z.log) o) (same_card y h k c is kind);
+            logs = λ k c is kind q g there on. stays_same g q (card_kept app.devices.cards c.key) (card_kept app1.devices.cards c.key) (same_card y h k c is kind) there;
             cards = λ k c stays is kind. same_card y h k c is kind;
             doors = λ k c stays is kind. ap (λ (ds : List (Option Counts)). slot ds c.key) doors;
             rates = λ k c stays is kind. ap (λ (rs : List (Option Allowance)). rate_kept rs c.key) rates;

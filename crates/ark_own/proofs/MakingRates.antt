@@ -1,6 +1,6 @@
 -- The row of `rate`.
 use Rattle.std.proofs.Common.{◌≡◌, ℕ, ◌<◌, ◌≤◌, true, false, not, List, [], ◌∷◌, ◌++◌, length, refl, sym, ◌∙◌, ap, bytes_eq}
-use Rattle.std.specs.Prelude.{Option, Some, None, is_some, option_map, option_and_then}
+use Rattle.std.specs.Prelude.{Option, Some, None, is_some, option_map}
 use Rattle.ark_base.specs.Conditions.{Conditions, none}
 use Rattle.ark_base.specs.declared.refusal.Refusal.TheVariants as refusal
 use Rattle.ark_media.specs.Calls.{Told}
@@ -29,6 +29,7 @@ use Rattle.ark_held.proofs.Doing.{makes, refused_first, refuses}
 use Rattle.ark_held.proofs.Finding.{there_same, full_is, stands_at}
 use Rattle.ark_held.proofs.Parts.{KeepsParts, added}
 use Rattle.ark_own.proofs.Making.{free_name, few_labels}
+use Rattle.ark_held.proofs.Opens.{stays_same}
 
 abbrev conditions : Machine → List ℕ → Conditions
 conditions m l = record none { no_application = not m.made; name_taken = is_some (at m l); limit = is_full m }
@@ -70,7 +71,7 @@ module _ (t : Told) (app : App) (l : List ℕ) (q b grant : ℕ) where
         store = store;
         areas = areas;
         labels = λ k c is. ap (λ (ls : Labels). value_at ls k) labels ∙ lookup_front (bytes_eq k) app.labels (l, cap) c is;
-        logs = λ k c is kind. ap (λ (cs : List (Option StorageCard)). option_and_then (λ z. z.log) (card_kept cs c.key)) cards;
+        logs = λ k c at kind q grant1 there on. stays_same grant1 q (card_kept app.devices.cards c.key) (card_kept app1.devices.cards c.key) (ap (λ (cs : List (Option StorageCard)). card_kept cs c.key) cards) there;
         cards = λ k c stays is kind. ap (λ (cs : List (Option StorageCard)). card_kept cs c.key) cards;
         doors = λ k c stays is kind. ap (λ (ds : List (Option Counts)). slot ds c.key) doors;
         rates = λ k c stays is kind. ap (λ o. option_map allowed o) (changes.others c.key (λ e. apart_key y h k c is kind e));

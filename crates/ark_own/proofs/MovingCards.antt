@@ -1,5 +1,5 @@
 -- The row of `dev`: one move of a storage card.
-use Rattle.std.proofs.Common.{◌≡◌, inl, ℕ, true, false, not, ◌&&◌, List, [], ◌∷◌, refl, sym, ◌∙◌, ap, subst, arith}
+use Rattle.std.proofs.Common.{◌≡◌, inl, ℕ, true, false, not, ◌&&◌, List, [], ◌∷◌, refl, sym, ◌∙◌, ap, subst}
 use Rattle.std.specs.Prelude.{Option, Some, None, Ok, Err, IfSome, is_some, is_none, option_map}
 use Rattle.std.proofs.lemmas.Bool.{false≢true}
 use Rattle.ark_base.specs.Conditions.{Conditions, none, early}
@@ -14,7 +14,6 @@ use Rattle.ark_script.specs.declared.said.Said.TheVariants as said
 use Rattle.ark_caps.specs.Labels.{value_at}
 use Rattle.ark_caps.specs.declared.capability.Capability.{Capability}
 use Rattle.ark_caps.specs.declared.capability.CapKind.TheVariants as cap_kind
-use Rattle.ark_caladan.specs.Chain.{Opened}
 use Rattle.ark_objects.specs.Held.{at as slot, Changes}
 use Rattle.ark_vic.specs.Pace.{Pace}
 use Rattle.ark_vsic.specs.Card.{Card, head_of}
@@ -25,21 +24,19 @@ use Rattle.ark_vsic.specs.declared.due.Moved.{Moved}
 use Rattle.ark_machine.specs.Objects
 use Rattle.ark_machine.specs.Objects.{Object, Vsic, Vnic, Paced, as_vsic, as_vnic}
 use Rattle.ark_machine.specs.Machine.{Machine, Held, at, missing, vsic_at, vnic_at}
-use Rattle.ark_machine.specs.Control.{is_open_on}
 use Rattle.ark_machine.specs.Devices as devices
 use Rattle.ark_machine.specs.Moves.{Move, move, row_of, first_end}
 use Rattle.ark_machine.specs.Row.{Row, Given, Ended, answer}
 use Rattle.ark_machine.specs.Follow.{ends_of}
 use Rattle.ark_held.specs.Words.{Labels, AreaList}
-use Rattle.ark_held.specs.Totals.{bit, total}
-use Rattle.ark_held.specs.Kept.{CardKept, ChainKept, PaceKept, Tables}
+use Rattle.ark_held.specs.Kept.{CardKept, PaceKept, Tables}
 use Rattle.ark_held.specs.Stored.{buffer_kept}
 use Rattle.ark_held.specs.Rings.{kept_card, card_kept}
 use Rattle.ark_held.specs.Pacing.{rate_kept}
 use Rattle.ark_held.specs.Around.{Around, Both}
-use Rattle.ark_held.specs.Areas.{IsOpened}
+use Rattle.ark_held.specs.Idle.{is_idle}
 use Rattle.ark_held.specs.Cards.{IsWatched}
-use Rattle.ark_held.specs.Held.{IsObjectOf, AtLabel, AllMatch, Holds}
+use Rattle.ark_held.specs.Held.{IsObjectOf, AtLabel, Holds}
 use Rattle.ark_held.specs.Beyond.{Beyond, around, tables_of}
 use Rattle.ark_held.specs.Does.{ActsAt, Acts}
 use Rattle.ark_held.specs.Moving.{card_of, blocks_held, pace_moved, card_moved, vsic_moved, said_of, area_named}
@@ -137,33 +134,6 @@ pace_same rate p due.Waits now = refl
 pace_same rate p (due.Ends o) now = refl
 pace_same rate p due.Sync now = refl
 
--- No log is open yet.
-module _ (r : Beyond) (app : App) (l : List ℕ) where
-  closed : (grant : ℕ) (o : Option Opened) → Both {X = ChainKept} (IsOpened (around r app) grant) None o → o ≡ None
-  closed grant None both = refl
-  closed grant (Some o) both = absurd both
-
-  not_open : (k : List ℕ) (c : Capability) (o : Object) → IsObjectOf (around r app) k c o → bit (is_open_on l o) ≡ 0
-  not_open k c (Objects.log z) f = let e = closed c.grant z.opened f.opened in rw e refl
-  not_open k c (Objects.raw z) f = refl
-  not_open k c (Objects.vsic z) f = refl
-  not_open k c (Objects.vnic z) f = refl
-  not_open k c (Objects.filter z y) f = refl
-  not_open k c (Objects.door z) f = refl
-  not_open k c (Objects.rate z y) f = refl
-  not_open k c (Objects.buffer z) f = refl
-  not_open k c (Objects.socket z) f = refl
-
-  none_open : (ps : Labels) (hs : List Held) → AllMatch (around r app) ps hs → total (λ h. bit (is_open_on l h.object)) hs ≡ 0
-  none_open [] [] all = refl
-  none_open (p ∷ ps) (h ∷ hs) all = let one = not_open p.0 p.1 h.object all.0.object in let rest = none_open ps hs all.1 in omega (arith, one, rest)
-  none_open [] (h ∷ hs) all = absurd all
-  none_open (p ∷ ps) [] all = absurd all
-
-  no_log : (log : Option ℕ) → bit (is_some log) ≡ 0 → log ≡ None
-  no_log None none = refl
-  no_log (Some g) none = absurd (let z : ⊥ = omega (arith, none) in z)
-
 module _ (t : Told) (app : App) (l : List ℕ) where
   pub dev_no_key : (e : Refusal) → Err e ≡ card_key app.labels l → Acts t app app (row l) [] (said.Refused e) []
   dev_no_key e is = refuses t app (row l) e (λ r g sited h. refused_first r.machine (conditions r.machine l) _ e (why r app l h e (found_card (around r app) l h (Err e) is)))
@@ -178,7 +148,7 @@ module _ (t : Told) (app : App) (l : List ℕ) where
         (changes : Changes app.devices.cards app1.devices.cards key (Some (record one { vsic = vsic_moved one.vsic (blocks_held app.areas) now a })))
         (rings : IsWatching one.door (slot app.devices.doors) → RingsAt a one.door (slot app.devices.doors) (slot app1.devices.doors))
         (sound : IfSome (head_of one.vsic.ring) (λ d. CanMove app.store.region.taken one.vsic.ring.moved d)) (distinct : IfSome (area_named (head_of one.vsic.ring) app.areas) (λ z. AreDistinct z.1))
-        (labels : app1.labels ≡ app.labels) (rates : app1.devices.rates ≡ app.devices.rates) (areas : app1.areas ≡ app.areas) (buffers : app1.store.buffers ≡ app.store.buffers) (name : app1.name ≡ app.name) where
+        (labels : app1.labels ≡ app.labels) (rates : app1.devices.rates ≡ app.devices.rates) (areas : app1.areas ≡ app.areas) (buffers : app1.store.buffers ≡ app.store.buffers) (name : app1.name ≡ app.name) (idle : is_idle one.log ≡ true) where
       module _ (r : Beyond) (tick : r.now ≡ now) (h : Holds (around r app)) where
         abbrev v : HasCard (around r app) l key
         v = its app l key is r h
@@ -207,9 +177,6 @@ module _ (t : Told) (app : App) (l : List ℕ) where
         same_kept : kept_card (record one { vsic = vsic_moved one.vsic (blocks_held app.areas) now a }) ≡ card_moved k what a r.now
         same_kept = ap (λ (p : Option PaceKept). record k { ring = ring_after one.vsic.ring a; pace = p }) same_pace
 
-        no_open_log : k.log ≡ None
-        no_open_log = no_log r app l one.log (on.fits.log ∙ none_open r app l app.labels r.machine.held h.held)
-
         was_moved : WasMoved (around r app) v.cap.key k t.history es a app1.store.region (card_kept app1.devices.cards) (slot app1.devices.doors)
         was_moved = record {
           makes = subst (λ (c : Card). Makes (calls_of c what app.store.region) (worked a) es) (sym same_card) (subst (λ (y : Due). Makes (calls_of one.vsic y app.store.region) (worked a) es) same_due makes);
@@ -229,7 +196,7 @@ module _ (t : Told) (app : App) (l : List ℕ) where
         does = λ r g tick came told fresh sited h.
             let m = move r.machine l (first_end (ends_of es)) in
             let done = carries (around r app) l (v r tick h).cap (k r tick h) (v r tick h).vsic (on r tick h) t.history es a app1.store.region (card_kept app1.devices.cards) (slot app1.devices.doors) (was_moved r tick h) told t.blocks sited
-            (in_base r app t es told based sited) sound distinct (no_open_log r tick h) in
+            (in_base r app t es told based sited) sound distinct idle in
             let is_row : row l r.machine g ≡ row_of m = moves_row r.machine l g (v r tick h).held (v r tick h).vsic h.made (v r tick h).there (v r tick h).object ∙ ap (λ (ends : List Ended). row_of (move r.machine l (first_end ends))) came in
             rw is_row (record {
               said = done.said;

@@ -1,7 +1,6 @@
 -- Storage cards, as words on them come to their rows.
-use Rattle.std.proofs.Common.{◌≡◌, inl, inr, ℕ, Bool, true, false, not, List, [], ◌∷◌, refl, sym, ◌∙◌, ap, subst, arith}
-use Rattle.std.specs.Prelude.{Option, Some, None, Result, Ok, Err, is_some, is_none, option_map, option_and_then, nat_le, slice_get}
-use Rattle.std.proofs.lemmas.Bool.{cases_eq}
+use Rattle.std.proofs.Common.{◌≡◌, ℕ, Bool, true, false, not, List, [], ◌∷◌, refl, sym, ◌∙◌, ap, subst, arith}
+use Rattle.std.specs.Prelude.{Option, Some, None, Result, Ok, Err, is_some, is_none, option_map, nat_le, slice_get}
 use Rattle.ark_base.specs.Conditions.{Conditions, none, early}
 use Rattle.ark_base.specs.declared.refusal.Refusal.{Refusal}
 use Rattle.ark_base.specs.declared.refusal.Refusal.TheVariants as r
@@ -28,7 +27,7 @@ use Rattle.ark_held.specs.Pacing.{rate_kept}
 use Rattle.ark_held.specs.Around.{Around, Each, Both}
 use Rattle.ark_held.specs.Cards.{IsCard, IsJob, IsEnded, IsPaced, IsWatched}
 use Rattle.ark_held.specs.Held.{IsObjectOf, AtLabel, Holds, has_key}
-use Rattle.ark_held.specs.Keeps.{Keeps, JobWithin, Within, any_label, any_piece}
+use Rattle.ark_held.specs.Keeps.{Keeps, JobWithin, Within, any_label, any_piece, IsOpenOn, StaysOpen}
 use Rattle.ark_held.specs.Beyond.{Beyond, around}
 use Rattle.ark_held.specs.Does.{Acts}
 use Rattle.ark_held.specs.declared.allowance.Allowance.{Allowance}
@@ -44,6 +43,7 @@ use Rattle.ark_held.proofs.Parts.{KeepsParts, CountsAlike, alter_keeps, alike_al
 use Rattle.ark_held.proofs.Finding.{found}
 use Rattle.ark_held.proofs.Lending.{log_is}
 use Rattle.ark_held.proofs.ByKind.{card_of, no_card}
+use Rattle.ark_held.proofs.Opens.{card_logs_by}
 use Rattle.ark_own.specs.Keys.{card_key, card_under, key_if_card}
 
 -- What is under a label.
@@ -153,24 +153,18 @@ module _ (app : App) (l : List ℕ) (key : ℕ) (is : Ok key ≡ card_key app.la
     opens_now = ap (λ (k : CardKept). bit (is_some k.log)) (sym entry_same) ∙ v.fits.log
 
 -- Another content of the card under a label, where all else stays.
-module _ (app app1 : App) (l : List ℕ) (key : ℕ) (is : Ok key ≡ card_key app.labels l) (one one1 : StorageCard) (here : slot app.devices.cards key ≡ Some one) (changes : Changes app.devices.cards app1.devices.cards key (Some one1)) (log : one1.log ≡ one.log)
+module _ (app app1 : App) (l : List ℕ) (key : ℕ) (is : Ok key ≡ card_key app.labels l) (one one1 : StorageCard) (here : slot app.devices.cards key ≡ Some one) (changes : Changes app.devices.cards app1.devices.cards key (Some one1)) (opens : (grant : ℕ) → IsOpenOn grant (kept_card one) → StaysOpen grant (kept_card one) (Some (kept_card one1)))
     (labels : app1.labels ≡ app.labels) (doors : app1.devices.doors ≡ app.devices.doors) (rates : app1.devices.rates ≡ app.devices.rates) (store : app1.store ≡ app.store) (areas : app1.areas ≡ app.areas) (y : Beyond) (h : Holds (around y app)) (v : HasCard (around y app) l key) where
   same_card : (k : List ℕ) (c : Capability) → but l k ≡ true → value_at app.labels k ≡ Some c → c.kind ≡ cap_kind.Vsic → card_kept app1.devices.cards c.key ≡ card_kept app.devices.cards c.key
   same_card k c stays at kind = ap (λ o. option_map kept_card o)
       (changes.others c.key (λ e. other_name l k (not_but l k stays) (h.own.keys l k v.cap c v.label at (v.fits.its_kind ∙ sym kind) (ap has_key v.fits.its_kind) (v.key_is ∙ sym e))))
-
-  its_log : option_and_then (λ z. z.log) (card_kept app1.devices.cards key) ≡ option_and_then (λ z. z.log) (card_kept app.devices.cards key)
-  its_log = ap (λ o. option_and_then (λ z. z.log) (option_map kept_card o)) changes.changed ∙ log ∙ sym (ap (λ o. option_and_then (λ z. z.log) (option_map kept_card o)) here)
 
   parts : KeepsParts (but l) app app1
   parts = record {
     store = store;
     areas = areas;
     labels = λ k c at. ap (λ (ls : Labels). value_at ls k) labels ∙ at;
-    logs = λ k c at kind. elim (cases_eq c.key key) [
-      | inl e ↦ subst (λ i. option_and_then (λ z. z.log) (card_kept app1.devices.cards i) ≡ option_and_then (λ z. z.log) (card_kept app.devices.cards i)) (sym e) its_log
-      | inr other ↦ ap (λ o. option_and_then (λ z. z.log) (option_map kept_card o)) (changes.others c.key other)
-    ];
+    logs = card_logs_by app.labels app.devices.cards app1.devices.cards key one one1 here changes opens;
     cards = same_card;
     doors = λ k c stays at kind. ap (λ (ds : List (Option Counts)). slot ds c.key) doors;
     rates = λ k c stays at kind. ap (λ (rs : List (Option Allowance)). rate_kept rs c.key) rates;

@@ -38,6 +38,7 @@ use Rattle.ark_own.proofs.OfRates.{HasRate, found_rate, gives_same}
 use Rattle.ark_own.proofs.Watching.{no_net_at}
 use Rattle.ark_own.proofs.OfCards as cards
 use Rattle.ark_own.proofs.OfCards.{HasCard, found_card, its, never_gone, posted_now, unreaped_now, bound_now, door_now, size_now, moved_now, opens_now, card_keeps, card_opens, kept_now, card_altered}
+use Rattle.ark_held.proofs.Opens.{alike_stays}
 
 -- The rate that is named, if one is.
 
@@ -168,15 +169,15 @@ module _ (now : ℕ) (t : Told) (app app1 : App) (v : List ℕ) (d : Option (Lis
     p = pace_of y.machine d
 
     abbrev after : Around
-    after = cards.now app app1 v key its_key one (repaced pace rate one) here changes refl labels doors rates store areas y h c (with_its p c.vsic) (alike p c.vsic)
+    after = cards.now app app1 v key its_key one (repaced pace rate one) here changes (alike_stays one (repaced pace rate one) refl refl refl) labels doors rates store areas y h c (with_its p c.vsic) (alike p c.vsic)
 
     fits : IsCard after v c.cap (with_its p c.vsic)
     fits =
-        let keeps = card_keeps app app1 v key its_key one (repaced pace rate one) here changes refl labels doors rates store areas y h c (with_its p c.vsic) (alike p c.vsic) in
+        let keeps = card_keeps app app1 v key its_key one (repaced pace rate one) here changes (alike_stays one (repaced pace rate one) refl refl refl) labels doors rates store areas y h c (with_its p c.vsic) (alike p c.vsic) in
         record {
           its_kind = c.fits.its_kind;
           card = kept_card (repaced pace rate one);
-          kept = kept_now app app1 v key its_key one (repaced pace rate one) here changes refl labels doors rates store areas y h c (with_its p c.vsic) (alike p c.vsic);
+          kept = kept_now app app1 v key its_key one (repaced pace rate one) here changes (alike_stays one (repaced pace rate one) refl refl refl) labels doors rates store areas y h c (with_its p c.vsic) (alike p c.vsic);
           size = size_now app v key its_key one here y c;
           posted = posted_now app v key its_key one here y c after keeps;
           unreaped = unreaped_now app v key its_key one here y c after keeps;
@@ -184,11 +185,11 @@ module _ (now : ℕ) (t : Told) (app app1 : App) (v : List ℕ) (d : Option (Lis
           bound = bound_now app v key its_key one here y c after keeps;
           pace = begins y tick (its_rate t app v d side.Io key given keys y h) after labels refl;
           door = door_now app v key its_key one here y c after keeps;
-          log = opens_now app v key its_key one here y c ∙ sym (card_opens app app1 v key its_key one (repaced pace rate one) here changes refl labels doors rates store areas y h c (with_its p c.vsic) (alike p c.vsic));
+          log = opens_now app v key its_key one here y c ∙ sym (card_opens app app1 v key its_key one (repaced pace rate one) here changes (alike_stays one (repaced pace rate one) refl refl refl) labels doors rates store areas y h c (with_its p c.vsic) (alike p c.vsic));
         }
 
     held : Holds after
-    held = card_altered app app1 v key its_key one (repaced pace rate one) here changes refl labels doors rates store areas y h c (with_its p c.vsic) (alike p c.vsic) fits
+    held = card_altered app app1 v key its_key one (repaced pace rate one) here changes (alike_stays one (repaced pace rate one) refl refl refl) labels doors rates store areas y h c (with_its p c.vsic) (alike p c.vsic) fits
 
   row_done : (y : Beyond) (g : Given) (h : Holds (around y app)) → HasCard (around y app) v key → rows.pace y.machine v d side.Io g ≡ paced v d side.Io y.machine
   unfolding answer

@@ -37,7 +37,7 @@ use Rattle.ark_held.specs.declared.app.App.{App}
 use Rattle.ark_held.specs.declared.store.Store.{Store}
 use Rattle.ark_held.specs.declared.buffer.Buffer as kept
 use Rattle.ark_held.specs.declared.card.StorageCard.{StorageCard}
-use Rattle.ark_held.proofs.Lists.{by_test, not_some, some_same, same_name, value_behind, value_first}
+use Rattle.ark_held.proofs.Lists.{by_test, not_some, some_same, same_name, value_behind, value_first, none_of}
 use Rattle.ark_held.proofs.ByKind.{buffer_of}
 use Rattle.ark_held.proofs.Devising.{with_devices}
 use Rattle.ark_held.proofs.Doing.{comes, never}
@@ -46,9 +46,11 @@ use Rattle.ark_held.proofs.Exchanging.{HasBoth}
 use Rattle.ark_held.proofs.Finding.{stands_at}
 use Rattle.ark_held.proofs.Parts.{CountsAlike}
 use Rattle.ark_held.proofs.Reaping as back
+use Rattle.ark_held.proofs.Opens.{shut_stays}
 use Rattle.ark_own.specs.Keys.{IsLabelOf, card_key}
 use Rattle.ark_own.specs.Transfers.{said_of}
 use Rattle.ark_own.proofs.OfCards.{HasCard, its, posted_now, unreaped_now, bound_now, pace_now, door_now, size_now, moved_now, opens_now, entry_same, now, card_keeps, card_opens, kept_now, card_altered, done}
+use Rattle.ark_log.specs.Open.{OpenChain}
 
 -- Labels by their places.
 
@@ -76,7 +78,7 @@ module _ (x : Around) (h : Holds x) (b : List ℕ) (key : ℕ) (n : Names x b ca
 
 -- The oldest completion, and what has ended.
 
-record Oldest (x : Around) (log : Option ℕ) (done : Completion) (cs : List Completion) (us : List (Job × Outcome)) : Type 0 where
+record Oldest (x : Around) (log : Option OpenChain) (done : Completion) (cs : List Completion) (us : List (Job × Outcome)) : Type 0 where
   rest : List Completion
   first : cs ≡ done ∷ rest
   job : Job
@@ -85,14 +87,14 @@ record Oldest (x : Around) (log : Option ℕ) (done : Completion) (cs : List Com
   jobs : us ≡ (job, outcome) ∷ others
   ended : IsEnded x log done (job, outcome)
 
-oldest_of : (x : Around) (log : Option ℕ) (done : Completion) (cs : List Completion) (us : List (Job × Outcome)) → slice_get cs 0 ≡ Some done → Each (IsEnded x log) cs us → Oldest x log done cs us
+oldest_of : (x : Around) (log : Option OpenChain) (done : Completion) (cs : List Completion) (us : List (Job × Outcome)) → slice_get cs 0 ≡ Some done → Each (IsEnded x log) cs us → Oldest x log done cs us
 oldest_of x log done [] us is each = absurd (not_some None done refl is)
 oldest_of x log done (c ∷ cs) [] is each = absurd each
 oldest_of x log done (c ∷ cs) (u ∷ us) is each =
     let same : c ≡ done = some_same (Some c) c done refl is in
     record { rest = cs; first = ap (λ z. z ∷ cs) same; job = u.0; outcome = u.1; others = us; jobs = refl; ended = subst (λ z. IsEnded x log z u) same each.0 }
 
-module _ (x : Around) (log : Option ℕ) (free : is_some log ≡ false) (done : Completion) where
+module _ (x : Around) (log : Option OpenChain) (free : is_some log ≡ false) (done : Completion) where
   -- one with no buffer is of a sync
   is_flush : (j : Job) (o : Outcome) → IsEnded x log done (j, o) → done.buf ≡ None → (j ≡ flush) × (done.outcome ≡ o)
   is_flush (transfer t) o is none = absurd (false≢true (sym (ap is_some none) ∙ is.2.some))
@@ -206,19 +208,19 @@ module _ (t : Told) (app : App) (v : List ℕ) (key : ℕ) (is : Ok key ≡ card
       -- A sync.
       module _ (store : app1.store ≡ app.store) (y : Beyond) (h : Holds (around y app)) (c : HasCard (around y app) v key) (o : Oldest (around y app) one.log ended one.vsic.ring.unreaped c.vsic.queue.unreaped) (jobs : c.vsic.queue.unreaped ≡ (flush, o.outcome) ∷ o.others) where
         abbrev after : Around
-        after = now app app1 v key is one (with_reaped one) here cards refl labels doors rates store areas y h c (less o.others c.vsic) (alike c.vsic o.outcome o.others jobs)
+        after = now app app1 v key is one (with_reaped one) here cards (shut_stays one (with_reaped one) free) labels doors rates store areas y h c (less o.others c.vsic) (alike c.vsic o.outcome o.others jobs)
 
         fits : IsCard after v c.cap (less o.others c.vsic)
         fits =
             let like = alike c.vsic o.outcome o.others jobs in
-            let keeps = card_keeps app app1 v key is one (with_reaped one) here cards refl labels doors rates store areas y h c (less o.others c.vsic) like in
+            let keeps = card_keeps app app1 v key is one (with_reaped one) here cards (shut_stays one (with_reaped one) free) labels doors rates store areas y h c (less o.others c.vsic) like in
             let all : Each (IsEnded after one.log) one.vsic.ring.unreaped c.vsic.queue.unreaped = unreaped_now app v key is one here y c after keeps in
             let split : Each (IsEnded after one.log) (ended ∷ o.rest) ((flush, o.outcome) ∷ o.others) =
             subst (λ (zs : List (Job × Outcome)). Each (IsEnded after one.log) (ended ∷ o.rest) zs) jobs (subst (λ (zs : List Completion). Each (IsEnded after one.log) zs c.vsic.queue.unreaped) o.first all) in
             record {
               its_kind = c.fits.its_kind;
               card = kept_card (with_reaped one);
-              kept = kept_now app app1 v key is one (with_reaped one) here cards refl labels doors rates store areas y h c (less o.others c.vsic) like;
+              kept = kept_now app app1 v key is one (with_reaped one) here cards (shut_stays one (with_reaped one) free) labels doors rates store areas y h c (less o.others c.vsic) like;
               size = size_now app v key is one here y c;
               posted = posted_now app v key is one here y c after keeps;
               unreaped = subst (λ (zs : List Completion). Each (IsEnded after one.log) (drop 1 zs) o.others) (sym o.first) split.1;
@@ -226,11 +228,11 @@ module _ (t : Told) (app : App) (v : List ℕ) (key : ℕ) (is : Ok key ≡ card
               bound = bound_now app v key is one here y c after keeps;
               pace = pace_now app v key is one here y c after keeps;
               door = door_now app v key is one here y c after keeps;
-              log = opens_now app v key is one here y c ∙ sym (card_opens app app1 v key is one (with_reaped one) here cards refl labels doors rates store areas y h c (less o.others c.vsic) like);
+              log = opens_now app v key is one here y c ∙ sym (card_opens app app1 v key is one (with_reaped one) here cards (shut_stays one (with_reaped one) free) labels doors rates store areas y h c (less o.others c.vsic) like);
             }
 
         held : Holds after
-        held = card_altered app app1 v key is one (with_reaped one) here cards refl labels doors rates store areas y h c (less o.others c.vsic) (alike c.vsic o.outcome o.others jobs) fits
+        held = card_altered app app1 v key is one (with_reaped one) here cards (shut_stays one (with_reaped one) free) labels doors rates store areas y h c (less o.others c.vsic) (alike c.vsic o.outcome o.others jobs) fits
 
       pub flushed : app1.store ≡ app.store → ended.buf ≡ None → Acts t app app1 row [] (said.Flushed ended.outcome) []
       flushed store none = comes t app app1 row (said.Flushed ended.outcome) [] areas name (λ y g sited h.
@@ -292,7 +294,7 @@ module _ (t : Told) (app : App) (v : List ℕ) (key : ℕ) (is : Ok key ≡ card
               (subst (λ i. Changes app.store.buffers app1.store.buffers i (Some (record the_lent.0 { buf = Some right }))) (sym n.its_key) (restored the_lent.0 the_lent.1 the_lent.2 the_lent.0 the_lent.1))
 
           holds_then : Holds (around (record y { machine = with_object y.machine v (Objects.vsic (less o.others c.vsic)) }) app1)
-          holds_then = back.reaped y app app1 v f.t.buffer h both f.t refl one here_then the_lent.0 was_then ended o.rest o.first o.outcome o.others jobs cards_then buffers_then region labels doors rates areas
+          holds_then = back.reaped y app app1 v f.t.buffer h both f.t refl one here_then (none_of one.log free) the_lent.0 was_then ended o.rest o.first o.outcome o.others jobs cards_then buffers_then region labels doors rates areas
 
           said_is : said_of ended.job label ended.outcome ≡ reaped (transfer f.t) o.outcome
           said_is = ap (λ l. said_of ended.job l ended.outcome) same_label ∙ ap (λ z. said_of ended.job f.t.buffer z) f.outcome ∙ ap (λ j. said_of j f.t.buffer o.outcome) f.does ∙ by f.t.put

@@ -35,7 +35,7 @@ use Rattle.ark_held.specs.declared.app.App.{App}
 use Rattle.ark_held.specs.declared.areas.Area.{Area}
 use Rattle.ark_held.specs.declared.buffer.Buffer as kept
 use Rattle.ark_held.specs.declared.card.StorageCard.{StorageCard}
-use Rattle.ark_held.proofs.Lists.{lt_true, lt_false, le_true, le_false, some_same}
+use Rattle.ark_held.proofs.Lists.{lt_true, lt_false, le_true, le_false, some_same, none_of}
 use Rattle.ark_held.proofs.Doing.{comes}
 use Rattle.ark_held.proofs.Exchanging.{HasBoth}
 use Rattle.ark_held.proofs.Posting.{posted, then}
@@ -230,7 +230,7 @@ module _ (put : Bool) (v s b : List ℕ) (off count : ℕ) (t : Told) (app : App
                   buffers_then = subst (λ i. Changes app.store.buffers app1.store.buffers i (Some (record lent { buf = None }))) (sym (its_buffer y h).key_is) buffers_now
 
                   abbrev after : Around
-                  after = then y app app1 v b h both (its_transfer put v s b off count y.machine) refl one here_card lent here_buffer right d cards_then buffers_then region labels doors rates areas
+                  after = then y app app1 v b h both (its_transfer put v s b off count y.machine) refl one here_card (none_of one.log free) lent here_buffer right d cards_then buffers_then region labels doors rates areas
 
                   entry : both.buffer_fits.entry ≡ kept_of lent
                   entry = buffers.entry_same app b key two.1 lent was y (its_buffer y h)
@@ -278,7 +278,7 @@ module _ (put : Bool) (v s b : List ℕ) (off count : ℕ) (t : Told) (app : App
                       }
 
                   now_holds : Holds after
-                  now_holds = posted y app app1 v b h both (its_transfer put v s b off count y.machine) refl one here_card lent here_buffer right d cards_then buffers_then region labels doors rates areas its_job
+                  now_holds = posted y app app1 v b h both (its_transfer put v s b off count y.machine) refl one here_card (none_of one.log free) lent here_buffer right d cards_then buffers_then region labels doors rates areas its_job
 
                 pub post_done : Acts t app app1 (row put v s b off count) [] said.Ok []
                 post_done = comes t app app1 (row put v s b off count) said.Ok [] areas name (λ y g sited h.

@@ -30,6 +30,7 @@ use Rattle.ark_held.proofs.Lists.{not_some, some_same}
 use Rattle.ark_held.proofs.Finding.{found}
 use Rattle.ark_held.proofs.Doing.{comes, refused_first, refuses}
 use Rattle.ark_held.proofs.Parts.{CountsAlike}
+use Rattle.ark_held.proofs.Opens.{alike_stays}
 use Rattle.ark_own.specs.Keys.{both_keys, card_key, door_key, door_given, some_key}
 use Rattle.ark_own.proofs.Looked.{each_key}
 use Rattle.ark_own.proofs.OfDoors as doors
@@ -181,15 +182,15 @@ module _ (t : Told) (app app1 : App) (v : List ℕ) (d : Option (List ℕ)) (key
 
   module _ (y : Beyond) (h : Holds (around y app)) (c : HasCard (around y app) v key) where
     abbrev after : Around
-    after = now app app1 v key its_key one (seen given one) here changes refl labels doors rates store areas y h c (sees d c.vsic) (alike d c.vsic)
+    after = now app app1 v key its_key one (seen given one) here changes (alike_stays one (seen given one) refl refl refl) labels doors rates store areas y h c (sees d c.vsic) (alike d c.vsic)
 
     fits : IsCard after v c.cap (sees d c.vsic)
     fits =
-        let keeps = card_keeps app app1 v key its_key one (seen given one) here changes refl labels doors rates store areas y h c (sees d c.vsic) (alike d c.vsic) in
+        let keeps = card_keeps app app1 v key its_key one (seen given one) here changes (alike_stays one (seen given one) refl refl refl) labels doors rates store areas y h c (sees d c.vsic) (alike d c.vsic) in
         record {
           its_kind = c.fits.its_kind;
           card = kept_card (seen given one);
-          kept = kept_now app app1 v key its_key one (seen given one) here changes refl labels doors rates store areas y h c (sees d c.vsic) (alike d c.vsic);
+          kept = kept_now app app1 v key its_key one (seen given one) here changes (alike_stays one (seen given one) refl refl refl) labels doors rates store areas y h c (sees d c.vsic) (alike d c.vsic);
           size = size_now app v key its_key one here y c;
           posted = posted_now app v key its_key one here y c after keeps;
           unreaped = unreaped_now app v key its_key one here y c after keeps;
@@ -197,11 +198,11 @@ module _ (t : Told) (app app1 : App) (v : List ℕ) (d : Option (List ℕ)) (key
           bound = bound_now app v key its_key one here y c after keeps;
           pace = pace_now app v key its_key one here y c after keeps;
           door = watches (around y app) after d given labels (its_door t app v d side.Io key given keys y h);
-          log = opens_now app v key its_key one here y c ∙ sym (card_opens app app1 v key its_key one (seen given one) here changes refl labels doors rates store areas y h c (sees d c.vsic) (alike d c.vsic));
+          log = opens_now app v key its_key one here y c ∙ sym (card_opens app app1 v key its_key one (seen given one) here changes (alike_stays one (seen given one) refl refl refl) labels doors rates store areas y h c (sees d c.vsic) (alike d c.vsic));
         }
 
     held : Holds after
-    held = card_altered app app1 v key its_key one (seen given one) here changes refl labels doors rates store areas y h c (sees d c.vsic) (alike d c.vsic) fits
+    held = card_altered app app1 v key its_key one (seen given one) here changes (alike_stays one (seen given one) refl refl refl) labels doors rates store areas y h c (sees d c.vsic) (alike d c.vsic) fits
 
   row_done : (y : Beyond) (g : Given) (h : Holds (around y app)) → HasCard (around y app) v key → rows.watch y.machine v d side.Io g ≡ watched v d side.Io y.machine
   unfolding answer

@@ -10,7 +10,7 @@ use crate::rates::{PACED, RATES};
 use crate::reopened::REOPENED;
 use crate::runs::{Finished, run_on};
 use crate::words::{
-    BINDINGS, CARDS_AND_DOORS, DEVICES_GIVEN_UP, EVERY_WORD, FRAMES, TICKS, TRANSFERS,
+    ADDRESSES, BINDINGS, CARDS_AND_DOORS, DEVICES_GIVEN_UP, EVERY_WORD, FRAMES, TICKS, TRANSFERS,
     WORDS_TO_COME,
 };
 use ark_base::Status;
@@ -94,6 +94,7 @@ fn answers_as_the_tables_say(rt: HostRuntime) -> Result<(), Fail> {
         COMMANDS,
         LINES,
         TICKS,
+        ADDRESSES,
         FRAMES,
         WORDS_TO_COME,
         EVERY_WORD,

@@ -33,6 +33,27 @@ tick => refused 1 syntax
 run,--new,200,d => ready 200 0
 tick 01 => refused 1 syntax";
 
+/// The addresses of this end are given once; a line that breaks their form gives none.
+pub(crate) const ADDRESSES: &str = "\
+run,--new,200,d => ready 200 0
+nic 020000000001 10.0.0.1 020000000002 => ok
+nic 020000000001 10.0.0.1 020000000002 => refused 4 name taken
+nic 020000000003 10.0.0.2 020000000004 => refused 4 name taken
+app nic => ok
+
+run,--new,200,d => ready 200 0
+app a => ok
+vsa a s 1 raw => ok
+poke a s 0 0a => ok
+tick 3 => ok 3
+nic 020000000001 10.0.0 020000000002 => refused 1 syntax
+nic 020000000001 10.0.0.1 => refused 1 syntax
+nic 02000000000 10.0.0.1 020000000002 => refused 1 syntax
+nic 020000000001 10.0.0.1 020000000002 => ok
+peek a s 0 => ok 0a
+tick 1 => ok 4
+vsa a s 1 raw => refused 4 name taken";
+
 /// An application may ask for its frames of memory.
 pub(crate) const FRAMES: &str = "\
 run,--new,200,d => ready 200 0
@@ -96,9 +117,11 @@ frob => refused 2 unknown word
 app a 4 => ok
 app b 3 => refused 1 syntax
 tick 5 => ok 5
+nic 020000000001 10.0.0.1 020000000002 => ok
 door a d => ok
 look a d => ok 0 0 0
 recv a k => refused 2 unknown word
+nic 020000000001 10.0.0.1 020000000002 => refused 4 name taken
 tick 7 => ok 12
 app kv_store_1 => ok
 app a => refused 4 name taken

@@ -43,6 +43,9 @@ impl Host {
         if self.failed {
             return Err(Refusal::TableFailed);
         }
+        if app.open_on(grant).is_some() {
+            return Err(Refusal::Busy);
+        }
         Ok(HeldAs::Area(place, grant, slot))
     }
 

@@ -89,6 +89,7 @@ impl Host {
                 failed: false,
                 grants: FIRST_GRANT,
                 clock: 0,
+                own: None,
                 lines: 0,
                 alloc,
             }),

@@ -11,7 +11,7 @@ pub returns-in-Err-clause-answers : goal.returns-in-Err-clause-answers
 returns-in-Err-clause-answers g c = record {
   events = [];
   goes_on = g.met.D.Disk.goes_none c.args.disk.now;
-  does = grow_refused c.args.self.now c.args.name.now c.args.label.now c.args.blocks c.args.self.now (g.D.Disk.told c.args.disk.now) c.in-Err.refusal c.in-Err.ensures.refused c.in-Err.ensures.early refl refl refl refl refl refl;
+  does = grow_refused c.args.self.now c.args.name.now c.args.label.now c.args.blocks c.args.self.now (g.D.Disk.told c.args.disk.now) c.in-Err.refusal c.in-Err.ensures.refused c.in-Err.ensures.early refl refl refl refl refl refl refl;
 }
 
 pub returns-in-Ok-grow-clause-answers : goal.returns-in-Ok-grow-clause-answers
@@ -27,7 +27,7 @@ returns-in-Ok-grow-clause-answers g c =
       does = done_steps c.args.self.now _ (g.D.Disk.told c.grow.new.disk) c.args.name.now c.args.label.now c.args.blocks c.in-Ok.growth c.index_mut.result.now small c.requires.some
           ok (sym c.index_mut.ensures.value) went.events went.makes
           c.set_spans.new.self c.set_spans.ensures.labels c.set_spans.ensures.areas c.set_spans.ensures.region c.set_spans.ensures.buffers c.set_spans.ensures.devices c.set_spans.ensures.name
-          refl c.take_lowest.ensures.rest (c.in-Ok-grow.ensures.granted ok.joins.area ok.joins.used) refl refl refl;
+          refl c.take_lowest.ensures.rest (c.in-Ok-grow.ensures.granted ok.joins.area ok.joins.used) refl refl refl refl;
     }
 
 pub returns-in-Ok-grow-clause-inside : goal.returns-in-Ok-grow-clause-inside
@@ -58,7 +58,7 @@ returns-in-Err-grow-clause-answers g c =
       goes_on = went.goes_on;
       does = lost_steps c.args.self.now _ (g.D.Disk.told c.grow.new.disk) c.args.name.now c.args.label.now c.args.blocks c.in-Ok.growth its.0 small c.requires.some
           ok its.1 went.events went.makes
-          refl c.in-Err-grow.ensures.kept refl refl refl;
+          refl c.in-Err-grow.ensures.kept refl refl refl refl;
     }
 
 pub returns-in-Err-grow-clause-inside : goal.returns-in-Err-grow-clause-inside

@@ -15,17 +15,17 @@ pub returns-then-len-ge-MAX_APPS-clause-turned : goal.returns-then-len-ge-MAX_AP
 returns-then-len-ge-MAX_APPS-clause-turned c = λ size h s st. app_limited s c.args.self.now size h c.args.name.now c.args.frames st (search rules) (search rules)
 
 pub returns-in_default-clause-turned : goal.returns-in_default-clause-turned
-returns-in_default-clause-turned c = λ size h s st. app_lacking s c.args.self.now size h c.args.name.now c.args.frames st (search rules) (search rules) c.args.self.now refl refl refl refl refl refl
+returns-in_default-clause-turned c = λ size h s st. app_lacking s c.args.self.now size h c.args.name.now c.args.frames st (search rules) (search rules) c.args.self.now refl refl refl refl refl refl refl
 
 pub returns-in_default-push-clause-turned : goal.returns-in_default-push-clause-turned
 returns-in_default-push-clause-turned c =
     let new = sym (c.is_some.ensures ∙ ap is_some (c.place_of.ensures.place ∙ ap (λ (l : List App). position (λ x. bytes_eq c.args.name.now x.name) l) c.deref.ensures.value)) ∙ c.if-is_some.false in
-    λ size h s st. app_lacking s c.args.self.now size h c.args.name.now c.args.frames st new (search rules) _ (search rules) refl refl refl refl refl
+    λ size h s st. app_lacking s c.args.self.now size h c.args.name.now c.args.frames st new (search rules) _ (search rules) refl refl refl refl refl refl
 
 pub returns-clause-turned : goal.returns-clause-turned
 returns-clause-turned c =
     let new = sym (c.is_some.ensures ∙ ap is_some (c.place_of.ensures.place ∙ ap (λ (l : List App). position (λ x. bytes_eq c.args.name.now x.name) l) c.deref.ensures.value)) ∙ c.if-is_some.false in
-    λ size h s st. app_made s c.args.self.now size h c.args.name.now c.args.frames st new (search rules) _ c.give_stored.new.app (search rules) refl refl refl refl refl (c.give_stored.ensures.name ∙ c.in-Ok.ensures.name)
+    λ size h s st. app_made s c.args.self.now size h c.args.name.now c.args.frames st new (search rules) _ c.give_stored.new.app (search rules) refl refl refl refl refl refl (c.give_stored.ensures.name ∙ c.in-Ok.ensures.name)
     (subst (λ (n : List ℕ). HasGiven n (take 128 c.args.self.now.table) c.give_stored.new.app) c.in-Ok.ensures.name c.give_stored.ensures.given)
     (ap (λ (m : Space). m.taken) (c.give_stored.ensures.region ∙ c.in-Ok.ensures.region) ∙ ap (λ n. replicate n false) c.unwrap_or-frames.ensures)
 

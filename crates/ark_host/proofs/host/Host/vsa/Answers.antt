@@ -23,7 +23,7 @@ pub returns-in-Err-clause-answers : goal.returns-in-Err-clause-answers
 returns-in-Err-clause-answers g c = record {
   events = [];
   goes_on = g.met.D.Disk.goes_none c.args.disk.now;
-  does = steps_refused c.args.self.now c.args.name.now c.args.label.now c.args.blocks c.args.kind c.args.self.now (g.D.Disk.told c.args.disk.now) c.in-Err.refusal c.in-Err.ensures.refused c.in-Err.ensures.early refl refl refl refl refl refl;
+  does = steps_refused c.args.self.now c.args.name.now c.args.label.now c.args.blocks c.args.kind c.args.self.now (g.D.Disk.told c.args.disk.now) c.in-Err.refusal c.in-Err.ensures.refused c.in-Err.ensures.early refl refl refl refl refl refl refl;
 }
 
 pub returns-in-Err-Scattered-clause-answers : goal.returns-in-Err-Scattered-clause-answers
@@ -33,7 +33,7 @@ returns-in-Err-Scattered-clause-answers g c = record {
   does = steps_refused c.args.self.now c.args.name.now c.args.label.now c.args.blocks c.args.kind _ (g.D.Disk.told c.args.disk.now) r.Scattered
       (refused_scattered c.args.self.now c.args.name.now c.args.label.now c.args.blocks c.in-Ok.admitted.0 c.in-Ok.admitted.1 c.in-Ok.ensures.admitted
       (c.take.ensures.scattered.0 (c.in-Err-Scattered.is ∙ ap Err c.in-Err-Scattered.field-0-is)).1)
-      tt refl c.in-Err-Scattered.ensures.kept refl refl refl refl;
+      tt refl c.in-Err-Scattered.ensures.kept refl refl refl refl refl;
 }
 
 pub create-requires-clause-inside : goal.create-requires-clause-inside
@@ -57,7 +57,7 @@ returns-in-Ok-create-clause-answers g c =
           c.slot_of.ensures.app_name c.slot_of.ensures.label_name ok (sym c.index_mut.ensures.value) compact c.in-Ok-take.spans c.in-Ok-take.ensures.taken went.events
           (granting_of c.in-Ok.admitted.1 (stated c.slot_of.result) said c.in-Ok-take.spans true true went.events c.slot_of.ensures.slot (blocks_of-runs_of c.in-Ok-take.spans) refl went.makes)
           c.add_area.new.self c.add_area.ensures.labels c.add_area.ensures.areas c.add_area.ensures.region c.add_area.ensures.buffers c.add_area.ensures.devices c.add_area.ensures.name refl c.in-Ok-take.ensures.rest
-          (c.in-Ok-create.ensures.granted ∙ ap (λ (x : Area). with_slot c.args.self.now.table c.in-Ok.admitted.1 (Some x)) c.slot_of.ensures.slot) refl refl refl;
+          (c.in-Ok-create.ensures.granted ∙ ap (λ (x : Area). with_slot c.args.self.now.table c.in-Ok.admitted.1 (Some x)) c.slot_of.ensures.slot) refl refl refl refl;
     }
 
 pub returns-in-Ok-create-clause-inside : goal.returns-in-Ok-create-clause-inside
@@ -87,7 +87,7 @@ returns-in-Err-create-clause-answers g c =
       does = steps_lost c.args.self.now _ (g.D.Disk.told c.create.new.disk) c.args.name.now c.args.label.now c.args.blocks c.args.kind c.in-Ok.admitted.1 c.in-Ok.admitted.0 its.0 small c.requires.some
           c.slot_of.ensures.app_name c.slot_of.ensures.label_name ok its.1 compact c.in-Ok-take.spans c.in-Ok-take.ensures.taken went.events
           (granting_of c.in-Ok.admitted.1 (stated c.slot_of.result) said c.in-Ok-take.spans false false went.events c.slot_of.ensures.slot (blocks_of-runs_of c.in-Ok-take.spans) refl went.makes)
-          refl c.in-Err-create.ensures.kept refl refl refl;
+          refl c.in-Err-create.ensures.kept refl refl refl refl;
     }
 
 pub returns-in-Err-create-clause-inside : goal.returns-in-Err-create-clause-inside

@@ -1,0 +1,40 @@
+// The logs that are open on the cards of an application.
+ghost use Rattle.std.specs.Prelude.{◌≡◌, option_map};
+ghost use Rattle.ark_held.specs.OpenLogs.{is_open_by, opened_on};
+
+use crate::app::App;
+use ark_caps::{CapKind, Capability};
+
+impl App {
+    // Whether the log or queue of the area of a grant is open on what a capability stands for.
+    fn has_open(&self, cap: Capability, grant: u64) -> bool
+        ensures { result ≡ is_open_by self.now.devices.cards grant cap.kind cap.key }
+    {
+        let CapKind::Vsic = cap.kind else {
+            return false;
+        };
+        let Some(card) = self.devices.cards.at(cap.key) else {
+            return false;
+        };
+        match &card.log {
+            Some(chain) => chain.grant() == grant,
+            None => false,
+        }
+    }
+
+    /// The card on which the log or queue of the area of a grant is open; `None` exactly where it is open on none.
+    pub fn open_on(&self, grant: u64) -> Option<Capability>
+        ensures { result
+            ≡ option_map (λ p. p.1) (opened_on self.now.devices.cards grant self.now.labels) }
+    {
+        for place in 0..self.labels.len() {
+            let Some((_, cap)) = self.labels.at(place) else {
+                return None;
+            };
+            if self.has_open(cap, grant) {
+                return Some(cap);
+            }
+        }
+        None
+    }
+}

@@ -1,0 +1,54 @@
+ghost use Rattle.std.specs.Prelude.{◌≡◌, ◌+◌, ℕ, [], Ok};
+ghost use Rattle.ark_media.specs.Calls.{Told};
+ghost use Rattle.ark_media.specs.Journal.{History};
+ghost use Rattle.ark_script.specs.Attributes.{attributes};
+ghost use Rattle.ark_script.specs.Line.{line_of};
+ghost use Rattle.ark_script.specs.Reply.{bytes_shown};
+ghost use Rattle.ark_script.specs.Text.{IsSaid};
+ghost use Rattle.ark_script.specs.declared.group.Group.TheVariants as group;
+ghost use Rattle.ark_machine.specs.System.{System, nic_turn};
+ghost use Rattle.ark_host.specs.Inside.{KeepsInside};
+ghost use Rattle.ark_host.specs.Time.{Counts};
+
+use super::Host;
+use ark_base::Refusal;
+use ark_own::say;
+use ark_packet::Own;
+use ark_script::{Reply, Said, Step};
+
+impl Host {
+    ghost use Rattle.ark_host.specs.Stands.{Stands, Steps, TurnDone};
+
+    // A line about network cards. None of those that run calls the device.
+    pub(super) fn network(&mut self, step: &Step<'_>, out: &mut Reply)
+        requires group { (attributes (line_of step.now)).group ≡ group.Network }
+        ensures answers { (t : Told) → Steps self.old self.new t (Ok (line_of step.now)) []
+            out.new.said (bytes_shown out.new) }
+        ensures said { IsSaid out.new.said }
+        ensures counts { Counts self.old self.new 0 0 }
+        ensures inside { KeepsInside self.old self.new }
+    {
+        match step {
+            Step::Nic(own) => {
+                let said = self.nic(own);
+                say(out, said);
+            }
+            _ => say(out, Said::Refused(Refusal::UnknownWord)),
+        }
+    }
+
+    // The word `nic`: this end's addresses, given once.
+    fn nic(&mut self, own: &Own) -> Said
+        ensures turned { (size : ℕ) (h : History) (s : System) → Stands self.old size h s →
+            TurnDone self.new size h (nic_turn s own.now s.plane.own) result [] }
+        ensures said { IsSaid result }
+        ensures counts { Counts self.old self.new 0 0 }
+        ensures inside { KeepsInside self.old self.new }
+    {
+        if self.own.is_some() {
+            return Said::Refused(Refusal::NameTaken);
+        }
+        self.own = Some(*own);
+        Said::Ok
+    }
+}

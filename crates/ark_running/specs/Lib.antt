@@ -1,0 +1,5 @@
+pub mod Buffers
+pub mod Ringed
+pub mod Running
+pub mod Opened
+pub mod Accepted
