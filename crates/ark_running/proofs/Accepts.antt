@@ -1,25 +1,24 @@
 -- An open log goes on when one more command waits.
-use Rattle.std.proofs.Common.{◌≡◌, ◌⊎◌, inl, inr, ℕ, zero, suc, ◌+◌, ◌-◌, ◌≤◌, ◌<◌, Bool, true, false, not, List, [], ◌∷◌, ◌++◌, length, map, take, ◌%◌, Option, Some, None, refl, sym, ap, ◌∙◌, subst, arith}
-use Rattle.std.specs.Prelude.{All, flat_map, sum_by, slice_get, IsSome}
+use Rattle.std.proofs.Common.{◌≡◌, ◌⊎◌, inl, inr, ℕ, ◌+◌, ◌-◌, ◌≤◌, ◌<◌, Bool, true, false, not, List, [], ◌∷◌, ◌++◌, length, map, ◌%◌, Option, refl, sym, ap, ◌∙◌, subst, arith}
+use Rattle.std.specs.Prelude.{All, sum_by, slice_get}
 use Rattle.std.specs.List.{AllByRecursion}
-use Rattle.std.proofs.Math.Path.{transport}
 use Rattle.std.proofs.lemmas.List.{length-map, length_push, map-append, take-append-le}
 use Rattle.std.proofs.lemmas.List.Elements.{All-push}
 use Rattle.ark_media.specs.Journal.{History}
-use Rattle.ark_region.specs.Frames.{Piece, Space, LiesInRegion, ShareNoFrame, bytes_of}
+use Rattle.ark_region.specs.Frames.{Piece, Space, LiesInRegion, ShareNoFrame}
 use Rattle.ark_vic.specs.Queue.{Queue}
 use Rattle.ark_vic.specs.declared.descriptor.Descriptor.{Descriptor}
 use Rattle.ark_vic.specs.declared.descriptor.Completion.{Completion}
 use Rattle.ark_entry.specs.Entry.{entry_blocks}
 use Rattle.ark_entry.specs.Header as head
-use Rattle.ark_entry.specs.Found.{Entries, Found, found}
+use Rattle.ark_entry.specs.Found.{Entries}
 use Rattle.ark_caladan.specs.Chain as log
 use Rattle.ark_caladan.specs.Chain.{Command, Log, Opened, after_all, commands, entries, in_progress, list_choices, oldest_of, pending, stored_after}
-use Rattle.ark_caladan.specs.Listed.{IsFoundIn, IsListed}
+use Rattle.ark_caladan.specs.Listed.{IsFoundIn}
 use Rattle.ark_caladan.specs.Open.{Layout}
 use Rattle.ark_caladan.specs.Plans.{CanWait, added_by}
 use Rattle.ark_caladan.specs.Postings.{HoldEntries, HoldsEntry, place_behind}
-use Rattle.ark_caladan.specs.Standing.{LogStands, LogStandsAs, OpenStands, Proceeds, Progress, idle, posted, ended, makes_calls}
+use Rattle.ark_caladan.specs.Standing.{LogStands, LogStandsAs, OpenStands, idle, makes_calls}
 use Rattle.ark_caladan.proofs.Buffers.{hold_more}
 use Rattle.ark_caladan.proofs.Standing.{accepts}
 use Rattle.ark_log.specs.declared.command.Command.{Command as Named}
@@ -28,13 +27,11 @@ use Rattle.ark_log.specs.declared.command.Waiting.{Waiting}
 use Rattle.ark_log.specs.declared.stage.Stage.{Stage}
 use Rattle.ark_log.specs.declared.stage.Stage.TheVariants.{Load, Draft, Mark, Header, Clear, Flush}
 use Rattle.ark_log.specs.Open.{OpenChain, IsRight, CanCome, LeadTo, first_after}
-use Rattle.ark_log.specs.Polled.{stage_of}
 use Rattle.ark_log.specs.Stages.{HasEntryBuffer, IsOfStage, IsWhole, first_with, freed, header_after, oldest, oldest_in, posting_of, stage_with, stages_of}
 use Rattle.ark_log.specs.Stands.{StandsFor}
-use Rattle.ark_log.specs.Walked.{blocks_before}
 use Rattle.ark_running.specs.Accepted.{with_one_more, with_opened}
-use Rattle.ark_running.specs.Buffers.{HasNoneOfTrim, HasReadFor, HaveLengths, IsLengthOf, IsRoomOf, blocks_read, buffers_of, bytes_in, entry_bytes_in, header_piece, pieces_of}
-use Rattle.ark_running.specs.Ringed.{HasHeaderFor, IsFree, IsPostedFor, IsRingBy, IsUnderWay, progress_by, progress_of}
+use Rattle.ark_running.specs.Buffers.{HasNoneOfTrim, HasReadFor, HaveLengths, IsLengthOf, IsRoomOf, blocks_read, buffers_of, entry_bytes_in, header_piece, pieces_of}
+use Rattle.ark_running.specs.Ringed.{HasHeaderFor, IsRingBy, IsUnderWay, progress_by, progress_of}
 use Rattle.ark_running.specs.Running.{HasBuffersOf, HasReadSoFar, IsOpenFor, IsRunning, Where}
 use Rattle.ark_running.proofs.Framing.{all_joined}
 use Rattle.ark_running.proofs.More.{as_many, lengths_more, long_with, oldest_more, pieces_more, rooms_more, with_more}

@@ -1,10 +1,9 @@
 -- How long the first entry is that stands once all commands are carried out.
-use Rattle.std.proofs.Common.{◌≡◌, ℕ, zero, suc, ◌+◌, ◌-◌, ◌≤◌, ◌<◌, List, [], ◌∷◌, ◌++◌, length, map, drop, get_or, refl, sym, ap, ◌∙◌, subst, arith, append_assoc}
+use Rattle.std.proofs.Common.{◌≡◌, ℕ, ◌+◌, ◌-◌, ◌≤◌, List, [], ◌∷◌, ◌++◌, length, map, drop, get_or, refl, sym, ap, ◌∙◌, arith, append_assoc}
 use Rattle.std.proofs.lemmas.List.{append-nil, length-map, map-append, drop-append-le, drop-drop, drop-map, get_or-drop}
 use Rattle.ark_entry.specs.Found.{Entries}
-use Rattle.ark_caladan.specs.Chain as log
 use Rattle.ark_caladan.specs.Chain.{Command, append, trim, pop, after_all, after_command}
-use Rattle.ark_caladan.specs.Numbers.{AllFit, CanFollow}
+use Rattle.ark_caladan.specs.Numbers.{AllFit}
 use Rattle.ark_log.specs.Open.{OpenChain}
 use Rattle.ark_log.specs.Refused.{length_of}
 use Rattle.ark_log.specs.Stands.{StandsFor, lengths_added}

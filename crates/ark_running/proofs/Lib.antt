@@ -6,3 +6,4 @@ pub mod Lengths
 pub mod Commanding
 pub mod Like
 pub mod Polls
+pub mod Acks

@@ -1,9 +1,9 @@
 -- An open log whose buffers are lent or are back, and whose oldest command has come further or failed.
-use Rattle.std.proofs.Common.{◌≡◌, ◌⊎◌, inl, inr, ℕ, zero, suc, ◌+◌, ◌*◌, ◌-◌, ◌≤◌, ◌<◌, Bool, true, false, List, [], ◌∷◌, ◌++◌, length, map, Option, Some, None, refl, sym, ap, ◌∙◌, subst, arith}
+use Rattle.std.proofs.Common.{◌≡◌, ◌⊎◌, inl, inr, ℕ, zero, suc, ◌*◌, Bool, List, [], ◌∷◌, ◌++◌, map, Option, Some, None, refl, sym, ap, ◌∙◌, subst}
 use Rattle.std.specs.Prelude.{All, IfSome, flat_map, slice_get}
 use Rattle.std.specs.List.{AllByRecursion}
 use Rattle.std.proofs.lemmas.List.Elements.{All-cons, All-head, All-nil, All-tail}
-use Rattle.ark_region.specs.Frames.{LiesInRegion, Piece, Space, bytes_of}
+use Rattle.ark_region.specs.Frames.{LiesInRegion, Piece, Space}
 use Rattle.ark_entry.specs.Entry.{entry_blocks}
 use Rattle.ark_entry.specs.Found.{Entries}
 use Rattle.ark_caladan.specs.Chain as log
@@ -16,12 +16,11 @@ use Rattle.ark_log.specs.declared.stage.Stage.{Stage}
 use Rattle.ark_log.specs.declared.stage.Stage.TheVariants.{Load, Draft, Mark, Header, Clear, Flush}
 use Rattle.ark_log.specs.Closed.{HasBuffersIn, LiesIn}
 use Rattle.ark_log.specs.Open.{HasBuffer, IsRight, OpenChain}
-use Rattle.ark_log.specs.Polled.{stage_of}
-use Rattle.ark_log.specs.Stages.{IsOfStage, first_with, oldest, oldest_in, stage_with, stages_of}
-use Rattle.ark_log.specs.Stands.{AreCommands, StandsFor}
+use Rattle.ark_log.specs.Stages.{IsOfStage, first_with, oldest_in, stage_with, stages_of}
+use Rattle.ark_log.specs.Stands.{AreCommands}
 use Rattle.ark_log.proofs.Lent.{right_with}
 use Rattle.ark_running.specs.Accepted.{with_opened}
-use Rattle.ark_running.specs.Buffers.{AreRoomsOf, HasNoneOfTrim, HaveLengths, buffers_by, buffers_of, bytes_in, entry_bytes_in, header_piece, pieces_of}
+use Rattle.ark_running.specs.Buffers.{AreRoomsOf, HasNoneOfTrim, HaveLengths, buffers_by, buffers_of, bytes_in, entry_bytes_in, pieces_of}
 use Rattle.ark_running.specs.Running.{IsOpenFor}
 use Rattle.ark_running.proofs.Framing.{all_parts}
 

@@ -1,17 +1,16 @@
 -- One more command waits, in lists of what waits.
-use Rattle.std.proofs.Common.{◌≡◌, ◌⊎◌, inl, inr, ℕ, zero, suc, ◌+◌, ◌-◌, ◌≤◌, ◌<◌, List, [], ◌∷◌, ◌++◌, length, map, take, Option, refl, sym, ap, ◌∙◌, subst, arith}
+use Rattle.std.proofs.Common.{◌≡◌, suc, ◌<◌, List, [], ◌∷◌, ◌++◌, length, map, Option, refl, ap, ◌∙◌, arith}
 use Rattle.std.specs.Prelude.{flat_map}
-use Rattle.std.proofs.lemmas.List.{append-nil, take-append-le}
+use Rattle.std.proofs.lemmas.List.{append-nil}
 use Rattle.std.proofs.lemmas.Grind.{flat_map-append}
 use Rattle.ark_region.specs.Frames.{Piece}
 use Rattle.ark_entry.specs.Found.{Entries}
 use Rattle.ark_caladan.specs.Chain as log
 use Rattle.ark_caladan.specs.Chain.{after_all, after_command}
 use Rattle.ark_log.specs.declared.command.Waiting.{Waiting}
-use Rattle.ark_log.specs.Open.{OpenChain}
 use Rattle.ark_log.specs.Stages.{first_with, oldest_in}
 use Rattle.ark_log.specs.Stands.{AreCommands}
-use Rattle.ark_running.specs.Buffers.{AreRoomsOf, HaveLengths, IsLengthOf, IsRoomOf, buffers_of, header_piece, pieces_of}
+use Rattle.ark_running.specs.Buffers.{AreRoomsOf, HaveLengths, IsLengthOf, IsRoomOf, buffers_of}
 
 pub oldest_more : (ws : List Waiting) (x : Waiting) → 0 < length ws → oldest_in (ws ++ x ∷ []) ≡ oldest_in ws
 oldest_more [] x some = absurd (omega (arith, some))

@@ -1,35 +1,32 @@
 -- What a poll asks of an open log, and what becomes of it when a descriptor has ended badly.
-use Rattle.std.proofs.Common.{◌≡◌, ◌⊎◌, inl, inr, ℕ, suc, ◌+◌, ◌≤◌, ◌<◌, Bool, true, false, List, [], ◌∷◌, ◌++◌, length, map, drop, Option, Some, None, refl, sym, ap, ◌∙◌, subst, arith}
-use Rattle.std.specs.Prelude.{flat_map, slice_get}
+use Rattle.std.proofs.Common.{◌≡◌, ℕ, ◌+◌, ◌≤◌, Bool, true, List, [], ◌∷◌, length, map, drop, Option, Some, refl, sym, ap, ◌∙◌, subst, arith}
+use Rattle.std.specs.Prelude.{slice_get}
 use Rattle.std.specs.List.{AllByRecursion}
 use Rattle.std.proofs.Math.Path.{transport}
-use Rattle.ark_base.specs.declared.kind.Outcome.{Outcome}
-use Rattle.ark_base.specs.declared.kind.Outcome.TheVariants as outcome
 use Rattle.ark_media.specs.Journal.{History}
 use Rattle.ark_region.specs.Frames.{LiesInRegion, Piece, ShareNoFrame, Space}
-use Rattle.ark_vic.specs.Queue.{Queue, members}
+use Rattle.ark_vic.specs.Queue.{Queue}
 use Rattle.ark_vic.specs.declared.descriptor.Completion.{Completion}
 use Rattle.ark_vic.specs.declared.descriptor.Descriptor.{Descriptor}
 use Rattle.ark_entry.specs.Found.{Entries}
-use Rattle.ark_caladan.specs.Chain.{Command, Log, Opened, commands, entries, list_choices, oldest_of, pending, stored_after}
+use Rattle.ark_caladan.specs.Chain.{Command, Log, Opened, commands, entries, list_choices, pending, stored_after}
 use Rattle.ark_caladan.specs.Listed.{IsFoundIn, IsListed}
 use Rattle.ark_caladan.specs.Open.{Layout}
 use Rattle.ark_caladan.specs.Postings.{HoldEntries, place_behind}
-use Rattle.ark_caladan.specs.Standing.{LogStands, Progress, idle}
-use Rattle.ark_caladan.specs.Standing as standing
+use Rattle.ark_caladan.specs.Standing.{LogStands, idle}
 use Rattle.ark_log.specs.declared.command.Waiting.{Waiting}
 use Rattle.ark_log.specs.declared.polling.Polled.{Polled}
 use Rattle.ark_log.specs.declared.stage.Stage.{Stage}
-use Rattle.ark_log.specs.Closed.{HasBuffersIn}
 use Rattle.ark_log.specs.Open.{IsRight, OpenChain}
-use Rattle.ark_log.specs.Polled.{Around, EndsBadly, HasEnded, MayEnd, failed_with, reaped, returned_at, stage_of}
+use Rattle.ark_log.specs.Polled.{Around, EndsBadly, HasEnded, MayEnd, failed_with, reaped, returned_at}
 use Rattle.ark_log.specs.Stages.{IsWhole, oldest, oldest_in, stage_with}
 use Rattle.ark_running.specs.Accepted.{with_opened}
-use Rattle.ark_running.specs.Buffers.{HasNoneOfTrim, buffers_of, entry_bytes_in, header_piece, pieces_of}
-use Rattle.ark_running.specs.Ringed.{IsRingBy, IsUnderWay, is_well, progress_by, progress_of}
+use Rattle.ark_running.specs.Buffers.{HasNoneOfTrim, entry_bytes_in, header_piece, pieces_of}
+use Rattle.ark_running.specs.Polling.{failing}
+use Rattle.ark_running.specs.Ringed.{IsRingBy, IsUnderWay, progress_by, progress_of}
 use Rattle.ark_running.specs.Running.{HasBuffersOf, HasReadSoFar, IsOpenFor, IsRunning}
 use Rattle.ark_running.proofs.Framing.{running_listed}
-use Rattle.ark_running.proofs.Like.{AreLike, TrimsHaveNone, as_lent, buffers_in, come_to, entries_like, header_with, like_stage, none_stage, open_like, pieces_like, right_stage, stage_is, trims_stage, waiting_with}
+use Rattle.ark_running.proofs.Like.{AreLike, TrimsHaveNone, as_lent, buffers_in, entries_like, header_with, like_stage, none_stage, open_like, pieces_like, right_stage, stage_is, trims_stage, waiting_with}
 
 oldest_none : (ws : List Waiting) → TrimsHaveNone ws → HasNoneOfTrim (oldest_in ws).command (oldest_in ws).buf
 oldest_none [] all = refl
@@ -89,34 +86,23 @@ module _ (space : Space) (v : OpenChain) (p : Layout) (g : Log) (o : Opened) (is
         (lent_buffers space v p l cs (waiting_with stage buf v.waiting) (header_with stage buf v.header) v.done v.failed (like_stage stage buf v.waiting) has has.hold).lies);
   }
 
-badly : (o : Outcome) → (o ≡ outcome.Ok → ⊥) → is_well o ≡ false
-badly outcome.Ok not_ok = absurd (not_ok refl)
-badly outcome.NoGrant not_ok = refl
-badly outcome.OutOfRange not_ok = refl
-badly outcome.OverBurst not_ok = refl
-badly outcome.DeviceFault not_ok = refl
-badly outcome.NoFilter not_ok = refl
-
 -- a log that has failed is as listed
 pub failed_listed : (h : History) (blocks : List ℕ) (g : Log) (o : Opened) → g.opened ≡ Some o → IsListed h blocks g → IsListed h blocks (with_opened g (record o { failed = true }))
 failed_listed h blocks g o opened listed =
     subst (λ (y : Option (Command × Bool)). IsFoundIn g.kind h blocks (stored_after g.list y) (list_choices g.list y)) (ap (λ (y : Option Opened). pending y g.left) opened) listed
 
 module _ (h : History) (blocks : List ℕ) (space : Space) (ring : Queue) (v : OpenChain) (p : Layout) (g : Log) (o : Opened) (runs : IsRunning h blocks space ring v p g o) where
-  abbrev failing : Opened
-  failing = record o { failed = true }
-
-  pub fails : (e : Completion) → ring.posted ≡ [] → slice_get ring.unreaped 0 ≡ Some e → IsRight (failed_with v e.buf) → IsRunning h blocks space (reaped ring) (failed_with v e.buf) p (with_opened g failing) failing
+  pub fails : (e : Completion) → ring.posted ≡ [] → slice_get ring.unreaped 0 ≡ Some e → IsRight (failed_with v e.buf) → IsRunning h blocks space (reaped ring) (failed_with v e.buf) p (with_opened g (failing o)) (failing o)
   fails e none first right =
-      subst (λ u. IsRunning h blocks space (reaped ring) u p (with_opened g failing) failing) (sym shape) (record {
+      subst (λ u. IsRunning h blocks space (reaped ring) u p (with_opened g (failing o)) (failing o)) (sym shape) (record {
         is = open_like v p g o ws hd v.done o.done true runs.is like (subst IsRight shape right) (trims_are space v p g o runs.is stage e.buf way) runs.is.done;
         size = runs.size;
         on_disk = runs.on_disk;
         full = runs.full;
-        area = subst (λ q. LogStands h blocks (with_opened g failing) p q) (sym rests) (failed_listed h blocks g o runs.is.opened (running_listed h blocks space ring v p g o runs));
+        area = subst (λ q. LogStands h blocks (with_opened g (failing o)) p q) (sym rests) (failed_listed h blocks g o runs.is.opened (running_listed h blocks space ring v p g o runs));
         ring = transport (λ i. IsRingBy u space ring.moved (sym none i) (sym left i)) (was.1, record { whole = whole; begins = λ going. absurd (cc (going)) });
         buffers = lent_buffers space v p (entries g.list) (commands o) ws hd v.done true like runs.buffers runs.buffers.hold;
-        read = subst (λ q. HasReadSoFar space u p failing q) (sym rests) tt;
+        read = subst (λ q. HasReadSoFar space u p (failing o) q) (sym rests) tt;
       })
     where
       was : (ring.unreaped ≡ e ∷ []) × (ring.moved ≡ 0) × ((stage : Stage) × IsUnderWay v stage e.buf)
@@ -151,3 +137,22 @@ module _ (h : History) (blocks : List ℕ) (space : Space) (ring : Queue) (v : O
 
       whole : IsWhole u
       whole = let is : IsWhole (as_lent v ws hd v.done v.failed) = subst IsWhole (stage_is v stage e.buf) way.whole in record { header = is.header; entries = is.entries }
+
+-- The same of a poll.
+pub polled_fails : (h : History) (blocks : List ℕ) (p : Layout) (g : Log) (o : Opened) (old new : Around) (result : Polled) → IsRunning h blocks old.space old.ring old.chain p g o → (ending : HasEnded old new result) → EndsBadly ending.ending old new result → IsRight new.chain
+    → IsRunning h blocks new.space new.ring new.chain p (with_opened g (failing o)) (failing o)
+polled_fails h blocks p g o old new result runs ending badly right =
+    subst (λ (n : Around). IsRunning h blocks n.space n.ring n.chain p (with_opened g (failing o)) (failing o)) (sym badly.failed)
+    (fails h blocks old.space old.ring old.chain p g o runs ending.ending ending.posted ending.first (subst (λ (n : Around). IsRight n.chain) badly.failed right))
+
+-- what is unreaped may end the stage under way
+pub may_ends : (h : History) (blocks : List ℕ) (space : Space) (ring : Queue) (v : OpenChain) (p : Layout) (g : Log) (o : Opened) → IsRunning h blocks space ring v p g o → (c : Completion) → slice_get ring.unreaped 0 ≡ Some c → MayEnd v space.taken c.buf
+may_ends h blocks space ring v p g o runs c first =
+    let was = ended_ring v space ring.moved ring.posted ring.unreaped c runs.ring (unreaped_alone ring.posted ring.unreaped runs.ring first) first in
+    may_end space v p g o runs.is was.2.0 c.buf was.2.1 (entries g.list) (commands o) runs.buffers
+  where
+    unreaped_alone : (ds : List Descriptor) (us : List Completion) → IsRingBy v space ring.moved ds us → slice_get us 0 ≡ Some c → ds ≡ []
+    unreaped_alone [] us is at = refl
+    unreaped_alone (d ∷ []) [] is at = absurd (cc (at))
+    unreaped_alone (d ∷ []) (u ∷ us) is at = absurd is
+    unreaped_alone (d ∷ x ∷ ds) us is at = absurd is

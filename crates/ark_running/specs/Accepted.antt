@@ -1,5 +1,5 @@
 -- A command that an open log accepts, as its machine has it.
-use Rattle.std.specs.Prelude.{ℕ, List, [], ◌∷◌, ◌++◌, Some}
+use Rattle.std.specs.Prelude.{[], ◌∷◌, ◌++◌, Some}
 use Rattle.ark_caladan.specs.Chain as log
 use Rattle.ark_caladan.specs.Chain.{Log, Opened}
 

@@ -3,3 +3,4 @@ pub mod Ringed
 pub mod Running
 pub mod Opened
 pub mod Accepted
+pub mod Polling

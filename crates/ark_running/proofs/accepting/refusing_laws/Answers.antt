@@ -1,4 +1,4 @@
-use Rattle.std.proofs.Common.{arith, ◌≡◌, ◌-◌}
+use Rattle.std.proofs.Common.{arith}
 use Rattle.ark_caladan.specs.Chain.{commands, entries}
 use Rattle.ark_log.proofs.Standing.{next_is, used_is}
 use Rattle.ark_running.proofs.Lengths.{coming_length}
