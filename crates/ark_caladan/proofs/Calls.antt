@@ -164,6 +164,18 @@ module _ (kind : Kind) (x y : Found) where
       at_turn f (decides b p ∷ ss) plan at = at_begins history blocks on_disk f at plan.0 b (p ∷ []) f.took
       at_turn f (syncs ∷ ss) plan at = at
 
+    -- a call that fails leaves at each place the block of the one view or of the other
+    pub left_failed : (history : History) (on_disk : OnDisk blocks history.base) (e : Event) (f : Moment) (s : Stage) (ss : List Stage) → Leads kind (length blocks) x y f (s ∷ ss) → (k : ℕ) → k < calls_of s → Comes (call_of blocks s k) false e
+        → IsAt history blocks (after_calls f s k) → Left (after history (e ∷ [])) (after_calls f s k)
+    left_failed history on_disk e f (reads ps) ss plan k lt came at m low c left = at.left m low c (left_elsewhere history blocks on_disk (Reads (pos (get_or ps k 0))) false e tt came m low c left)
+    left_failed history on_disk e f (writes b ps) ss plan k lt came at m low c left =
+        left_after history blocks on_disk (after_calls f (writes b ps) k) at (get_or ps k 0) came.0 false (plan.1 k lt) m low c (subst (λ (ev : Event). MayStand (after history (ev ∷ [])) (pos m) c) came.2 left)
+    left_failed history on_disk e f (decides b p) ss plan zero lt came at m low c left =
+        left_after history blocks on_disk (after_calls f (decides b p) zero) at p came.0 false plan.1 m low c (subst (λ (ev : Event). MayStand (after history (ev ∷ [])) (pos m) c) came.2 left)
+    left_failed history on_disk e f (decides b p) ss plan (suc k) lt came at m low c left = absurd (omega (arith, lt))
+    left_failed history on_disk e f syncs ss plan zero lt came at m low c left = at.left m low c (left_elsewhere history blocks on_disk Syncs false e tt came m low c left)
+    left_failed history on_disk e f syncs ss plan (suc k) lt came at m low c left = absurd (omega (arith, lt))
+
     module _ (history : History) (on_disk : OnDisk blocks history.base) (e : Event) (full : AreFull (after history (e ∷ [])) blocks) where
       event_is : (n : ℕ) (c : List ℕ) → Comes (Writes n c) false e → e ≡ Write n c (event_took e) false
       event_is n c came = came.2 ∙ ap (λ (t : Bool). Write n c t false) (sym (ap event_took came.2))
@@ -171,13 +183,12 @@ module _ (kind : Kind) (x y : Found) where
       -- a call that fails leaves what was found, or the list that the write has decided
       pub kept_failed : (f : Moment) (s : Stage) (ss : List Stage) → Leads kind (length blocks) x y f (s ∷ ss) → (k : ℕ) → k < calls_of s → Comes (call_of blocks s k) false e
           → IsAt history blocks (after_calls f s k) → IsFoundIn kind (after history (e ∷ [])) blocks (if took_by f.took s e then y else x) choices
-      kept_failed f (reads ps) ss plan k lt came at = kept_found (after history (e ∷ [])) on_disk full f (list_at f x y) (stands_choice f (list_at f x y) refl) plan.2
-          (λ m low c left. at.left m low c (left_elsewhere history blocks on_disk (Reads (pos (get_or ps k 0))) false e tt came m low c left))
+      kept_failed f (reads ps) ss plan k lt came at = kept_found (after history (e ∷ [])) on_disk full f (list_at f x y) (stands_choice f (list_at f x y) refl) plan.2 (left_failed history on_disk e f (reads ps) ss plan k lt came at)
       kept_failed f (writes b ps) ss plan k lt came at = kept_found (after history (e ∷ [])) on_disk full (after_calls f (writes b ps) k) (list_at f x y) (stands_choice f (list_at f x y) refl) plan.2
-          (λ m low c left. left_after history blocks on_disk (after_calls f (writes b ps) k) at (get_or ps k 0) came.0 false (plan.1 k lt) m low c (subst (λ (ev : Event). MayStand (after history (ev ∷ [])) (pos m) c) came.2 left))
+          (left_failed history on_disk e f (writes b ps) ss plan k lt came at)
       kept_failed f (decides b p) ss plan zero lt came at = kept_either (after history (e ∷ [])) on_disk full (after_calls f (decides b p) zero) (if event_took e then y else x) plan.3
           (by (event_took e) (event_is (pos p) (b p) came))
-          (λ m low c left. left_after history blocks on_disk (after_calls f (decides b p) zero) at p came.0 false plan.1 m low c (subst (λ (ev : Event). MayStand (after history (ev ∷ [])) (pos m) c) came.2 left))
+          (left_failed history on_disk e f (decides b p) ss plan zero lt came at)
         where
           shows : (t : Bool) → e ≡ Write (pos p) (b p) t false → (k : ℕ) → k < length blocks → (p ≡ k) ⊎ (p ≡ k → ⊥) → now (after history (e ∷ [])) k ≡ (if t then b k else f.new k)
           shows true is k low (inl same) = ap (λ (ev : Event). now (after history (ev ∷ [])) k) is ∙ subst (λ (q : ℕ). now (after history (Write (pos p) (b p) true false ∷ [])) q ≡ b q) same (shows_same history blocks on_disk (after_calls f (decides b p) zero) at p false plan.1)
@@ -195,5 +206,5 @@ module _ (kind : Kind) (x y : Found) where
       kept_failed f (decides b p) ss plan (suc k) lt came at = absurd (omega (arith, lt))
       kept_failed f syncs ss plan zero lt came at = kept_either (after history (e ∷ [])) on_disk full f (list_at f x y) plan.1
           (plan.2 (shown (after history (e ∷ []))) (now_is (after history (e ∷ [])) on_disk full f.new (λ k low. ap (λ (ev : Event). now (after history (ev ∷ [])) k) came ∙ at_written history blocks on_disk f at plan.0 k low)))
-          (λ m low c left. at.left m low c (left_elsewhere history blocks on_disk Syncs false e tt came m low c left))
+          (left_failed history on_disk e f syncs ss plan zero lt came at)
       kept_failed f syncs ss plan (suc k) lt came at = absurd (omega (arith, lt))

@@ -5,5 +5,6 @@ pub mod Nexts
 pub mod Walked
 pub mod Finding
 pub mod Payloads
+pub mod Parts
 pub mod Reread
 pub mod Clearing

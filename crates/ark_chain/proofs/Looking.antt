@@ -19,7 +19,7 @@ pub failed_ok : {T E : Type 0} (r : Result T E) → IsErr r → is_ok r ≡ fals
 failed_ok (Ok x) bad = absurd (cc (bad))
 failed_ok (Err e) bad = refl
 
-reads_leave : (base : List (List ℕ)) (blocks : List ℕ) (ok : Bool) (es j : List Event) → Makes (reads blocks) ok es → current base (onto es j) ≡ current base j
+pub reads_leave : (base : List (List ℕ)) (blocks : List ℕ) (ok : Bool) (es j : List Event) → Makes (reads blocks) ok es → current base (onto es j) ≡ current base j
 reads_leave base [] ok [] j makes = refl
 reads_leave base [] ok (e ∷ es) j makes = absurd makes
 reads_leave base (n ∷ ns) ok [] j makes = absurd makes

@@ -43,7 +43,7 @@ in_ring : (image : List (List ℕ)) (p : ℕ) → block (drop 1 image) p ≡ blo
 in_ring image p = let e : 1 + p ≡ p + 1 = omega arith in get_or-drop 1 image p [] ∙ ap (block image) e
 
 module _ (room start : ℕ) (old new : List ℕ) (image : List (List ℕ)) where
-  at_room : (k : ℕ) → length (drop 1 image) ≡ room → block image (block_at room start k) ≡ block (drop 1 image) ((start + k) % length (drop 1 image))
+  pub at_room : (k : ℕ) → length (drop 1 image) ≡ room → block image (block_at room start k) ≡ block (drop 1 image) ((start + k) % length (drop 1 image))
   at_room k long = sym (in_ring image ((start + k) % room)) ∙ ap (λ n. block (drop 1 image) ((start + k) % n)) (sym long)
 
   pub first_read : AddsBlock room start 0 old new image → AreRead room start 1 new image

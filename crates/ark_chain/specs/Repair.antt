@@ -14,7 +14,9 @@ use Rattle.ark_chain.specs.Survey.{reads, HasSurveyed}
 abbrev pub outside : ℕ → ℕ → ℕ → ℕ → List ℕ
 outside room start used zero = []
 outside room start used (suc q) =
-    if nat_lt ((q + room - start) % room) used then outside room start used q else outside room start used q ++ suc q ∷ []
+    if nat_lt ((q + room - start) % room) used
+    then outside room start used q
+    else outside room start used q ++ suc q ∷ []
 
 -- those of these blocks that are not zero
 abbrev pub not_zero : List (List ℕ) → List ℕ → List ℕ
@@ -38,7 +40,8 @@ reads_behind room (Ok seen) = reads (outside room seen.start seen.used room)
 reads_behind room (Err fault) = []
 
 -- All that an opening reads: what a survey does, and then the blocks outside the list, up to the first read that failed.
-pub record HasInspected {D : Type 0} (goes : D → List Event → D → Type 0) (told : D → Told) (kind : Kind) (result : Result Seen SurveyFault) (lengths : List ℕ) (old new : D) : Type 0 where
+pub record HasInspected {D : Type 0} (goes : D → List Event → D → Type 0) (told : D → Told)
+    (kind : Kind) (result : Result Seen SurveyFault) (lengths : List ℕ) (old new : D) : Type 0 where
   pub between : D
   pub surveyed : Result Seen SurveyFault
   pub survey : HasSurveyed goes told kind surveyed lengths old between
@@ -48,4 +51,5 @@ pub record HasInspected {D : Type 0} (goes : D → List Event → D → Type 0) 
 
 -- the blocks outside the list that are not zero are these
 abbrev pub AreNoted : Seen → List ℕ → List (List ℕ) → Type 0
-AreNoted seen noted image = noted ≡ not_zero image (outside (length image - 1) seen.start seen.used (length image - 1))
+AreNoted seen noted image =
+    noted ≡ not_zero image (outside (length image - 1) seen.start seen.used (length image - 1))

@@ -46,7 +46,9 @@ Rise u (v ∷ places) end = (u ≤ v) × Rise (v + 1) places end
 
 -- the ends of each entry that was found, and at most those of one more
 abbrev pub AreEnds : List ℕ → List ℕ → Type 0
-AreEnds lengths places = (len : ℕ) × (n : ℕ) × (places ≡ all_ends 0 lengths ++ take n (ends_of (blocks_used lengths) len))
+AreEnds lengths places =
+    (len : ℕ) × (n : ℕ)
+    × (places ≡ all_ends 0 lengths ++ take n (ends_of (blocks_used lengths) len))
 
 -- whether no read failed
 abbrev pub is_damage : SurveyFault → Bool
@@ -59,10 +61,14 @@ is_read (Err fault) = is_damage fault
 
 -- where the list begins, by the header that the image has
 abbrev pub IsStart : Kind → ℕ → ℕ → List (List ℕ) → Type 0
-IsStart kind room start image = (first count end : ℕ) × (header_of kind room (block image 0) ≡ Some (record { first = first; start = start; count = count; end = end }))
+IsStart kind room start image =
+    (first count end : ℕ)
+    × (header_of kind room (block image 0)
+    ≡ Some (record { first = first; start = start; count = count; end = end }))
 
 -- The header was read; then, up to the first read that failed, the ends of the entries from the list's start on.
-pub record HasSurveyed {D : Type 0} (goes : D → List Event → D → Type 0) (told : D → Told) (kind : Kind) (result : Result Seen SurveyFault) (lengths : List ℕ) (old new : D) : Type 0 where
+pub record HasSurveyed {D : Type 0} (goes : D → List Event → D → Type 0) (told : D → Told)
+    (kind : Kind) (result : Result Seen SurveyFault) (lengths : List ℕ) (old new : D) : Type 0 where
   pub room : ℕ
   pub ring : room + 1 ≡ (told old).blocks
   pub start : ℕ
@@ -73,7 +79,8 @@ pub record HasSurveyed {D : Type 0} (goes : D → List Event → D → Type 0) (
   pub from_start : (places ≡ []) ⊎ OnTold (told new) (IsStart kind room start)
 
 -- A list is found, and these are its first number, the number of its entries and their lengths.
-pub record HasFound (kind : Kind) (seen : Seen) (lengths : List ℕ) (image : List (List ℕ)) : Type 0 where
+pub record HasFound (kind : Kind) (seen : Seen) (lengths : List ℕ) (image : List (List ℕ))
+    : Type 0 where
   pub list : Entries
   pub is_found : found_of kind image ≡ found list
   pub first : seen.first ≡ list.first

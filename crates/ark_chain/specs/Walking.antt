@@ -27,12 +27,21 @@ pub record IsHead (room start behind number : ℕ) (first : List ℕ) (len : ℕ
 
 -- the block begins no such entry
 abbrev pub IsNoHead : ℕ → ℕ → ℕ → ℕ → List ℕ → Type 0
-IsNoHead room start behind number first = is_head room ((start + behind) % room) number first ≡ true → behind + entry_blocks (length_in first) ≤ room → ⊥
+IsNoHead room start behind number first =
+    is_head room ((start + behind) % room) number first ≡ true
+    → behind + entry_blocks (length_in first) ≤ room
+    → ⊥
 
 -- the entry of this number that stands so far behind the start, by its length; or none stands there
 abbrev pub IsNext : ℕ → ℕ → ℕ → ℕ → Option ℕ → List (List ℕ) → Type 0
-IsNext room start behind number (Some len) image = AllBlocks image → (payload : List ℕ) × (length payload ≡ len) × Entry room start (reading (drop 1 image) start) behind number payload
-IsNext room start behind number None image = AllBlocks image → (payload : List ℕ) → Entry room start (reading (drop 1 image) start) behind number payload → ⊥
+IsNext room start behind number (Some len) image =
+    AllBlocks image
+    → (payload : List ℕ) × (length payload ≡ len)
+    × Entry room start (reading (drop 1 image) start) behind number payload
+IsNext room start behind number None image =
+    AllBlocks image
+    → (payload : List ℕ)
+    → Entry room start (reading (drop 1 image) start) behind number payload → ⊥
 
 -- its ends were looked at, and of none other
 abbrev pub LooksAt : ℕ → Result (Option ℕ) DiskFailed → List ℕ → Type 0
@@ -41,14 +50,16 @@ LooksAt behind (Ok None) places = (len : ℕ) × (n : ℕ) × (places ≡ take n
 LooksAt behind (Err e) places = (len : ℕ) × (n : ℕ) × (places ≡ take n (ends_of behind len))
 
 -- the reads of one entry's ends
-pub record HasLooked {D : Type 0} (goes : D → List Event → D → Type 0) (room start behind : ℕ) (result : Result (Option ℕ) DiskFailed) (old new : D) : Type 0 where
+pub record HasLooked {D : Type 0} (goes : D → List Event → D → Type 0) (room start behind : ℕ)
+    (result : Result (Option ℕ) DiskFailed) (old new : D) : Type 0 where
   pub places : List ℕ
   pub went : Went goes (reads_at room start places) (is_ok result) old new
   pub once : Rise behind places room
   pub ends : LooksAt behind result places
 
 -- the reads of all entries' ends
-pub record HasWalked {D : Type 0} (goes : D → List Event → D → Type 0) (room start : ℕ) (ok : Bool) (lengths : List ℕ) (old new : D) : Type 0 where
+pub record HasWalked {D : Type 0} (goes : D → List Event → D → Type 0) (room start : ℕ) (ok : Bool)
+    (lengths : List ℕ) (old new : D) : Type 0 where
   pub places : List ℕ
   pub went : Went goes (reads_at room start places) ok old new
   pub once : Rise 0 places room
@@ -64,7 +75,10 @@ pub record HasEntries (room first : ℕ) (lengths : List ℕ) (used : ℕ) : Typ
 
 -- entries of these lengths are found from the start on
 abbrev pub AreFound : ℕ → ℕ → ℕ → List ℕ → List (List ℕ) → Type 0
-AreFound room start first lengths image = AllBlocks image → (xs : List (List ℕ)) × (lengths ≡ map (λ p. length p) xs) × Finds room start (reading (drop 1 image) start) 0 first xs
+AreFound room start first lengths image =
+    AllBlocks image
+    → (xs : List (List ℕ)) × (lengths ≡ map (λ p. length p) xs)
+    × Finds room start (reading (drop 1 image) start) 0 first xs
 
 -- the header of the image was read, or there is none
 abbrev pub IsHeader : Kind → ℕ → Result ChainHead SurveyFault → List (List ℕ) → Type 0

@@ -2,12 +2,14 @@
 #![tactic(auto)]
 
 mod next;
+mod payload;
 mod reading;
 mod repairing;
 mod single;
 mod surveying;
 
+pub use payload::read_payload;
 pub use reading::Reading;
 pub use repairing::{inspect, repair};
-pub use single::{entry_of, read_blocks};
+pub use single::entry_of;
 pub use surveying::{Seen, SurveyFault, survey};

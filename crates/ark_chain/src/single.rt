@@ -2,7 +2,7 @@ ghost use Rattle.std.specs.Prelude.{◌≡◌, ◌≤◌, ◌<◌, ◌+◌, ◌*
 ghost use Rattle.ark_media.specs.Calls.{Went, OnTold};
 ghost use Rattle.ark_entry.specs.Entry as spec;
 ghost use Rattle.ark_chain.specs.Survey.{reads_at};
-ghost use Rattle.ark_chain.specs.Single.{HasReadBlocks, HasReadEntry, HasReadOn, AddsBlock, AreRead, IsEntryOf};
+ghost use Rattle.ark_chain.specs.Single.{HasReadEntry, HasReadOn, AddsBlock, AreRead, IsEntryOf};
 
 use crate::next::head_len;
 use crate::reading::Reading;
@@ -63,28 +63,6 @@ fn read_on<D: Disk>(
     for k in 1..blocks {
         read_block(disk, from, k, out)?;
     }
-    Ok(())
-}
-
-/// Reads so many blocks of the ring, from the start on, each to its place at the front of `out`.
-pub fn read_blocks<D: Disk>(
-    disk: &mut D,
-    from: &Reading,
-    blocks: u32,
-    out: &mut [u8],
-) -> Result<(), DiskFailed>
-    requires inside { from.now.room + 1 ≡ (D.told disk.old).blocks }
-    requires small { from.now.room + 1 < 2 ^ 32 }
-    requires fits { blocks ≤ from.now.room }
-    requires some { 1 ≤ blocks }
-    requires room { 512 * blocks ≤ length out.old }
-    ensures went { HasReadBlocks D.goes from.now.room from.now.start blocks result
-        disk.old disk.new }
-    ensures bytes { OnOk result (OnTold (D.told disk.new)
-        (AreRead from.now.room from.now.start blocks out.new)) }
-{
-    read_block(disk, from, 0, out)?;
-    read_on(disk, from, blocks, out)?;
     Ok(())
 }
 

@@ -21,7 +21,7 @@ some_block len = let hold : 28 + len ≤ 512 * entry_blocks len = (blocks_hold l
 shifted : (p q k room : ℕ) → p % room ≡ q % room → (p + k) % room ≡ (q + k) % room
 shifted p q k room same = sym (mod-add-mod p room k) ∙ ap (λ x. (x + k) % room) same ∙ mod-add-mod q room k
 
-bytes_read : (ring : List (List ℕ)) (start p u n : ℕ) → p % length ring ≡ (start + u) % length ring → ring_bytes ring p n ≡ bytes_from (reading ring start) u n
+pub bytes_read : (ring : List (List ℕ)) (start p u n : ℕ) → p % length ring ≡ (start + u) % length ring → ring_bytes ring p n ≡ bytes_from (reading ring start) u n
 bytes_read ring start p u zero same = refl
 bytes_read ring start p u (suc n) same =
     let e : start + u + 1 ≡ start + (u + 1) = omega arith in

@@ -51,7 +51,7 @@ next_after_all l (log.pop n ∷ cs) fit =
     let long = length-drop 1 l.payloads in
     omega (arith, rest, long, fit.0.1)
 
-blocks_are : (xs : List (List ℕ)) → sum_by entry_blocks (map (λ p. length p) xs) ≡ log.blocks_of xs
+pub blocks_are : (xs : List (List ℕ)) → sum_by entry_blocks (map (λ p. length p) xs) ≡ log.blocks_of xs
 blocks_are [] = refl
 blocks_are (x ∷ xs) =
     let a = sum_by-cons entry_blocks (length x) (map (λ p. length p) xs) in

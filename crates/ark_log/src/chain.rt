@@ -1,4 +1,4 @@
-ghost use Rattle.std.specs.Prelude.{◌≡◌, ◌≤◌, length};
+ghost use Rattle.std.specs.Prelude.{◌≡◌, ◌≤◌, ◌<◌, ◌+◌, ◌^◌, length};
 
 use crate::command::Waiting;
 use ark_base::Kind;
@@ -103,6 +103,14 @@ impl Chain {
         ensures { result ≡ self.now.grant }
     {
         self.grant
+    }
+
+    /// How many blocks its ring has.
+    pub fn room(&self) -> u32
+        ensures room { result ≡ self.now.room }
+        ensures few { self.now.room + 1 < 2 ^ 32 }
+    {
+        self.room
     }
 
     /// Whether a descriptor of it has failed since it was opened.

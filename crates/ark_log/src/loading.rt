@@ -1,5 +1,5 @@
 ghost use Rattle.std.specs.Prelude.{◌≡◌, ◌≤◌, ◌<◌, ◌+◌, ◌^◌, IfOk, IfErr};
-ghost use Rattle.ark_region.specs.Frames.{LiesInRegion};
+ghost use Rattle.ark_region.specs.Frames.{Apart, LiesInRegion, Piece, bytes_of};
 ghost use Rattle.ark_log.specs.Loaded.{HasLoaded, HasFailedToLoad};
 
 use crate::chain::{Chain, WAITING};
@@ -44,7 +44,7 @@ impl Chain {
     /// Opens the log or queue that stands in an area. All memory that it ever takes is taken first. Then the area is read, and
     /// where its list is damaged nothing is written. Else it is repaired: a sync, zeros to those blocks of the ring outside the
     /// list that are not zero, in rising order, the header of the list, and a sync. The header's buffer holds what was written.
-    /// Where it fails the buffer comes back.
+    /// Where it fails the buffer comes back. No other buffer's bytes change.
     pub fn load<D: Disk>(
         alloc: Global,
         disk: &mut D,
@@ -62,6 +62,8 @@ impl Chain {
             disk.old disk.new) }
         ensures back { IfErr result (λ e. e.1 ≡ header) }
         ensures kept { region.new.taken ≡ region.old.taken }
+        ensures others { (p : Piece) → Apart header p
+            → bytes_of region.new p ≡ bytes_of region.old p }
     {
         let room = disk.blocks() - 1;
         let Ok(mut lengths) = HeapCircularBuffer::with_capacity(alloc, room as usize) else {

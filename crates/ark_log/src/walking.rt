@@ -1,12 +1,12 @@
 ghost use Rattle.std.specs.Prelude.{◌≡◌, ◌≤◌, ◌+◌, ◌*◌, length, IfSome, IfNone, IfOk, IfErr, OnOk};
 ghost use Rattle.ark_media.specs.Calls.{OnTold};
 ghost use Rattle.ark_entry.specs.Entry as spec;
-ghost use Rattle.ark_chain.specs.Single.{AreRead};
+ghost use Rattle.ark_chain.specs.Single.{IsPayload};
 ghost use Rattle.ark_log.specs.Refused.{length_of};
 ghost use Rattle.ark_log.specs.Walked.{HasAt, IsEntryAt, IsNotRead, WentToRead, blocks_before, place_of};
 
 use crate::chain::Chain;
-use ark_chain::{Reading, read_blocks};
+use ark_chain::{Reading, read_payload};
 use ark_entry::entry_blocks;
 use ark_media::{Disk, DiskFailed};
 
@@ -54,23 +54,24 @@ impl Chain {
         Some((*len, Reading { start, room }))
     }
 
-    /// Reads an acknowledged entry that no command drops: each of its blocks once, to the front of `out`, where its payload stands
-    /// behind the first 20 bytes. The answer is the payload's length. `NoEntry` comes exactly where there is no such entry, and
-    /// reads nothing; at `DeviceFault` `out` may hold any bytes.
+    /// Reads an acknowledged entry that no command drops, each of its blocks once, and puts its payload to the front of `out`. The
+    /// answer is the payload's length. `NoEntry` comes exactly where there is no such entry, and reads nothing; at `DeviceFault`
+    /// `out` may hold any bytes.
     pub fn read_at<D: Disk>(&self, disk: &mut D, n: u64, out: &mut [u8]) -> Result<u32, ReadAt>
         requires area { self.now.room + 1 ≡ (D.told disk.old).blocks }
-        requires room { 33280 ≤ length out.old }
+        requires room { 32768 ≤ length out.old }
         ensures there { OnOk result (HasAt self.now n) }
         ensures len { IfOk result (λ len. len ≡ length_of self.now n) }
+        ensures short { IfOk result (λ len. len ≤ 32768) }
         ensures none { IfErr result (IsNotRead self.now n) }
         ensures went { WentToRead D.goes self.now n result disk.old disk.new }
-        ensures bytes { OnOk result (OnTold (D.told disk.new) (AreRead self.now.room
-            (place_of self.now n) (spec.entry_blocks (length_of self.now n)) out.new)) }
+        ensures payload { OnOk result (OnTold (D.told disk.new)
+            (IsPayload self.now.room (place_of self.now n) (length_of self.now n) out.new)) }
     {
         let Some((len, from)) = self.entry_at(n) else {
             return Err(ReadAt::NoEntry);
         };
-        match read_blocks(disk, &from, entry_blocks(len), out) {
+        match read_payload(disk, &from, len, out) {
             Ok(()) => Ok(len),
             Err(DiskFailed) => Err(ReadAt::DeviceFault),
         }

@@ -32,8 +32,9 @@ use Rattle.ark_log.specs.Stands.{StandsFor}
 use Rattle.ark_running.specs.Accepted.{with_one_more, with_opened}
 use Rattle.ark_running.specs.Buffers.{HasNoneOfTrim, HasReadFor, HaveLengths, IsLengthOf, IsRoomOf, blocks_read, buffers_of, entry_bytes_in, header_piece, pieces_of}
 use Rattle.ark_running.specs.Ringed.{HasHeaderFor, IsRingBy, IsUnderWay, progress_by, progress_of}
-use Rattle.ark_running.specs.Running.{HasBuffersOf, HasReadSoFar, IsOpenFor, IsRunning, Where}
+use Rattle.ark_running.specs.Running.{HasBuffersOf, HasEntries, HasReadSoFar, IsOpenFor, IsRunning, Where}
 use Rattle.ark_running.proofs.Framing.{all_joined}
+use Rattle.ark_running.proofs.Having.{has_more}
 use Rattle.ark_running.proofs.More.{as_many, lengths_more, long_with, oldest_more, pieces_more, rooms_more, with_more}
 
 -- one more command waits, that may add a length
@@ -289,6 +290,7 @@ module _ (h : History) (blocks : List ℕ) (space : Space) (ring : Queue) (v : O
       on_disk = runs.on_disk;
       full = runs.full;
       area = area_more asked.going asked.can;
+      has = same_moments (λ ys. HasEntries g.kind (g.blocks - 1) h blocks p l ys) (has_more g.kind (g.blocks - 1) h blocks p l cs m.command runs.has);
       ring = ring_more v x more used coming runs.is.right asked.has space ring.moved ring.posted ring.unreaped runs.ring;
       buffers = buffers_more;
       read = read_more;

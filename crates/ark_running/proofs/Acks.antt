@@ -43,6 +43,7 @@ use Rattle.ark_running.specs.Polling.{acknowledging, oldest_done}
 use Rattle.ark_running.specs.Ringed.{IsRingBy, IsUnderWay, is_well, progress_by, progress_of}
 use Rattle.ark_running.specs.Running.{HasBuffersOf, HasReadSoFar, IsOpenFor, IsRunning, Where}
 use Rattle.ark_running.proofs.Framing.{all_parts, lies_same}
+use Rattle.ark_running.proofs.Having.{has_proceeding}
 use Rattle.ark_running.proofs.Like.{AreLike, TrimsHaveNone, as_lent, buffers_in, come_to, header_with, like_stage, open_like, right_done, right_stage, stage_is, waiting_with}
 use Rattle.ark_running.proofs.Polls.{ended_ring, lent_buffers, trims_are}
 
@@ -255,6 +256,7 @@ module _ (h : History) (blocks : List ℕ) (space : Space) (ring : Queue) (v0 : 
         on_disk = runs.on_disk;
         full = runs.full;
         area = subst (λ q. LogStandsAs h blocks g2 p2 q (Some o2)) (sym rests) (subst (λ t. OpenStands t h blocks g2 o2 p2 idle) (sym (ap not (sym runs.is.failed ∙ way.going))) next);
+        has = has_proceeding h blocks p2 g2 o2 idle next;
         ring = transport (λ i. IsRingBy b after ring.moved (sym none i) (sym (ap (λ us. drop 1 us) was.0) i)) (
           was.1,
           record {

@@ -1,5 +1,5 @@
 -- An open log stays as it is while its blocks, its ring and its buffers do.
-use Rattle.std.proofs.Common.{◌≡◌, ℕ, ◌+◌, ◌≤◌, Bool, List, [], ◌∷◌, ◌++◌, length, map, refl, sym, ◌∙◌, subst, arith}
+use Rattle.std.proofs.Common.{◌≡◌, ℕ, ◌+◌, ◌-◌, ◌*◌, ◌≤◌, Bool, List, [], ◌∷◌, ◌++◌, length, map, refl, sym, ◌∙◌, subst, arith}
 use Rattle.std.specs.Prelude.{flat_map}
 use Rattle.std.specs.List.{AllByRecursion}
 use Rattle.ark_media.specs.Journal.{History}
@@ -24,9 +24,14 @@ use Rattle.ark_log.specs.Stages.{oldest, oldest_in}
 use Rattle.ark_running.specs.Buffers.{HasReadFor, blocks_read, buffers_of, bytes_in, entry_bytes_in, pieces_of}
 use Rattle.ark_running.specs.Ringed.{HasHeaderFor, IsRingBy, progress_of}
 use Rattle.ark_running.specs.Running.{HasBuffersOf, HasReadSoFar, IsRunning, Where}
+use Rattle.ark_running.proofs.Having.{has_same}
 
 pub running_listed : (h : History) (blocks : List ℕ) (space : Space) (ring : Queue) (v : OpenChain) (p : Layout) (g : Log) (o : Opened) → IsRunning h blocks space ring v p g o → IsListed h blocks g
 running_listed h blocks space ring v p g o is = stands_listed blocks g p h (progress_of ring) g.opened refl is.full is.area
+
+-- where the entry of a command has its buffer
+abbrev pub entry_piece : Waiting → Piece
+entry_piece w = record { start = w.start; len = 512 * entry_blocks w.len }
 
 -- what holds of each of two lists, and of one more
 pub all_parts : {X : Type 0} (P : X → Type 0) (xs ys : List X) → AllByRecursion P (xs ++ ys) → AllByRecursion P xs × AllByRecursion P ys
@@ -47,7 +52,7 @@ abbrev pub Stays : Space → Space → Piece → Type 0
 Stays space after b = bytes_of after b ≡ bytes_of space b
 
 module _ (space after : Space) where
-  bytes_same : (bs : List Piece) → AllByRecursion (Stays space after) bs → bytes_in after bs ≡ bytes_in space bs
+  pub bytes_same : (bs : List Piece) → AllByRecursion (Stays space after) bs → bytes_in after bs ≡ bytes_in space bs
   bytes_same [] all = refl
   bytes_same (b ∷ bs) all = all.0
 
@@ -108,6 +113,7 @@ running_same h later blocks space after ring v p g o base same frames bytes runs
       on_disk = on_disk;
       full = full_same h later blocks same runs.full;
       area = stands_same blocks g p h later (progress_of ring) g.opened on_disk same runs.area;
+      has = has_same g.kind (g.blocks - 1) h blocks p (entries g.list) later (commands o) (omega (arith, runs.size, runs.is.room)) (omega (arith, runs.is.right.some, runs.is.room)) same runs.has;
       ring = ring_kept space after v bytes ring.moved ring.posted ring.unreaped runs.ring;
       buffers = buffers_kept space after v bytes p (entries g.list) (commands o) frames runs.buffers;
       read = read_kept space after v bytes p o (progress_of ring) runs.read;

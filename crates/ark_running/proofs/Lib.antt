@@ -1,3 +1,4 @@
+pub mod Having
 pub mod Framing
 pub mod Opens
 pub mod More
@@ -7,3 +8,30 @@ pub mod Commanding
 pub mod Like
 pub mod Polls
 pub mod Acks
+pub mod Walks
+pub mod Loads
+pub mod Fronts
+pub mod Outside
+pub mod Repairs
+pub mod Repaired
+pub mod AreaOpened
+pub mod Viewed
+pub mod Prepared
+pub mod Proceeding
+pub mod Posts
+pub mod Begins
+pub mod GoesOn
+pub mod Phased
+pub mod Beside
+pub mod Calling
+pub mod Describing
+pub mod Full
+pub mod Popping
+pub mod Bounds
+pub mod Own
+pub mod Touched
+pub mod CardMoves
+pub mod CardDue
+pub mod AnyCard
+mod Worked
+pub mod Payloads

@@ -170,7 +170,7 @@ like_on (w ∷ ws) [] ys a b = absurd a
 like_on (w ∷ ws) (x ∷ xs) [] a b = absurd b
 like_on (w ∷ ws) (x ∷ xs) (y ∷ ys) a b = (b.0 ∙ ap (λ (z : Waiting). record z { buf = y.buf }) a.0, like_on ws xs ys a.1 b.1)
 
-some_same : (a b : Stage) → Some a ≡ Some b → a ≡ b
+pub some_same : (a b : Stage) → Some a ≡ Some b → a ≡ b
 some_same a b is = cc (is)
 
 -- a stage that has the buffer of the oldest command is none of a trim

@@ -27,6 +27,7 @@ use Rattle.ark_running.specs.Ringed.{IsRingBy, IsUnderWay, progress_by, progress
 use Rattle.ark_running.specs.Opened.{IsNewlyOpen, IsRingEmpty, newly_opened, opened_log}
 use Rattle.ark_running.specs.Running.{IsRunning, Where}
 use Rattle.ark_running.proofs.Framing.{running_listed}
+use Rattle.ark_running.proofs.Having.{has_proceeding}
 
 module _ (h : History) (blocks : List ℕ) (space : Space) (ring : Queue) (v : OpenChain) (r : Repair) (g : Log) (card : List ℕ) where
   abbrev o : Opened
@@ -58,6 +59,7 @@ module _ (h : History) (blocks : List ℕ) (space : Space) (ring : Queue) (v : O
     on_disk = repair.on_disk;
     full = full;
     area = subst (λ q. LogStands h blocks (opened_log card v g) (repaired_layout r) q) (sym (empty_progress empty)) goes;
+    has = has_proceeding h blocks (repaired_layout r) (opened_log card v g) o idle goes;
     ring = transport (λ i. IsRingBy v space ring.moved (sym empty.posted i) (sym empty.unreaped i)) (empty.moved, record { whole = whole; begins = λ going. new.done });
     buffers = record {
       lies = subst (λ ws. AllByRecursion (LiesInRegion space.taken) (header_piece v ∷ flat_map buffers_of ws)) (sym new.none) (new.lies, tt);

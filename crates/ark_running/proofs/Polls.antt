@@ -100,6 +100,7 @@ module _ (h : History) (blocks : List ℕ) (space : Space) (ring : Queue) (v : O
         on_disk = runs.on_disk;
         full = runs.full;
         area = subst (λ q. LogStands h blocks (with_opened g (failing o)) p q) (sym rests) (failed_listed h blocks g o runs.is.opened (running_listed h blocks space ring v p g o runs));
+        has = runs.has;
         ring = transport (λ i. IsRingBy u space ring.moved (sym none i) (sym left i)) (was.1, record { whole = whole; begins = λ going. absurd (cc (going)) });
         buffers = lent_buffers space v p (entries g.list) (commands o) ws hd v.done true like runs.buffers runs.buffers.hold;
         read = subst (λ q. HasReadSoFar space u p (failing o) q) (sym rests) tt;

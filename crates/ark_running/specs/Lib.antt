@@ -4,3 +4,7 @@ pub mod Running
 pub mod Opened
 pub mod Accepted
 pub mod Polling
+pub mod Opening
+pub mod Phases
+pub mod Moving
+pub mod Given

@@ -1,5 +1,5 @@
 -- What a poll makes of an open log, as its machine has it.
-use Rattle.std.specs.Prelude.{true, false, drop, Some}
+use Rattle.std.specs.Prelude.{◌+◌, true, false, drop, Some}
 use Rattle.ark_entry.specs.Found.{found}
 use Rattle.ark_caladan.specs.Chain.{Command, Log, Opened, after_command, entries}
 
@@ -14,3 +14,7 @@ oldest_done o = record o { waiting = drop 1 o.waiting; done = 0; decided = false
 -- it is applied to the list
 abbrev pub acknowledging : Command → Log → Opened → Log
 acknowledging c g o = record g { list = found (after_command (entries g.list) c); opened = Some (oldest_done o) }
+
+-- one more of its stages is whole
+abbrev pub one_done : Opened → Opened
+one_done o = record o { done = o.done + 1 }

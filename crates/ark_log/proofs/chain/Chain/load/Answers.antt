@@ -1,4 +1,4 @@
-use Rattle.std.proofs.Common.{◌-◌, ◌∙◌, inr, Some, true, false, ap, subst, List, ℕ}
+use Rattle.std.proofs.Common.{◌-◌, ◌∙◌, inr, Some, true, false, ap, subst, arith, List, ℕ}
 use Rattle.circular_buffer.specs.Buffer.{Buffer}
 use Rattle.ark_media.specs.Calls.{Went}
 use Rattle.ark_region.specs.Frames.{Wrote}
@@ -21,6 +21,8 @@ returns-in-Err-clause-failed g c =
         between = c.inspect.new.disk;
         inspected = c.in-Ok-inspect.ensures.went;
         found = c.in-Ok-inspect.ensures.found;
+        is_seen = c.in-Ok-inspect.ensures.seen;
+        few = omega (arith, c.blocks-room.ensures, c.blocks-room.type_inv);
         noted = c.inspect.new.noted.items;
         is_noted = c.in-Ok-inspect.ensures.noted;
         repaired = subst (λ (b : List ℕ). Went g.D.Disk.goes (repair_calls c.inspect.new.noted.items b) false c.inspect.new.disk c.repair.new.disk) bytes c.in-Err.ensures.went;
@@ -42,6 +44,8 @@ returns-clause-loaded g c =
         between = c.inspect.new.disk;
         inspected = c.in-Ok-inspect.ensures.went;
         found = c.in-Ok-inspect.ensures.found;
+        is_seen = c.in-Ok-inspect.ensures.seen;
+        few = omega (arith, c.blocks-room.ensures, c.blocks-room.type_inv);
         noted = c.inspect.new.noted.items;
         is_noted = c.in-Ok-inspect.ensures.noted;
         repaired = subst (λ (b : List ℕ). Went g.D.Disk.goes (repair_calls c.inspect.new.noted.items b) true c.inspect.new.disk c.repair.new.disk) bytes c.in-Ok-repair.ensures.went;
