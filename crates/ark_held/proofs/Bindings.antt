@@ -1,6 +1,6 @@
 -- The areas that are bound to cards stay held, each of them once.
 use Rattle.std.proofs.Common.{◌≡◌, ◌⊎◌, inl, inr, ℕ, ◌<◌, ◌≤◌, true, false, not, cond, List, [], ◌∷◌, ◌++◌, length, nat_eq, refl, sym, ◌∙◌, ap, subst, arith}
-use Rattle.std.specs.Prelude.{Option, Some, None, is_some, option_map, if◌then◌else◌, ◌==◌}
+use Rattle.std.specs.Prelude.{Option, Some, None, Result, Ok, Err, OnOk, OnErr, is_some, option_map, if◌then◌else◌, ◌==◌}
 use Rattle.std.specs.List.{AllByRecursion}
 use Rattle.std.specs.Map.{lookup}
 use Rattle.std.proofs.Math.Logic.{∥∥₁_map, ∥∥₁_elim}
@@ -9,9 +9,11 @@ use Rattle.std.proofs.lemmas.Bool.{cases_eq, false≢true}
 use Rattle.std.proofs.lemmas.Bool.Decides.{nat_tests}
 use Rattle.ark_extents.specs.ViewLaws.{some_map}
 use Rattle.ark_objects.specs.Held.{at, Changes}
+use Rattle.ark_region.specs.Frames.{Space}
 use Rattle.ark_vsic.specs.Card.{is_bound, bound_with, bound_without}
 use Rattle.ark_held.specs.Words.{AreaList, with_area, with_spans, without_area, added_to}
 use Rattle.ark_held.specs.Bound.{IsNoneOf, AreApart, AreAreasOf, IsBoundTo, AreBound, HasRoomToBind, with_bound}
+use Rattle.ark_held.specs.Closing.{HasClosed, IsOpenAt, OfLogAt, closed}
 use Rattle.ark_held.specs.Rings.{LosesCard, unbound}
 use Rattle.ark_held.specs.declared.areas.Area.{Area}
 use Rattle.ark_held.specs.declared.card.StorageCard.{StorageCard}
@@ -91,6 +93,9 @@ module _ (areas : AreaList) (before after : List (Option StorageCard)) (key : �
     pub unbound_then : (g : ℕ) → Changes before after key (Some (unbound g one)) → ∥ AreBound areas after ∥₁
     unbound_then g changes = bound_set (unbound g one) changes (λ each. bound_less areas g one.vsic.bound (each key one there))
 
+    pub closed_then : (g : ℕ) → Changes before after key (Some (closed g one)) → ∥ AreBound areas after ∥₁
+    closed_then g changes = bound_set (closed g one) changes (λ each. bound_less areas g one.vsic.bound (each key one there))
+
     -- of at most 8 areas one more can be bound
     pub room_to_bind : (g : ℕ) → is_some (lookup (nat_eq g) areas) ≡ true → length areas ≤ 8 → HasRoomToBind before key g
     room_to_bind g held most = record {
@@ -104,6 +109,12 @@ module _ (areas : AreaList) (before after : List (Option StorageCard)) (key : �
 -- the same cards
 pub bound_still : (areas : AreaList) (before after : List (Option StorageCard)) → after ≡ before → ∥ AreBound areas before ∥₁ → ∥ AreBound areas after ∥₁
 bound_still areas before after same all = ∥∥₁_map all (λ each. subst (λ (z : List (Option StorageCard)). AreBound areas z) (sym same) each)
+
+-- a log that is closed on its card, or not
+pub bound_closed : (areas : AreaList) (before after : List (Option StorageCard)) (key : ℕ) → ∥ AreBound areas before ∥₁ → IsOpenAt before key → (old new : Space) {A E : Type 0} (result : Result A E)
+    → OnOk result (OfLogAt before key (λ one chain. HasClosed before after key one chain old new)) → OnErr result (after ≡ before) → ∥ AreBound areas after ∥₁
+bound_closed areas before after key all on old new (Ok a) closes same = closed_then areas before after key all on.one on.there on.chain.grant (closes on.one on.chain on.there on.log).card
+bound_closed areas before after key all on old new (Err e) closes same = bound_still areas before after same all
 
 -- no card
 pub none_bound : (areas : AreaList) (cards : List (Option StorageCard)) → ((key : ℕ) → at cards key ≡ None) → AreBound areas cards

@@ -21,13 +21,17 @@ use Rattle.ark_held.proofs.Staying.{within_by}
 covered : (j : ℕ) (f : Frames) → f.0 ≤ j → j < f.0 + f.1 → bit (covers j f) ≡ 1
 covered j f low high = ap bit (has_covers j f (low, high))
 
-each_clear : (w : Piece) (fs : List Frames) → ((j : ℕ) → Covers w j → total (λ f. bit (covers j f)) fs ≡ 0) → AllByRecursion (λ f. (j : ℕ) → Covers w j → bit (covers j f) ≡ 0) fs
-each_clear w [] none = tt
-each_clear w (f ∷ fs) none = (λ j has. (let e = none j has in omega (arith, e)), each_clear w fs (λ j has. (let e = none j has in omega (arith, e))))
+each_clear : (T : ℕ → Type 0) (fs : List Frames) → ((j : ℕ) → T j → total (λ f. bit (covers j f)) fs ≡ 0) → AllByRecursion (λ f. (j : ℕ) → T j → bit (covers j f) ≡ 0) fs
+each_clear T [] none = tt
+each_clear T (f ∷ fs) none = (λ j has. (let e = none j has in omega (arith, e)), each_clear T fs (λ j has. (let e = none j has in omega (arith, e))))
 
--- what has none of a buffer's frames keeps its bytes
-pub within_clear : (w : Piece) (o : Object) → ((j : ℕ) → Covers w j → object_covers j o ≡ 0) → Within any_label (Apart w) o
-within_clear w o clear = within_by (Apart w) (λ f. (j : ℕ) → Covers w j → bit (covers j f) ≡ 0)
+-- a piece has none of these frames
+abbrev pub Spares : (ℕ → Type 0) → Piece → Type 0
+Spares T p = (j : ℕ) → T j → Covers p j → ⊥
+
+-- what has none of these frames spares them
+pub within_spares : (T : ℕ → Type 0) (o : Object) → ((j : ℕ) → T j → object_covers j o ≡ 0) → Within any_label (Spares T) o
+within_spares T o clear = within_by (Spares T) (λ f. (j : ℕ) → T j → bit (covers j f) ≡ 0)
     (λ b none j has its. let one = covered j (buffer_frames b) its.0 its.1 in let zero = none j has in (let z : ⊥ = omega (arith, one, zero) in z))
     (λ f none j has its.
     let size : frames_of (512 * f.1) ≡ f.1 = omega arith in
@@ -35,7 +39,11 @@ within_clear w o clear = within_by (Apart w) (λ f. (j : ℕ) → Covers w j →
     let one = covered j f its.0 (omega (arith, size, below)) in
     let zero = none j has in
     let z : ⊥ = omega (arith, one, zero) in z)
-    o (each_clear w (object_frames o) clear)
+    o (each_clear T (object_frames o) clear)
+
+-- what has none of a buffer's frames keeps its bytes
+pub within_clear : (w : Piece) (o : Object) → ((j : ℕ) → Covers w j → object_covers j o ≡ 0) → Within any_label (Apart w) o
+within_clear w o clear = within_spares (Covers w) o clear
 
 -- Members of a list, and what they come to.
 
@@ -44,7 +52,7 @@ in_total f [] g inn = absurd inn
 in_total f (z ∷ zs) g (inl e) = let same : f z ≡ f g = ap f e in omega (arith, same)
 in_total f (z ∷ zs) g (inr inn) = let rest = in_total f zs g inn in omega (arith, rest)
 
-two_total : (f : Held → ℕ) (hs : List Held) (h g : Held) → In hs h → In hs g → (h ≡ g → ⊥) → f h + f g ≤ total f hs
+pub two_total : (f : Held → ℕ) (hs : List Held) (h g : Held) → In hs h → In hs g → (h ≡ g → ⊥) → f h + f g ≤ total f hs
 two_total f [] h g a b apart = absurd a
 two_total f (z ∷ zs) h g (inl a) (inl b) apart = absurd (apart (sym a ∙ b))
 two_total f (z ∷ zs) h g (inl a) (inr b) apart = let same : f z ≡ f h = ap f a in let rest = in_total f zs g b in omega (arith, same, rest)

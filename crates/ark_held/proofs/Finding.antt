@@ -1,5 +1,5 @@
 -- What stands under one label, and how many objects there are of a kind.
-use Rattle.std.proofs.Common.{◌≡◌, ℕ, suc, Bool, true, false, cond, List, [], ◌∷◌, length, refl, sym, ◌∙◌, ap, subst, bytes_eq}
+use Rattle.std.proofs.Common.{◌≡◌, inl, inr, ℕ, suc, Bool, true, false, cond, List, [], ◌∷◌, length, refl, sym, ◌∙◌, ap, subst, bytes_eq}
 use Rattle.std.specs.Prelude.{Option, Some, None, is_some, find, nat_le, filter as select}
 use Rattle.ark_caps.specs.Labels.{value_at}
 use Rattle.ark_caps.specs.declared.capability.CapKind.{CapKind}
@@ -9,8 +9,9 @@ use Rattle.ark_machine.specs.Objects.{Object, is_vsa, is_card}
 use Rattle.ark_machine.specs.Machine.{Held, at, is_full, held_count}
 use Rattle.ark_held.specs.Words.{Labels}
 use Rattle.ark_held.specs.Around.{Around}
-use Rattle.ark_held.specs.Held.{IsObjectOf, Matches, AllMatch, AtLabel, Holds, is_area, is_card_kind, card_labels}
-use Rattle.ark_held.proofs.Lists.{by_test, same_name, not_some, some_same}
+use Rattle.ark_held.specs.Held.{IsObjectOf, Matches, AllMatch, AtLabel, Holds, AreDistinctLabels, is_area, is_card_kind, card_labels}
+use Rattle.ark_held.proofs.Lists.{by_test, same_name, name_same, not_some, some_same}
+use Rattle.ark_held.proofs.Members.{In}
 
 -- Under one label.
 
@@ -52,6 +53,17 @@ none_found x l ps hs all none = by (find (λ h. bytes_eq l h.label) hs) (subst (
     by : (p : Option Held) → AtLabel x l None p → p ≡ None
     by None here = refl
     by (Some h) here = absurd here
+
+-- an object that is held is the one under its label
+pub found_there : (x : Around) (ps : Labels) (hs : List Held) (g : Held) → AreDistinctLabels ps → AllMatch x ps hs → In hs g → find (λ h. bytes_eq g.label h.label) hs ≡ Some g
+found_there x (p ∷ ps) (h ∷ hs) g apart all (inl e) = ap (λ b. cond b (Some h) (find (λ z. bytes_eq g.label z.label) hs)) (name_same g.label h.label (sym (ap (λ (z : Held). z.label) e))) ∙ ap (λ (z : Held). Some z) e
+found_there x (p ∷ ps) (h ∷ hs) g apart all (inr inn) =
+    by_test (λ t. bytes_eq g.label h.label ≡ t → cond t (Some h) (find (λ z. bytes_eq g.label z.label) hs) ≡ Some g) (bytes_eq g.label h.label)
+    (λ yes q. absurd (not_some (find (λ z. bytes_eq g.label z.label) hs) g (none_found x g.label ps hs all.1 (ap (λ l. value_at ps l) (same_name g.label h.label q ∙ all.0.label) ∙ apart.0)) (found_there x ps hs g apart.1 all.1 inn)))
+    (λ no q. found_there x ps hs g apart.1 all.1 inn) refl
+found_there x [] [] g apart all inn = absurd inn
+found_there x [] (h ∷ hs) g apart all inn = absurd all
+found_there x (p ∷ ps) [] g apart all inn = absurd all
 
 -- a label is there for the machine where it is kept
 pub there_same : (x : Around) (l : List ℕ) → Holds x → is_some (at x.machine l) ≡ is_some (value_at x.labels l)

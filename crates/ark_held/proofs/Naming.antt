@@ -32,11 +32,11 @@ due_named card areas now o is = ap (λ (z : Option (ℕ × List ℕ)). due_of ca
 
 -- and a device that has each block of the application's areas has those of this one
 module _ (size : ℕ) where
-  abbrev Below : Option Area → Type 0
+  abbrev pub Below : Option Area → Type 0
   Below None = Unit {0}
   Below (Some a) = All (λ n. n < size) a.spans
 
-  below_found : (g : ℕ) (areas : AreaList) → AreasInside size areas → Below (lookup (nat_eq g) areas)
+  pub below_found : (g : ℕ) (areas : AreaList) → AreasInside size areas → Below (lookup (nat_eq g) areas)
   below_found g [] inside = tt
   below_found g (x ∷ xs) inside = cond_both (nat_eq g x.0) (Some x.1) (lookup (nat_eq g) xs) Below (λ here. inside 0 x (omega arith)) (λ other. below_found g xs (λ k d lt. inside (suc k) d (omega (arith, lt))))
 

@@ -29,7 +29,6 @@ use Rattle.ark_held.specs.declared.card.StorageCard.{StorageCard}
 use Rattle.ark_held.specs.declared.app.App.{App}
 use Rattle.ark_objects.specs.Held.{at as key_at}
 use Rattle.ark_caps.specs.declared.capability.CapKind.{CapKind}
-use Rattle.ark_held.specs.Idle.{is_idle}
 use Rattle.ark_held.proofs.Lists.{by_test, name_same, not_some, same_name, some_same, value_behind, value_first}
 use Rattle.ark_held.proofs.Ending.{OnCard, on_card}
 use Rattle.ark_held.proofs.Finding.{Stands, stands_at}
@@ -125,19 +124,6 @@ module _ (x : Around) (v : List ℕ) (c : Capability) (k : CardKept) (card : Vsi
 
   pub its_chain : the_open.fits.chain ≡ q
   its_chain = some_same k.log the_open.fits.chain q (ap (λ (z : CardKept). z.log) (sym its_card) ∙ the_open.fits.on) log
-
-  none_under_way : (chain : OpenChain) (space : Space) (moved : ℕ) (ds : List Descriptor) (us : List Completion) → (length chain.waiting == 0) ≡ true → IsRingBy chain space moved ds us → ds ≡ []
-  none_under_way chain space moved [] us none ring = refl
-  none_under_way chain space moved (d ∷ []) [] none ring = let zero_long : length chain.waiting ≡ 0 = eqb-true (length chain.waiting) 0 none in let some = ring.2.way.some in absurd (let z : ⊥ = omega (arith, zero_long, some) in z)
-  none_under_way chain space moved (d ∷ e ∷ ds) us none ring = absurd ring
-  none_under_way chain space moved (d ∷ []) (u ∷ us) none ring = absurd ring
-
-  -- nothing is posted for a log to which no command was given
-  pub none_posted : is_idle k.log ≡ true → k.ring.posted ≡ []
-  none_posted idle =
-      let here : (length the_open.fits.chain.waiting == 0) ≡ true = ap (λ (z : OpenChain). length z.waiting == 0) its_chain ∙ ap is_idle (sym log) ∙ idle in
-      ap (λ (z : CardKept). z.ring.posted) (sym its_card)
-      ∙ none_under_way the_open.fits.chain x.tables.memory the_open.fits.its_card.ring.moved the_open.fits.its_card.ring.posted the_open.fits.its_card.ring.unreaped here the_open.fits.runs.ring
 
 -- Whether the log of an area is open, as the code finds it and as the machine has it.
 module _ (r : Beyond) (app : App) (h : Holds (around r app)) (l : List ℕ) (c : Capability) (named : value_at app.labels l ≡ Some c) where

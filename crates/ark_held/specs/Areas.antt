@@ -1,5 +1,5 @@
 -- What areas of blocks stand for.
-use Rattle.std.specs.Prelude.{◌≡◌, ℕ, ◌*◌, ◌<◌, true, List, [], length, nat_eq, get_or, Option, Some, None, Contains}
+use Rattle.std.specs.Prelude.{◌≡◌, ℕ, ◌*◌, ◌<◌, ◌≤◌, true, List, [], length, nat_eq, get_or, Option, Some, None, Contains}
 use Rattle.std.specs.Map.{lookup}
 use Rattle.ark_base.specs.declared.kind.Kind.TheVariants as kind
 use Rattle.ark_media.specs.Journal.{History, AllBlocks, block, current}
@@ -72,6 +72,8 @@ pub record IsLog (x : Around) (l : List ℕ) (c : Capability) (g : Log) : Type 0
   pub same_kind : slot.kind ≡ g.kind
   pub no_raw : g.kind ≡ kind.Raw → ⊥
   pub blocks : g.blocks ≡ length slot.blocks
+  -- its header, and a ring
+  pub two : 2 ≤ length slot.blocks
   pub opened : IsOpenedAs x c.grant slot.blocks g g.opened
   pub listed : IsListed x.history slot.blocks g
   pub full : AreFullIf x.history slot.blocks

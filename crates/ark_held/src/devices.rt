@@ -3,7 +3,8 @@ ghost use Rattle.ark_objects.specs.Held.{Changes, at, held};
 ghost use Rattle.ark_vic.specs.Bells.{counts_of};
 ghost use Rattle.ark_vsic.specs.Moves.{CanMove};
 ghost use Rattle.ark_held.specs.Bound.{HasRoomToBind, with_bound};
-ghost use Rattle.ark_held.specs.Idle.{AreIdle};
+ghost use Rattle.ark_held.specs.Idle.{AreIdle, IsShut};
+ghost use Rattle.ark_held.specs.LogBuffers.{AllLie};
 ghost use Rattle.ark_held.specs.Rings.{AreSound, ChangesCard, HasRoomFor, new_card, no_ring, unbound, with_posted, with_reaped};
 
 use crate::allowance::Allowance;
@@ -23,8 +24,10 @@ pub struct Devices {
     /// The frames of the memory in which the buffers of descriptors lie.
     pub frames: u32,
     pub ghost sound: { ∥ AreSound frames cards ∥₁ },
-    /// So far no word gives an open log a command.
+    /// So far no word posts a descriptor of an open log.
     pub ghost idle: { ∥ AreIdle cards ∥₁ },
+    /// The buffers of open logs lie in the memory.
+    pub ghost lie: { ∥ AllLie frames cards ∥₁ },
 }
 
 impl Devices {
@@ -119,9 +122,10 @@ impl Devices {
         self.cards.at_mut(key).vsic.unbind(grant);
     }
 
-    /// Posts a descriptor on the card of a key, behind all that are posted.
+    /// Posts a descriptor on the card of a key, on which no log is open, behind all that are posted.
     pub fn post(&mut self, key: u32, descriptor: Descriptor)
         requires room { HasRoomFor self.old.cards key }
+        requires shut { IsShut self.old.cards key }
         requires sound { (taken : List Bool) → length taken ≡ self.old.frames →
             CanMove taken 0 descriptor }
         ensures changes { ChangesCard self.old.cards self.new.cards key (with_posted descriptor) }
