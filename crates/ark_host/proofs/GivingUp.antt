@@ -193,4 +193,4 @@ module _ (host : Host) (a l : List ℕ) (place : ℕ) (app : App) (own : IsItsOw
   steps_own enough items free grants table failed clock addresses acts =
       acted_by host now told a (w.drop a l) place app app1 [] reply [] refl refl
       (λ s past st h x. plane_stays s.plane (machine_of s a) a l (h.holds.unlisted l (unshared (value_at app.labels l) (own.own app there))) st.plane.filters x)
-      (λ m g lacks. absurd (false≢true lacks)) own.place there (λ no. enough) items free grants table failed clock addresses (acts host.grants host.clock)
+      (λ m g none lacks. absurd (false≢true lacks)) own.place there (λ no. enough) items free grants table failed clock addresses (acts host.grants host.clock)

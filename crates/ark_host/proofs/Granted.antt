@@ -367,11 +367,14 @@ module _ (host : Host) (size : ℕ) (past : History) (s : System) (a l : List �
       zeros_full : AreFullIf (after past es) slot.blocks
       zeros_full whole k lt c left = ap (λ (b : List ℕ). length b) (zero_left (get_or slot.blocks k 0) c (Contains-get_or slot.blocks k 0 lt) left)
 
+      two_blocks : 2 ≤ fewest_blocks k → 2 ≤ length slot.blocks
+      two_blocks asked = omega (arith, asked, some, count)
+
       -- the object under the new label
       new_one : (z : Kind) → slot.kind ≡ z → IsNewArea (after past es) slot (settled (areas.new_area z n))
       new_one kind.Raw its = (its, zero_content)
-      new_one kind.Log its = (its, (λ e. cc (e)), sym count, refl, zeros_listed (after past es) slot.blocks kind.Log n has_some zero_now zero_left, zeros_full)
-      new_one kind.Queue its = (its, (λ e. cc (e)), sym count, refl, zeros_listed (after past es) slot.blocks kind.Queue n has_some zero_now zero_left, zeros_full)
+      new_one kind.Log its = (its, (λ e. cc (e)), sym count, two_blocks (subst (λ (y : Kind). 2 ≤ fewest_blocks y) (sym its) (omega arith)), refl, zeros_listed (after past es) slot.blocks kind.Log n has_some zero_now zero_left, zeros_full)
+      new_one kind.Queue its = (its, (λ e. cc (e)), sym count, two_blocks (subst (λ (y : Kind). 2 ≤ fewest_blocks y) (sym its) (omega arith)), refl, zeros_listed (after past es) slot.blocks kind.Queue n has_some zero_now zero_left, zeros_full)
 
       module _ (now : Host) (app1 : App) (labels : app1.labels ≡ app.labels ++ (l, new_area_cap host.grants) ∷ []) (held : app1.areas ≡ with_area app.areas host.grants (record { kind = k; slot = i; spans = spans })) (region : app1.store.region ≡ app.store.region) (buffers : app1.store.buffers ≡ app.store.buffers) (devices : app1.devices ≡ app.devices) (name : app1.name ≡ app.name)
           (items : now.apps.items ≡ set host.apps.items place app1) (free : now.free ≡ drop n host.free) (tables : now.table ≡ with_slot host.table i (Some (record { app = a; label = l; kind = k; runs = runs_of spans }))) (failed : now.failed ≡ host.failed)

@@ -25,6 +25,7 @@ has_built group.Memory = true
 has_built group.Rates = true
 has_built group.Cards = true
 has_built group.Network = true
+has_built group.Logs = true
 has_built _ = false
 
 -- no word of any other group is
@@ -55,15 +56,24 @@ unbuilt_group (w.watch a v d q) none = absurd (false≢true (sym none))
 unbuilt_group (w.look a d) none = absurd (false≢true (sym none))
 unbuilt_group (w.rate a r q b) none = absurd (false≢true (sym none))
 unbuilt_group (w.pace a v r q) none = absurd (false≢true (sym none))
+unbuilt_group (w.log a s v) none = absurd (false≢true (sym none))
+unbuilt_group (w.queue a s v) none = absurd (false≢true (sym none))
+unbuilt_group (w.append a s bytes) none = absurd (false≢true (sym none))
+unbuilt_group (w.push a s bytes) none = absurd (false≢true (sym none))
+unbuilt_group (w.trim a s n) none = absurd (false≢true (sym none))
+unbuilt_group (w.pop a s) none = absurd (false≢true (sym none))
+unbuilt_group (w.close a s) none = absurd (false≢true (sym none))
+unbuilt_group (w.walk a s n) none = absurd (false≢true (sym none))
 unbuilt_group _ none = refl
 
-pub other_group : (g : Group) → (g ≡ group.Control → ⊥) → (g ≡ group.Memory → ⊥) → (g ≡ group.Rates → ⊥) → (g ≡ group.Cards → ⊥) → (g ≡ group.Network → ⊥) → has_built g ≡ false
-other_group group.Control no_control no_memory no_rates no_cards no_network = absurd (no_control refl)
-other_group group.Memory no_control no_memory no_rates no_cards no_network = absurd (no_memory refl)
-other_group group.Rates no_control no_memory no_rates no_cards no_network = absurd (no_rates refl)
-other_group group.Cards no_control no_memory no_rates no_cards no_network = absurd (no_cards refl)
-other_group group.Network no_control no_memory no_rates no_cards no_network = absurd (no_network refl)
-other_group _ no_control no_memory no_rates no_cards no_network = refl
+pub other_group : (g : Group) → (g ≡ group.Control → ⊥) → (g ≡ group.Memory → ⊥) → (g ≡ group.Rates → ⊥) → (g ≡ group.Cards → ⊥) → (g ≡ group.Network → ⊥) → (g ≡ group.Logs → ⊥) → has_built g ≡ false
+other_group group.Control no_control no_memory no_rates no_cards no_network no_logs = absurd (no_control refl)
+other_group group.Memory no_control no_memory no_rates no_cards no_network no_logs = absurd (no_memory refl)
+other_group group.Rates no_control no_memory no_rates no_cards no_network no_logs = absurd (no_rates refl)
+other_group group.Cards no_control no_memory no_rates no_cards no_network no_logs = absurd (no_cards refl)
+other_group group.Network no_control no_memory no_rates no_cards no_network no_logs = absurd (no_network refl)
+other_group group.Logs no_control no_memory no_rates no_cards no_network no_logs = absurd (no_logs refl)
+other_group _ no_control no_memory no_rates no_cards no_network no_logs = refl
 
 two_groups : group.Control ≡ group.Memory → ⊥
 two_groups h = cc
@@ -94,6 +104,21 @@ no_network_rates h = cc
 
 no_network_cards : group.Network ≡ group.Cards → ⊥
 no_network_cards h = cc
+
+no_logs_control : group.Logs ≡ group.Control → ⊥
+no_logs_control h = cc
+
+no_logs_memory : group.Logs ≡ group.Memory → ⊥
+no_logs_memory h = cc
+
+no_logs_rates : group.Logs ≡ group.Rates → ⊥
+no_logs_rates h = cc
+
+no_logs_cards : group.Logs ≡ group.Cards → ⊥
+no_logs_cards h = cc
+
+no_logs_network : group.Logs ≡ group.Network → ⊥
+no_logs_network h = cc
 
 -- the words about applications, areas and time that are not built
 pub unbuilt_control : (x : Step) → (attributes (line_of x)).group ≡ group.Control
@@ -126,6 +151,14 @@ unbuilt_control (step.Flush a v) about no_app no_vsa no_grow no_drop no_tick = a
 unbuilt_control (step.Reap a v) about no_app no_vsa no_grow no_drop no_tick = absurd (no_cards_control about)
 unbuilt_control (step.Dev a v) about no_app no_vsa no_grow no_drop no_tick = absurd (no_cards_control about)
 unbuilt_control (step.Nic own) about no_app no_vsa no_grow no_drop no_tick = absurd (no_network_control about)
+unbuilt_control (step.Log a l v) about no_app no_vsa no_grow no_drop no_tick = absurd (no_logs_control about)
+unbuilt_control (step.Queue a l v) about no_app no_vsa no_grow no_drop no_tick = absurd (no_logs_control about)
+unbuilt_control (step.Append a l hex) about no_app no_vsa no_grow no_drop no_tick = absurd (no_logs_control about)
+unbuilt_control (step.Push a l hex) about no_app no_vsa no_grow no_drop no_tick = absurd (no_logs_control about)
+unbuilt_control (step.Trim a l n) about no_app no_vsa no_grow no_drop no_tick = absurd (no_logs_control about)
+unbuilt_control (step.Pop a l) about no_app no_vsa no_grow no_drop no_tick = absurd (no_logs_control about)
+unbuilt_control (step.Close a l) about no_app no_vsa no_grow no_drop no_tick = absurd (no_logs_control about)
+unbuilt_control (step.Walk a l n) about no_app no_vsa no_grow no_drop no_tick = absurd (no_logs_control about)
 unbuilt_control _ about no_app no_vsa no_grow no_drop no_tick = refl
 
 -- each word about blocks and buffers is built
@@ -159,6 +192,14 @@ all_memory (step.Flush a v) about no_peek no_poke no_buf no_show no_fill no_copy
 all_memory (step.Reap a v) about no_peek no_poke no_buf no_show no_fill no_copy no_free = absurd (no_cards_memory about)
 all_memory (step.Dev a v) about no_peek no_poke no_buf no_show no_fill no_copy no_free = absurd (no_cards_memory about)
 all_memory (step.Nic own) about no_peek no_poke no_buf no_show no_fill no_copy no_free = absurd (no_network_memory about)
+all_memory (step.Log a l v) about no_peek no_poke no_buf no_show no_fill no_copy no_free = absurd (no_logs_memory about)
+all_memory (step.Queue a l v) about no_peek no_poke no_buf no_show no_fill no_copy no_free = absurd (no_logs_memory about)
+all_memory (step.Append a l hex) about no_peek no_poke no_buf no_show no_fill no_copy no_free = absurd (no_logs_memory about)
+all_memory (step.Push a l hex) about no_peek no_poke no_buf no_show no_fill no_copy no_free = absurd (no_logs_memory about)
+all_memory (step.Trim a l n) about no_peek no_poke no_buf no_show no_fill no_copy no_free = absurd (no_logs_memory about)
+all_memory (step.Pop a l) about no_peek no_poke no_buf no_show no_fill no_copy no_free = absurd (no_logs_memory about)
+all_memory (step.Close a l) about no_peek no_poke no_buf no_show no_fill no_copy no_free = absurd (no_logs_memory about)
+all_memory (step.Walk a l n) about no_peek no_poke no_buf no_show no_fill no_copy no_free = absurd (no_logs_memory about)
 all_memory _ about no_peek no_poke no_buf no_show no_fill no_copy no_free = refl
 
 -- the words about rates and doors that are not built
@@ -190,6 +231,14 @@ unbuilt_rates (step.Flush a v) about no_door no_watch no_look no_rate no_pace = 
 unbuilt_rates (step.Reap a v) about no_door no_watch no_look no_rate no_pace = absurd (no_cards_rates about)
 unbuilt_rates (step.Dev a v) about no_door no_watch no_look no_rate no_pace = absurd (no_cards_rates about)
 unbuilt_rates (step.Nic own) about no_door no_watch no_look no_rate no_pace = absurd (no_network_rates about)
+unbuilt_rates (step.Log a l v) about no_door no_watch no_look no_rate no_pace = absurd (no_logs_rates about)
+unbuilt_rates (step.Queue a l v) about no_door no_watch no_look no_rate no_pace = absurd (no_logs_rates about)
+unbuilt_rates (step.Append a l hex) about no_door no_watch no_look no_rate no_pace = absurd (no_logs_rates about)
+unbuilt_rates (step.Push a l hex) about no_door no_watch no_look no_rate no_pace = absurd (no_logs_rates about)
+unbuilt_rates (step.Trim a l n) about no_door no_watch no_look no_rate no_pace = absurd (no_logs_rates about)
+unbuilt_rates (step.Pop a l) about no_door no_watch no_look no_rate no_pace = absurd (no_logs_rates about)
+unbuilt_rates (step.Close a l) about no_door no_watch no_look no_rate no_pace = absurd (no_logs_rates about)
+unbuilt_rates (step.Walk a l n) about no_door no_watch no_look no_rate no_pace = absurd (no_logs_rates about)
 unbuilt_rates _ about no_door no_watch no_look no_rate no_pace = refl
 
 -- the words about storage cards that are not built
@@ -222,6 +271,14 @@ unbuilt_cards (step.Fill a l off hex) about no_vsic no_bind no_unbind no_get no_
 unbuilt_cards (step.Copy a l m n) about no_vsic no_bind no_unbind no_get no_put no_flush no_reap no_dev = absurd (no_cards_memory (sym about))
 unbuilt_cards (step.Free a l) about no_vsic no_bind no_unbind no_get no_put no_flush no_reap no_dev = absurd (no_cards_memory (sym about))
 unbuilt_cards (step.Nic own) about no_vsic no_bind no_unbind no_get no_put no_flush no_reap no_dev = absurd (no_network_cards about)
+unbuilt_cards (step.Log a l v) about no_vsic no_bind no_unbind no_get no_put no_flush no_reap no_dev = absurd (no_logs_cards about)
+unbuilt_cards (step.Queue a l v) about no_vsic no_bind no_unbind no_get no_put no_flush no_reap no_dev = absurd (no_logs_cards about)
+unbuilt_cards (step.Append a l hex) about no_vsic no_bind no_unbind no_get no_put no_flush no_reap no_dev = absurd (no_logs_cards about)
+unbuilt_cards (step.Push a l hex) about no_vsic no_bind no_unbind no_get no_put no_flush no_reap no_dev = absurd (no_logs_cards about)
+unbuilt_cards (step.Trim a l n) about no_vsic no_bind no_unbind no_get no_put no_flush no_reap no_dev = absurd (no_logs_cards about)
+unbuilt_cards (step.Pop a l) about no_vsic no_bind no_unbind no_get no_put no_flush no_reap no_dev = absurd (no_logs_cards about)
+unbuilt_cards (step.Close a l) about no_vsic no_bind no_unbind no_get no_put no_flush no_reap no_dev = absurd (no_logs_cards about)
+unbuilt_cards (step.Walk a l n) about no_vsic no_bind no_unbind no_get no_put no_flush no_reap no_dev = absurd (no_logs_cards about)
 unbuilt_cards _ about no_vsic no_bind no_unbind no_get no_put no_flush no_reap no_dev = refl
 
 -- the words about network cards that are not built
@@ -252,7 +309,54 @@ unbuilt_network (step.Put a v s off n b) about no_nic = absurd (no_network_cards
 unbuilt_network (step.Flush a v) about no_nic = absurd (no_network_cards (sym about))
 unbuilt_network (step.Reap a v) about no_nic = absurd (no_network_cards (sym about))
 unbuilt_network (step.Dev a v) about no_nic = absurd (no_network_cards (sym about))
+unbuilt_network (step.Log a l v) about no_nic = absurd (no_logs_network about)
+unbuilt_network (step.Queue a l v) about no_nic = absurd (no_logs_network about)
+unbuilt_network (step.Append a l hex) about no_nic = absurd (no_logs_network about)
+unbuilt_network (step.Push a l hex) about no_nic = absurd (no_logs_network about)
+unbuilt_network (step.Trim a l n) about no_nic = absurd (no_logs_network about)
+unbuilt_network (step.Pop a l) about no_nic = absurd (no_logs_network about)
+unbuilt_network (step.Close a l) about no_nic = absurd (no_logs_network about)
+unbuilt_network (step.Walk a l n) about no_nic = absurd (no_logs_network about)
 unbuilt_network _ about no_nic = refl
+
+-- the words about logs and queues that are not built
+pub unbuilt_logs : (x : Step) → (attributes (line_of x)).group ≡ group.Logs → ((a l v : List ℕ) → x ≡ step.Log a l v → ⊥) → ((a l v : List ℕ) → x ≡ step.Queue a l v → ⊥) → ((a l : List ℕ) → x ≡ step.Close a l → ⊥) → ((a l : List ℕ) (n : ℕ) → x ≡ step.Walk a l n → ⊥) → ((a l : List ℕ) (hex : Hex) → x ≡ step.Append a l hex → ⊥) → ((a l : List ℕ) (hex : Hex) → x ≡ step.Push a l hex → ⊥)
+    → ((a l : List ℕ) (n : ℕ) → x ≡ step.Trim a l n → ⊥) → ((a l : List ℕ) → x ≡ step.Pop a l → ⊥) → is_built (line_of x) ≡ false
+unbuilt_logs (step.Log a l v) about no_log no_queue no_close no_walk no_append no_push no_trim no_pop = absurd (no_log a l v refl)
+unbuilt_logs (step.Queue a l v) about no_log no_queue no_close no_walk no_append no_push no_trim no_pop = absurd (no_queue a l v refl)
+unbuilt_logs (step.Append a l hex) about no_log no_queue no_close no_walk no_append no_push no_trim no_pop = absurd (no_append a l hex refl)
+unbuilt_logs (step.Push a l hex) about no_log no_queue no_close no_walk no_append no_push no_trim no_pop = absurd (no_push a l hex refl)
+unbuilt_logs (step.Trim a l n) about no_log no_queue no_close no_walk no_append no_push no_trim no_pop = absurd (no_trim a l n refl)
+unbuilt_logs (step.Pop a l) about no_log no_queue no_close no_walk no_append no_push no_trim no_pop = absurd (no_pop a l refl)
+unbuilt_logs (step.Close a l) about no_log no_queue no_close no_walk no_append no_push no_trim no_pop = absurd (no_close a l refl)
+unbuilt_logs (step.Walk a l n) about no_log no_queue no_close no_walk no_append no_push no_trim no_pop = absurd (no_walk a l n refl)
+unbuilt_logs (step.App a frames) about no_log no_queue no_close no_walk no_append no_push no_trim no_pop = absurd (no_logs_control (sym about))
+unbuilt_logs (step.Vsa a l n k) about no_log no_queue no_close no_walk no_append no_push no_trim no_pop = absurd (no_logs_control (sym about))
+unbuilt_logs (step.Grow a l n) about no_log no_queue no_close no_walk no_append no_push no_trim no_pop = absurd (no_logs_control (sym about))
+unbuilt_logs (step.Drop a l) about no_log no_queue no_close no_walk no_append no_push no_trim no_pop = absurd (no_logs_control (sym about))
+unbuilt_logs (step.Tick n) about no_log no_queue no_close no_walk no_append no_push no_trim no_pop = absurd (no_logs_control (sym about))
+unbuilt_logs (step.Peek a l off) about no_log no_queue no_close no_walk no_append no_push no_trim no_pop = absurd (no_logs_memory (sym about))
+unbuilt_logs (step.Poke a l off hex) about no_log no_queue no_close no_walk no_append no_push no_trim no_pop = absurd (no_logs_memory (sym about))
+unbuilt_logs (step.Buf a l n) about no_log no_queue no_close no_walk no_append no_push no_trim no_pop = absurd (no_logs_memory (sym about))
+unbuilt_logs (step.Show a l off n) about no_log no_queue no_close no_walk no_append no_push no_trim no_pop = absurd (no_logs_memory (sym about))
+unbuilt_logs (step.Fill a l off hex) about no_log no_queue no_close no_walk no_append no_push no_trim no_pop = absurd (no_logs_memory (sym about))
+unbuilt_logs (step.Copy a l m n) about no_log no_queue no_close no_walk no_append no_push no_trim no_pop = absurd (no_logs_memory (sym about))
+unbuilt_logs (step.Free a l) about no_log no_queue no_close no_walk no_append no_push no_trim no_pop = absurd (no_logs_memory (sym about))
+unbuilt_logs (step.Door a d) about no_log no_queue no_close no_walk no_append no_push no_trim no_pop = absurd (no_logs_rates (sym about))
+unbuilt_logs (step.Watch a v d q) about no_log no_queue no_close no_walk no_append no_push no_trim no_pop = absurd (no_logs_rates (sym about))
+unbuilt_logs (step.Look a d) about no_log no_queue no_close no_walk no_append no_push no_trim no_pop = absurd (no_logs_rates (sym about))
+unbuilt_logs (step.Rate a l n b) about no_log no_queue no_close no_walk no_append no_push no_trim no_pop = absurd (no_logs_rates (sym about))
+unbuilt_logs (step.Pace a v l q) about no_log no_queue no_close no_walk no_append no_push no_trim no_pop = absurd (no_logs_rates (sym about))
+unbuilt_logs (step.Vsic a v size) about no_log no_queue no_close no_walk no_append no_push no_trim no_pop = absurd (no_logs_cards (sym about))
+unbuilt_logs (step.Bind a v s) about no_log no_queue no_close no_walk no_append no_push no_trim no_pop = absurd (no_logs_cards (sym about))
+unbuilt_logs (step.Unbind a v s) about no_log no_queue no_close no_walk no_append no_push no_trim no_pop = absurd (no_logs_cards (sym about))
+unbuilt_logs (step.Get a v s off n b) about no_log no_queue no_close no_walk no_append no_push no_trim no_pop = absurd (no_logs_cards (sym about))
+unbuilt_logs (step.Put a v s off n b) about no_log no_queue no_close no_walk no_append no_push no_trim no_pop = absurd (no_logs_cards (sym about))
+unbuilt_logs (step.Flush a v) about no_log no_queue no_close no_walk no_append no_push no_trim no_pop = absurd (no_logs_cards (sym about))
+unbuilt_logs (step.Reap a v) about no_log no_queue no_close no_walk no_append no_push no_trim no_pop = absurd (no_logs_cards (sym about))
+unbuilt_logs (step.Dev a v) about no_log no_queue no_close no_walk no_append no_push no_trim no_pop = absurd (no_logs_cards (sym about))
+unbuilt_logs (step.Nic own) about no_log no_queue no_close no_walk no_append no_push no_trim no_pop = absurd (no_logs_network (sym about))
+unbuilt_logs _ about no_log no_queue no_close no_walk no_append no_push no_trim no_pop = refl
 
 -- a word's counts are those of a line
 pub counted : (old now : Host) (ticks most : ℕ) → ticks ≤ a_billion → most ≤ 1 → Counts old now ticks most → CountsLine old now

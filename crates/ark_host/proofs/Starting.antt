@@ -1,11 +1,13 @@
 -- A host that was just loaded stands for the system of the slots of its device.
 use Rattle.std.proofs.Common.{◌≡◌, inl, inr, ℕ, suc, ◌+◌, ◌<◌, ◌≤◌, Bool, true, false, cond, List, [], ◌∷◌, ◌++◌, length, map, get_or, nat_le, ◌&&◌, refl, sym, ◌∙◌, ap, subst, arith, bytes_eq, append_assoc, append-nil, Contains}
 use Rattle.std.specs.Prelude.{Option, Some, None, Result, Ok, Err, IfOk, find, count_by}
+use Rattle.std.specs.List.{list_all}
 use Rattle.std.specs.List.Sorted.{IsStrictlyIncreasing}
-use Rattle.std.proofs.lemmas.Bool.{cases_eq, and_parts}
+use Rattle.std.proofs.lemmas.Bool.{cases_eq, and_parts, leb-true}
 use Rattle.std.proofs.lemmas.Bool.Decides.{nat_tests}
 use Rattle.std.proofs.lemmas.List.{length-map, get_or-map, get_or_past}
 use Rattle.std.proofs.lemmas.List.Elements.{Contains-get_or}
+use Rattle.ark_base.specs.Name.{is_name}
 use Rattle.ark_base.specs.declared.kind.Kind.{Kind}
 use Rattle.ark_base.specs.declared.kind.Kind.TheVariants as kind
 use Rattle.ark_media.specs.Journal.{Event, Read, Write, Sync, Out, History, block, current, onto, AreReads}
@@ -13,12 +15,14 @@ use Rattle.ark_media.specs.Calls.{Told}
 use Rattle.ark_media.specs.Stops.{MayHold, Whole}
 use Rattle.ark_media.specs.Standing.{after}
 use Rattle.ark_extents.specs.Blocks.{blocks_of, runs_of}
+use Rattle.ark_extents.specs.Runs.{are_spans}
 use Rattle.ark_extents.proofs.RunLemmas.{runs_of-blocks_of, spans_longest}
 use Rattle.ark_table.specs.declared.fault.LoadFault.{LoadFault}
-use Rattle.ark_table.specs.Area.{Area, is_area}
+use Rattle.ark_table.specs.Area.{Area, is_area, is_data, least_blocks, block_total}
 use Rattle.ark_table.specs.Slots.{Slot, slot_at, slots_of}
 use Rattle.ark_table.specs.Table.{HasTable, IsSlotBlock, area_at, is_of, slots_in}
 use Rattle.ark_table.specs.Standing.{Table, IsTableOf, IsWritten}
+use Rattle.ark_table.proofs.Spelling.{count_is}
 use Rattle.ark_table.proofs.Standing.{attached, stays}
 use Rattle.ark_table.proofs.Tables.{table_is_read}
 use Rattle.ark_entry.specs.Found.{Found, found, damaged, found_of}
@@ -138,10 +142,10 @@ module _ (image : List (List ℕ)) (es : List Event) (reads : AreReads es) where
     queue_no_raw : kind.Queue ≡ kind.Raw → ⊥
     queue_no_raw e = absurd cc
 
-    pub area_stands : (k : Kind) → t.kind ≡ k → IsStoredArea h t (stored_area k contents)
-    area_stands kind.Raw is = (is, raw_stands)
-    area_stands kind.Log is = record { same_kind = is; no_raw = log_no_raw; blocks = length-map t.blocks (λ n. block image n); closed = refl; listed = listed_stands kind.Log; full = full_stands }
-    area_stands kind.Queue is = record { same_kind = is; no_raw = queue_no_raw; blocks = length-map t.blocks (λ n. block image n); closed = refl; listed = listed_stands kind.Queue; full = full_stands }
+    pub area_stands : least_blocks t.kind ≤ length t.blocks → (k : Kind) → t.kind ≡ k → IsStoredArea h t (stored_area k contents)
+    area_stands least kind.Raw is = (is, raw_stands)
+    area_stands least kind.Log is = record { same_kind = is; no_raw = log_no_raw; blocks = length-map t.blocks (λ n. block image n); two = subst (λ (y : Kind). least_blocks y ≤ length t.blocks) is least; closed = refl; listed = listed_stands kind.Log; full = full_stands }
+    area_stands least kind.Queue is = record { same_kind = is; no_raw = queue_no_raw; blocks = length-map t.blocks (λ n. block image n); two = subst (λ (y : Kind). least_blocks y ≤ length t.blocks) is least; closed = refl; listed = listed_stands kind.Queue; full = full_stands }
 
   -- The machine of an application.
 
@@ -149,9 +153,10 @@ module _ (image : List (List ℕ)) (es : List Event) (reads : AreReads es) where
   new_held n [] = []
   new_held n (t ∷ ts) = (record { label = t.label; serial = n; object = stored_area t.kind (contents_at image t.blocks) }) ∷ new_held (n + 1) ts
 
-  all_new : (n : ℕ) (ts : List Slot) → ((t : Slot) → In ts t → (m : ℕ) → Contains t.blocks m → m < length image) → AllStored h n ts (new_held n ts)
-  all_new n [] inside = tt
-  all_new n (t ∷ ts) inside = (record { label = refl; serial = refl; object = area_stands t (inside t (inl refl)) t.kind refl }, all_new (n + 1) ts (λ u among. inside u (inr among)))
+  all_new : (n : ℕ) (ts : List Slot) → ((t : Slot) → In ts t → (m : ℕ) → Contains t.blocks m → m < length image) → ((t : Slot) → In ts t → least_blocks t.kind ≤ length t.blocks) → AllStored h n ts (new_held n ts)
+  all_new n [] inside least = tt
+  all_new n (t ∷ ts) inside least =
+      (record { label = refl; serial = refl; object = area_stands t (inside t (inl refl)) (least t (inl refl)) t.kind refl }, all_new (n + 1) ts (λ u among. inside u (inr among)) (λ u among. least u (inr among)))
 
 abbrev stored_for : List (List ℕ) → List Slot → Machine → Machine
 stored_for image ts m = with_areas m (map (area_in image) ts)
@@ -203,6 +208,9 @@ module _ (image : List (List ℕ)) (table : Table) (has : HasTable table image) 
       past : (j : ℕ) → 128 ≤ j → area_at table j ≡ None
       past j le = get_or_past table j None (let len = has.size in omega (arith, len, le))
 
+  is_right : (k : ℕ) (a : Area) → area_at table k ≡ Some a → is_area size a ≡ true
+  is_right k a is = (subst (λ (o : Option Area). IsSlotBlock size (block image (k + 1)) o) is (has.says k (table_near k a is))).0
+
   -- an area has the longest runs of its blocks
   longest : (k : ℕ) (a : Area) → area_at table k ≡ Some a → runs_of (blocks_of a.runs) ≡ a.runs
   longest k a is =
@@ -210,9 +218,20 @@ module _ (image : List (List ℕ)) (table : Table) (has : HasTable table image) 
       let q = and_parts _ _ p.1 in
       let r = and_parts _ _ q.1 in
       runs_of-blocks_of a.runs (spans_longest a.runs r.0)
-    where
-      is_right : (j : ℕ) (b : Area) → area_at table j ≡ Some b → is_area size b ≡ true
-      is_right j b at = (subst (λ (o : Option Area). IsSlotBlock size (block image (j + 1)) o) at (has.says j (table_near j b at))).0
+
+  -- it has the blocks that its kind asks for
+  least : (k : ℕ) (a : Area) → area_at table k ≡ Some a → least_blocks a.kind ≤ length (blocks_of a.runs)
+  least k a is =
+      let p = and_parts (is_name a.app) _ (is_right k a is) in
+      let q = and_parts (is_name a.label) _ p.1 in
+      let r = and_parts (are_spans a.runs) _ q.1 in
+      let s = and_parts (list_all (is_data size) a.runs) (nat_le (least_blocks a.kind) (block_total a.runs)) r.1 in
+      omega (arith, leb-true (least_blocks a.kind) (block_total a.runs) s.1, count_is a.runs)
+
+  least_in : (t : Slot) → In slots t → least_blocks t.kind ≤ length t.blocks
+  least_in t among =
+      let from = of_table table 1 t among in
+      subst (λ (u : Slot). least_blocks u.kind ≤ length u.blocks) (sym from.3) (least from.0 from.1 from.2)
 
   table_is : table_of slots ≡ table
   table_is = table_again size table has.size longest agree
@@ -262,7 +281,7 @@ module _ (image : List (List ℕ)) (table : Table) (has : HasTable table image) 
       made = ap (λ (m : Machine). m.made) (machine_is a) ∙ made_from image (own_slots a slots) unmade;
       holds = subst (λ (ts : List Slot). HoldsStored grants past ts (machine_of system a)) (sym (mine_same a)) (subst (λ (m : Machine). HoldsStored grants past (own_slots a slots) m) (sym (machine_is a)) (record {
         serial = serial_from image (own_slots a slots) unmade ∙ (let e : 0 + length (own_slots a slots) ≡ length (own_slots a slots) = omega arith in e);
-        stored = subst (λ (hs : List Held). AllStored past 0 (own_slots a slots) hs) (sym (held_from image es reads (own_slots a slots) unmade)) (all_new image es reads 0 (own_slots a slots) (λ t among. in_device a t among));
+        stored = subst (λ (hs : List Held). AllStored past 0 (own_slots a slots) hs) (sym (held_from image es reads (own_slots a slots) unmade)) (all_new image es reads 0 (own_slots a slots) (λ t among. in_device a t among) (λ t among. least_in t (in_select (λ (v : Slot). bytes_eq a v.app) slots t among).0));
         below = λ t among.
             let high = (fit_in size slots t agree.fit (in_select (λ (v : Slot). bytes_eq a v.app) slots t (contains_in (own_slots a slots) t among)).0).index_high in
             omega (arith, high, is);

@@ -60,7 +60,7 @@ module _ (size : ℕ) (slots : List Slot) (agree : SlotsAgree size slots) (a : L
 
 area_kept : (h now : History) (t : Slot) (o : Object) → now.base ≡ h.base → SameAt h now t.blocks → IsStoredArea h t o → IsStoredArea now t o
 area_kept h now t (Objects.raw r) base same is = (is.0, raw_kept h now t.blocks r same is.1)
-area_kept h now t (Objects.log g) base same is = record { same_kind = is.same_kind; no_raw = is.no_raw; blocks = is.blocks; closed = is.closed; listed = listed_kept h now t.blocks g same is.listed; full = full_at h now t.blocks base same is.full }
+area_kept h now t (Objects.log g) base same is = record { same_kind = is.same_kind; no_raw = is.no_raw; blocks = is.blocks; two = is.two; closed = is.closed; listed = listed_kept h now t.blocks g same is.listed; full = full_at h now t.blocks base same is.full }
 area_kept h now t (Objects.vsic v) base same is = absurd is
 area_kept h now t (Objects.vnic v) base same is = absurd is
 area_kept h now t (Objects.filter f c) base same is = absurd is
@@ -232,6 +232,7 @@ module _ (x : Around) (ts : List Slot) (numbers : x.numbers ≡ stored_numbers t
     same_kind = is.same_kind;
     no_raw = is.no_raw;
     blocks = is.blocks;
+    two = is.two;
     opened = rw is.closed tt;
     listed = is.listed;
     full = is.full;

@@ -1,5 +1,5 @@
 -- What an application that was not made in this run has: the areas that the table says are its own.
-use Rattle.std.specs.Prelude.{◌≡◌, ℕ, ◌+◌, ◌<◌, List, [], ◌∷◌, length, map, None, Contains}
+use Rattle.std.specs.Prelude.{◌≡◌, ℕ, ◌+◌, ◌<◌, ◌≤◌, List, [], ◌∷◌, length, map, None, Contains}
 use Rattle.ark_base.specs.declared.kind.Kind.TheVariants as kind
 use Rattle.ark_media.specs.Journal.{History}
 use Rattle.ark_table.specs.Slots.{Slot}
@@ -22,6 +22,8 @@ pub record IsClosedLog (h : History) (t : Slot) (g : Log) : Type 0 where
   pub same_kind : t.kind ≡ g.kind
   pub no_raw : g.kind ≡ kind.Raw → ⊥
   pub blocks : g.blocks ≡ length t.blocks
+  -- its header, and a ring
+  pub two : 2 ≤ length t.blocks
   pub closed : g.opened ≡ None
   pub listed : IsListed h t.blocks g
   pub full : AreFullIf h t.blocks

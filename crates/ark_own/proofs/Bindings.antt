@@ -84,11 +84,11 @@ module _ (x : Around) (one : (i j g : ℕ) → slice_get x.numbers i ≡ Some g 
   abbrev P : ℕ → ℕ → Type 0
   P b s = slice_get x.numbers s ≡ Some b
 
-  each_with : (gs ns : List ℕ) → Each P gs ns → Each P (card.bound_with g gs) (if list_any (λ s. s == n) ns then ns else ns ++ n ∷ [])
+  pub each_with : (gs ns : List ℕ) → Each P gs ns → Each P (card.bound_with g gs) (if list_any (λ s. s == n) ns then ns else ns ++ n ∷ [])
   each_with gs ns each = subst (λ t. Each P (if t then gs else gs ++ g ∷ []) (if list_any (λ s. s == n) ns then ns else ns ++ n ∷ [])) (sym (bound_same x one n g its gs ns each))
       (by_test (λ t. Each P (if t then gs else gs ++ g ∷ []) (if t then ns else ns ++ n ∷ [])) (list_any (λ s. s == n) ns) (λ yes. each) (λ no. each_more P gs ns g n each its))
 
-  each_without : (gs ns : List ℕ) → Each P gs ns → Each P (card.bound_without g gs) (select (λ s. not (s == n)) ns)
+  pub each_without : (gs ns : List ℕ) → Each P gs ns → Each P (card.bound_without g gs) (select (λ s. not (s == n)) ns)
   each_without [] [] each = tt
   each_without (b ∷ bs) (s ∷ ss) each =
       subst (λ t. Each P (cond (not t) (b ∷ card.bound_without g bs) (card.bound_without g bs)) (cond (not (s == n)) (s ∷ select (λ z. not (z == n)) ss) (select (λ z. not (z == n)) ss))) (sym (same_test x one n g its b s each.0))

@@ -11,7 +11,6 @@ use Rattle.ark_media.specs.Standing.{after}
 use Rattle.ark_media.proofs.Planning.{makes_devices}
 use Rattle.ark_extents.specs.Blocks.{AreDistinct}
 use Rattle.ark_script.specs.declared.said.Said.TheVariants as said
-use Rattle.ark_caps.specs.Labels.{value_at}
 use Rattle.ark_caps.specs.declared.capability.Capability.{Capability}
 use Rattle.ark_caps.specs.declared.capability.CapKind.TheVariants as cap_kind
 use Rattle.ark_objects.specs.Held.{at as slot, Changes}
@@ -22,7 +21,7 @@ use Rattle.ark_vsic.specs.declared.due.Due.{Due}
 use Rattle.ark_vsic.specs.declared.due.Due.TheVariants as due
 use Rattle.ark_vsic.specs.declared.due.Moved.{Moved}
 use Rattle.ark_machine.specs.Objects
-use Rattle.ark_machine.specs.Objects.{Object, Vsic, Vnic, Paced, as_vsic, as_vnic}
+use Rattle.ark_machine.specs.Objects.{Object, Vsic, Vnic}
 use Rattle.ark_machine.specs.Machine.{Machine, Held, at, missing, vsic_at, vnic_at}
 use Rattle.ark_machine.specs.Devices as devices
 use Rattle.ark_machine.specs.Moves.{Move, move, row_of, first_end}
@@ -36,7 +35,7 @@ use Rattle.ark_held.specs.Pacing.{rate_kept}
 use Rattle.ark_held.specs.Around.{Around, Both}
 use Rattle.ark_held.specs.Idle.{is_idle}
 use Rattle.ark_held.specs.Cards.{IsWatched}
-use Rattle.ark_held.specs.Held.{IsObjectOf, AtLabel, Holds}
+use Rattle.ark_held.specs.Held.{IsObjectOf, Holds}
 use Rattle.ark_held.specs.Beyond.{Beyond, around, tables_of}
 use Rattle.ark_held.specs.Does.{ActsAt, Acts}
 use Rattle.ark_held.specs.Moving.{card_of, blocks_held, pace_moved, card_moved, vsic_moved, said_of, area_named}
@@ -45,13 +44,13 @@ use Rattle.ark_held.specs.declared.allowance.Allowance.{Allowance}
 use Rattle.ark_held.specs.declared.app.App.{App}
 use Rattle.ark_held.specs.declared.buffer.Buffer.{Buffer}
 use Rattle.ark_held.specs.declared.card.StorageCard.{StorageCard}
-use Rattle.ark_held.proofs.Lists.{not_some, some_same}
-use Rattle.ark_held.proofs.Finding.{found, stands_at}
+use Rattle.ark_held.proofs.Finding.{stands_at}
 use Rattle.ark_held.proofs.Doing.{refused_first, refuses, never, IsBased, in_base}
 use Rattle.ark_held.proofs.Ending.{OnCard, on_card}
 use Rattle.ark_held.proofs.Carrying.{WasMoved, carried}
 use Rattle.ark_held.proofs.MovedCard.{carries}
 use Rattle.ark_own.specs.Keys.{card_key}
+use Rattle.ark_own.proofs.Sides.{no_net_at}
 use Rattle.ark_own.proofs.OfCards.{HasCard, HasNone, found_card, its, never_gone}
 
 abbrev conditions : Machine → List ℕ → Conditions
@@ -60,31 +59,11 @@ conditions m l = record none { no_application = not m.made; no_grant = missing m
 abbrev row : List ℕ → Machine → Given → Row
 row l m g = devices.dev m l g
 
--- no network card is there yet
+-- Why there is none.
 module _ (r : Beyond) (app : App) (l : List ℕ) where
-  no_net_of : (c : Capability) (o : Object) → IsObjectOf (around r app) l c o → as_vnic o ≡ None
-  no_net_of c (Objects.vnic z) f = absurd (not_some None f.net refl f.kept)
-  no_net_of c (Objects.raw z) f = refl
-  no_net_of c (Objects.log z) f = refl
-  no_net_of c (Objects.vsic z) f = refl
-  no_net_of c (Objects.filter z y) f = refl
-  no_net_of c (Objects.door z) f = refl
-  no_net_of c (Objects.rate z y) f = refl
-  no_net_of c (Objects.buffer z) f = refl
-  no_net_of c (Objects.socket z) f = refl
-
-  no_net_at : (c : Option Capability) (o : Option Held) (h : Held) → AtLabel (around r app) l c o → o ≡ Some h → as_vnic h.object ≡ None
-  no_net_at (Some c) (Some g) h m is = ap (λ (z : Held). as_vnic z.object) (sym (some_same (Some g) g h refl is)) ∙ no_net_of c g.object m.object
-  no_net_at None None h m is = absurd (not_some None h refl is)
-  no_net_at None (Some g) h m is = absurd m
-  no_net_at (Some c) None h m is = absurd m
-
-  no_net : Holds (around r app) → (h : Held) → at r.machine l ≡ Some h → as_vnic h.object ≡ None
-  no_net holds h there = no_net_at (value_at app.labels l) (at r.machine l) h (found (around r app) l app.labels r.machine.held holds.held) there
-
   why : Holds (around r app) → (e : Refusal) → HasNone (around r app) l e → early (conditions r.machine l) ≡ Some e
   why holds (refusal.NoGrant k) h = let made = holds.made in rw (h.0, made, h.1) refl
-  why holds refusal.WrongKind h = let made = holds.made in let net = no_net holds h.0 h.1 in rw (made, h.1, h.2, net) refl
+  why holds refusal.WrongKind h = let made = holds.made in let net = no_net_at r app holds l h.0 h.1 in rw (made, h.1, h.2, net) refl
   why holds _ h = absurd h
 
 accepted : (m : Machine) (l : List ℕ) (h : Held) (v : Vsic) (z : Move) → m.made ≡ true → at m l ≡ Some h → h.object ≡ Objects.vsic v → answer m (conditions m l) (row_of z) ≡ row_of z
@@ -148,7 +127,7 @@ module _ (t : Told) (app : App) (l : List ℕ) where
         (changes : Changes app.devices.cards app1.devices.cards key (Some (record one { vsic = vsic_moved one.vsic (blocks_held app.areas) now a })))
         (rings : IsWatching one.door (slot app.devices.doors) → RingsAt a one.door (slot app.devices.doors) (slot app1.devices.doors))
         (sound : IfSome (head_of one.vsic.ring) (λ d. CanMove app.store.region.taken one.vsic.ring.moved d)) (distinct : IfSome (area_named (head_of one.vsic.ring) app.areas) (λ z. AreDistinct z.1))
-        (labels : app1.labels ≡ app.labels) (rates : app1.devices.rates ≡ app.devices.rates) (areas : app1.areas ≡ app.areas) (buffers : app1.store.buffers ≡ app.store.buffers) (name : app1.name ≡ app.name) (idle : is_idle one.log ≡ true) where
+        (labels : app1.labels ≡ app.labels) (rates : app1.devices.rates ≡ app.devices.rates) (areas : app1.areas ≡ app.areas) (buffers : app1.store.buffers ≡ app.store.buffers) (name : app1.name ≡ app.name) (idle : is_idle one.log one.vsic.ring ≡ true) where
       module _ (r : Beyond) (tick : r.now ≡ now) (h : Holds (around r app)) where
         abbrev v : HasCard (around r app) l key
         v = its app l key is r h

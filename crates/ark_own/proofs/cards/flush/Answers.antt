@@ -24,7 +24,7 @@ returns-then-is_full-clause-acts c = λ t.
     (full_there c.args.app.now c.args.label.now c.in-Ok.key c.in-Ok.ensures.key c.in-Some.card.now (search rules) over)
 
 pub post-requires : goal.post-requires
-post-requires c = record { room = record { one = c.in-Some.card.now; there = search rules; room = search rules }; sound = λ taken long. tt }
+post-requires c = record { room = record { one = c.in-Some.card.now; there = search rules; room = search rules }; shut = search rules; sound = λ taken long. tt }
 
 pub returns-clause-acts : goal.returns-clause-acts
 returns-clause-acts c = λ t.

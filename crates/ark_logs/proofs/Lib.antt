@@ -1,0 +1,17 @@
+pub mod OfLogs
+pub mod OfAreas
+pub mod Opened
+pub mod Taken
+pub mod Closes
+pub mod Loads
+pub mod OpenRows
+pub mod OfEvents
+pub mod Opens
+pub mod Returned
+pub mod Openings
+pub mod Walked
+pub mod Walks
+pub mod Lines
+pub mod OfCommands
+pub mod Accepts
+pub mod Gives

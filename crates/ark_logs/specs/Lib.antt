@@ -1,0 +1,6 @@
+pub mod Finds
+pub mod Areas
+pub mod Opening
+pub mod Walking
+pub mod Lines
+pub mod Refused
