@@ -35,5 +35,7 @@ pub record LineReplied (old : Host) (line : List ℕ) (es : List Event) (host : 
   pub devices : device_events es ≡ es
   pub whole : IsWhole (part_of es text)
   pub answers : Whatever old told es (λ s h. Answers s meaning (part_of es text))
-  pub stands : Whatever old told es (λ s h. Stands host told.blocks (after h es) (turn_for s meaning (part_of es text)).after)
-  pub fronts : Whatever old told es (λ s h. AtEachFront h.base h.journal s (Some meaning) (part_of es text))
+  pub stands : Whatever old told es (λ s h.
+      Stands host told.blocks (after h es) (turn_for s meaning (part_of es text)).after)
+  pub fronts : Whatever old told es (λ s h.
+      AtEachFront h.base h.journal s (Some meaning) (part_of es text))

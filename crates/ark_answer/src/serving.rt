@@ -21,7 +21,8 @@ pub fn answer<D: Disk>(host: &mut Host, line: &[u8], out: &mut Reply, disk: &mut
     requires few { host.old.lines < 2 ^ 31 }
     requires short { length line.now ≤ max_line }
     ensures answers { GoesBy D.goes disk.old disk.new (λ es.
-        LineSaid host.old line.now es host.new (D.told disk.new) out.new.said (bytes_shown out.new)) }
+        LineSaid host.old line.now es host.new (D.told disk.new)
+        out.new.said (bytes_shown out.new)) }
     ensures said { IsSaid out.new.said }
     ensures sound { IsSound host.new }
     ensures inside { IsInside (D.told disk.old).blocks host.new }

@@ -9,7 +9,10 @@ use Rattle.ark_cli.specs.Opening.{old_device, Since, HeedsDamage}
 
 -- nothing came out, or the first bytes of the report
 abbrev pub ShowsFront : List (List ℕ) → List ℕ → Type 0
-ShowsFront image out = (out ≡ []) ⊎ ((lines : List (List ℕ)) × (report image ≡ Ok lines) × ((more : List ℕ) × (text_of lines ≡ out ++ more)))
+ShowsFront image out =
+    (out ≡ [])
+    ⊎ ((lines : List (List ℕ)) × (report image ≡ Ok lines)
+    × ((more : List ℕ) × (text_of lines ≡ out ++ more)))
 
 -- What came out of the report, by the status: the whole of it; nothing, where the table is damaged; or a front of it.
 abbrev pub Shows : List (List ℕ) → Status → List ℕ → Type 0

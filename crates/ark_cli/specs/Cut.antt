@@ -21,7 +21,8 @@ pub record IsFront (s : System) (m : Meaning) (part : List Event) : Type 0 where
   pub calls : Performs s m (cut_turn s m part lacked).calls (device_events part)
   -- the bytes that did not come out
   pub more : List ℕ
-  pub front : text (cut_turn s m part lacked).said (cut_turn s m part lacked).bytes ≡ output_of part ++ more
+  pub front : text (cut_turn s m part lacked).said (cut_turn s m part lacked).bytes
+      ≡ output_of part ++ more
 
 -- behind the whole parts stands nothing, or what came of the next line
 abbrev pub ShowsFront : System → List (List ℕ) → List Event → Type 0
@@ -30,7 +31,8 @@ ShowsFront s (line ∷ lines) part = (part ≡ []) ⊎ ((m : Meaning) × Says li
 
 -- From a system on, the lines of a script are answered by whole parts in turn, and the next one by a front of its part: so
 -- the output is a front of what the machines reply.
-pub record CutReplies (s : System) (lines : List (List ℕ)) (whole : List (List Event)) (part : List Event) : Type 0 where
+pub record CutReplies (s : System) (lines : List (List ℕ)) (whole : List (List Event))
+    (part : List Event) : Type 0 where
   pub replies : Replies s lines whole part
   pub shows : ShowsFront (system_after s replies.meanings whole) (drop (length whole) lines) part
 
@@ -44,10 +46,12 @@ pub record IsCutConfined (s : System) (m : Meaning) (part : List Event) : Type 0
 -- behind the whole parts stands nothing, or what the next line may send or have delivered
 abbrev pub ShowsConfined : System → List (List ℕ) → List Event → Type 0
 ShowsConfined s [] part = part ≡ []
-ShowsConfined s (line ∷ lines) part = (part ≡ []) ⊎ ((m : Meaning) × Says line m × IsCutConfined s m part)
+ShowsConfined s (line ∷ lines) part =
+    (part ≡ []) ⊎ ((m : Meaning) × Says line m × IsCutConfined s m part)
 
 -- The cut reply keeps to what its line may do, with the system as it is before the line: so its frame is let out or in.
-pub record CutConfined (s : System) (lines : List (List ℕ)) (whole : List (List Event)) (part : List Event) : Type 0 where
+pub record CutConfined (s : System) (lines : List (List ℕ)) (whole : List (List Event))
+    (part : List Event) : Type 0 where
   pub meanings : List Meaning
   pub say : FirstSay lines meanings
   pub count : length meanings ≡ length whole

@@ -48,7 +48,8 @@ Asks opening before after = after.openings ≡ before.openings ++ opening ∷ []
 -- The system from which a run goes on: of a device that was there that of its slots, which it has if it is not damaged.
 abbrev pub Starts : Start → System → Type 0
 Starts (new_device size) s = s ≡ fresh_system size
-Starts (old_device image) s = (slots : List Slot) × (slots_of image ≡ Ok slots) × (s ≡ start_system image slots)
+Starts (old_device image) s =
+    (slots : List Slot) × (slots_of image ≡ Ok slots) × (s ≡ start_system image slots)
 
 -- The calls of a whole opening: a new device is formatted; of an old one the superblock and the slots are read.
 abbrev pub opening_calls : Start → List Call
@@ -58,13 +59,15 @@ opening_calls (old_device image) = read_calls 129
 -- device events with which an opening has begun: none, or those of its first calls, up to and with one that failed
 abbrev pub BeginsOpening : Start → List Event → Type 0
 BeginsOpening (new_device size) es = (es ≡ []) ⊎ ((ok : Bool) × Makes (format_calls size) ok es)
-BeginsOpening (old_device image) es = (count : ℕ) × (count ≤ 129) × ((ok : Bool) × Makes (read_calls count) ok es)
+BeginsOpening (old_device image) es =
+    (count : ℕ) × (count ≤ 129) × ((ok : Bool) × Makes (read_calls count) ok es)
 
 -- The device's line tells so many slots: a new one has none; of one that was there the slots are said where its image is told.
 abbrev pub TellsSlots : Start → Told → ℕ → Type 0
 TellsSlots (new_device size) told slots = slots ≡ 0
 TellsSlots (old_device image) told slots =
-    (h : History) → told.history ≡ Some h → (s : System) × Starts (old_device image) s × (slots ≡ length s.plane.slots)
+    (h : History) → told.history ≡ Some h
+    → (s : System) × Starts (old_device image) s × (slots ≡ length s.plane.slots)
 
 -- the device of this name could not be made, or attached as it was
 pub record NoDevice (blocks : Option ℕ) (device : List ℕ) (told0 told1 : Told)
@@ -102,7 +105,8 @@ pub record IsReady (start : Start) (device : List ℕ) (told0 told1 : Told) (bes
   pub calls : Makes (opening_calls start) true events
   pub slots : ℕ
   pub tells : TellsSlots start told1 slots
-  pub since : Since start device (events ++ Out (text (Ready (blocks_of start) slots) []) ∷ []) [] told0 told1 beside0 beside1
+  pub since : Since start device (events ++ Out (text (Ready (blocks_of start) slots) []) ∷ []) []
+      told0 told1 beside0 beside1
 
 -- the device was there: it was not made
 abbrev pub WasThere : Start → Type 0
@@ -112,7 +116,8 @@ WasThere (old_device image) = Unit {0}
 -- the device was there, and where its image is told this is the first block that breaks a rule
 abbrev pub IsDamagedAt : Start → Told → ℕ → Type 0
 IsDamagedAt (new_device size) told block = ⊥
-IsDamagedAt (old_device image) told block = (h : History) → told.history ≡ Some h → slots_of image ≡ Err block
+IsDamagedAt (old_device image) told block =
+    (h : History) → told.history ≡ Some h → slots_of image ≡ Err block
 
 -- Why no line of the device came: a call failed; or a device that was there is damaged and no read failed, or memory was wanting.
 abbrev pub Fails : Start → Told → Status → List Event → Type 0
@@ -125,7 +130,10 @@ Fails start told _ es = ⊥
 abbrev pub HeedsDamage : Start → Told → Status → List Event → Type 0
 HeedsDamage (new_device size) told status es = Unit {0}
 HeedsDamage (old_device image) told status es =
-    (h : History) → told.history ≡ Some h → (block : ℕ) → slots_of image ≡ Err block → (HasFailed es → ⊥) → (status ≡ Damaged block) ⊎ (status ≡ Memory)
+    (h : History) → told.history ≡ Some h
+    → (block : ℕ) → slots_of image ≡ Err block
+    → (HasFailed es → ⊥)
+    → (status ≡ Damaged block) ⊎ (status ≡ Memory)
 
 -- the device was there or was made, and nothing came out
 pub record IsUnready (start : Start) (device : List ℕ) (told0 told1 : Told)
@@ -146,7 +154,9 @@ pub record IsFormatted (size : ℕ) (device : List ℕ) (told0 told1 : Told) (be
 -- No device was made, or a call of its formatting failed.
 abbrev pub FormatsNot : ℕ → List ℕ → Told → Told → Beside → Beside → Status → Type 0
 FormatsNot size device told0 told1 beside0 beside1 status =
-    (status ≡ Device) × (NoDevice (Some size) device told0 told1 beside0 beside1 ⊎ IsUnready (new_device size) device told0 told1 beside0 beside1 Device)
+    (status ≡ Device)
+    × (NoDevice (Some size) device told0 told1 beside0 beside1
+    ⊎ IsUnready (new_device size) device told0 told1 beside0 beside1 Device)
 
 -- the device was formatted or read, and the put of its line failed: all of it came out, or a part with no newline
 pub record IsUnshown (start : Start) (device : List ℕ) (told0 told1 : Told)
@@ -166,8 +176,10 @@ pub record IsUnshown (start : Start) (device : List ℕ) (told0 told1 : Told)
 abbrev pub OpensNot : Option ℕ → List ℕ → Told → Told → Beside → Beside → Status → Type 0
 OpensNot blocks device told0 told1 beside0 beside1 status =
     ((status ≡ Device) × NoDevice blocks device told0 told1 beside0 beside1)
-    ⊎ ((start : Start) × (blocks_asked start ≡ blocks) × IsUnready start device told0 told1 beside0 beside1 status)
-    ⊎ ((start : Start) × (blocks_asked start ≡ blocks) × (status ≡ Sink) × IsUnshown start device told0 told1 beside0 beside1)
+    ⊎ ((start : Start) × (blocks_asked start ≡ blocks)
+    × IsUnready start device told0 told1 beside0 beside1 status)
+    ⊎ ((start : Start) × (blocks_asked start ≡ blocks) × (status ≡ Sink)
+    × IsUnshown start device told0 told1 beside0 beside1)
 
 -- A device that was there is ready, and this host stands for the system of its slots.
 pub record IsReadyFor (host : Host) (device : List ℕ) (told0 told1 : Told)

@@ -15,21 +15,26 @@ use Rattle.ark_cli.specs.Opening.{Start, new_device, old_device, base_of, Starts
 abbrev pub HasRun : Start → List (List ℕ) → List (List Event) → List Event → Type 0
 HasRun start lines [] unfinished = BeginsOpening start (device_events unfinished)
 HasRun start lines (opening ∷ whole) unfinished =
-    (s : System) × Starts start s × IsOpening start s opening × Replies s lines whole unfinished × Confined s lines whole unfinished
+    (s : System) × Starts start s × IsOpening start s opening
+    × Replies s lines whole unfinished × Confined s lines whole unfinished
 
 -- Where the run stops before the device's line came: of a device that was there, what is left recovers.
 abbrev pub StopsEarly : Start → List Event → List (List ℕ) → Type 0
 StopsEarly (new_device size) unfinished image = Unit {0}
-StopsEarly (old_device old) unfinished image = (s : System) → Starts (old_device old) s → AtFront s None unfinished image
+StopsEarly (old_device old) unfinished image =
+    (s : System) → Starts (old_device old) s → AtFront s None unfinished image
 
 -- by the parts of a front of the run's events: this may be left where the run stops
 abbrev pub StopsAt : Start → List Meaning → List (List Event) → List Event → List (List ℕ) → Type 0
 StopsAt start meanings [] unfinished image = StopsEarly start unfinished image
-StopsAt start meanings (opening ∷ whole) unfinished image = (s : System) → Starts start s → RunAtFront s meanings whole unfinished image
+StopsAt start meanings (opening ∷ whole) unfinished image =
+    (s : System) → Starts start s → RunAtFront s meanings whole unfinished image
 
 -- At each front of the events of a run, whatever a stop leaves of the device recovers. The meanings are those of the first lines.
-pub record RecoversAtFronts (start : Start) (lines : List (List ℕ)) (events : List Event) : Type 0 where
+pub record RecoversAtFronts (start : Start) (lines : List (List ℕ)) (events : List Event)
+    : Type 0 where
   pub meanings : List Meaning
   pub say : FirstSay lines meanings
-  pub each : (front back : List Event) (image : List (List ℕ)) → events ≡ front ++ back → MayLeave Whole (base_of start) (onto front []) image →
-      StopsAt start meanings (parts front).whole (parts front).unfinished image
+  pub each : (front back : List Event) (image : List (List ℕ)) → events ≡ front ++ back
+      → MayLeave Whole (base_of start) (onto front []) image
+      → StopsAt start meanings (parts front).whole (parts front).unfinished image

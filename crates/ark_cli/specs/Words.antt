@@ -17,8 +17,15 @@ IsWork words seed lines device = IsCommand words (work seed lines device)
 
 -- a command that runs a script on a device of this name, which is to be made of so many blocks or attached as it is
 abbrev pub RunsScript : List (List ℕ) → Option ℕ → List ℕ → Type 0
-RunsScript words blocks device = IsRun words blocks device ⊎ ((blocks ≡ Some work_blocks) × (seed : ℕ) × (lines : ℕ) × IsWork words seed lines device)
+RunsScript words blocks device =
+    IsRun words blocks device
+    ⊎ ((blocks ≡ Some work_blocks) × (seed : ℕ) × (lines : ℕ) × IsWork words seed lines device)
 
 -- any command on it
 abbrev pub AsksFor : List (List ℕ) → Option ℕ → List ℕ → Type 0
-AsksFor words blocks device = RunsScript words blocks device ⊎ ((blocks ≡ None) × IsCheck words device)
+AsksFor words blocks device =
+    RunsScript words blocks device ⊎ ((blocks ≡ None) × IsCheck words device)
+
+-- the words are no command
+abbrev pub AreNoCommand : List (List ℕ) → Type 0
+AreNoCommand words = (blocks : Option ℕ) (device : List ℕ) → AsksFor words blocks device → ⊥

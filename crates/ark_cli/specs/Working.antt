@@ -29,7 +29,8 @@ pub record TellsOf (seed lines : ℕ) (whole : List (List Event)) (unfinished : 
 abbrev pub SumsUp : ℕ → ℕ → List (List Event) → Type 0
 SumsUp seed lines [] = Unit {0}
 SumsUp seed lines (opening ∷ whole) =
-    (full : List ℕ) × Summary turn seed lines full (map device_events whole) (summary lines (map output_of whole))
+    (full : List ℕ)
+    × Summary turn seed lines full (map device_events whole) (summary lines (map output_of whole))
 
 -- How it ends, by the status: the whole script was run and the line that tells of it put, of which the first bytes came out
 -- where that failed; or a call failed before the device was formatted, and nothing came.
@@ -49,7 +50,8 @@ pub record IsWorked (seed lines : ℕ) (device : List ℕ) (closing : List Event
     (beside0 beside1 : Beside) (status : Status) : Type 0 where
   pub run : List Event
   pub shown : List Event
-  pub since : Since work_start device (device_events run ++ (shown ++ closing)) [] told0 told1 beside0 beside1
+  pub since : Since work_start device (device_events run ++ (shown ++ closing)) []
+      told0 told1 beside0 beside1
   pub does : (h : History) → told1.history ≡ Some h
       → HasRun work_start (generated seed lines) (parts run).whole (parts run).unfinished
   pub recovers : (h : History) → told1.history ≡ Some h

@@ -12,7 +12,7 @@ use Rattle.ark_script.specs.declared.said.Said.TheVariants.{Ready}
 use Rattle.ark_machine.specs.System.{System}
 use Rattle.ark_work.specs.Generated.{generated}
 use Rattle.ark_report.specs.Work.{work_blocks}
-use Rattle.ark_cli.specs.Words.{IsRun, IsCheck, IsWork, AsksFor}
+use Rattle.ark_cli.specs.Words.{IsRun, IsCheck, IsWork, AsksFor, AreNoCommand}
 use Rattle.ark_cli.specs.Checking.{Shows, ReportEnds}
 use Rattle.ark_cli.specs.Working.{work_start, SumsUp, WorkEnds}
 use Rattle.ark_cli.specs.Line.{limit}
@@ -37,9 +37,12 @@ pub record IsUnopened (asked : List Opening) (status : Status) (old now : Model)
 -- the next reply.
 abbrev pub CutEnds : Start → List ℕ → List (List Event) → List Event → Type 0
 CutEnds start script [] rest =
-    (s : System) × Starts start s × ((more : List ℕ) × (text (Ready (blocks_of start) (length s.plane.slots)) [] ≡ output_of rest ++ more))
+    (s : System) × Starts start s
+    × ((more : List ℕ)
+    × (text (Ready (blocks_of start) (length s.plane.slots)) [] ≡ output_of rest ++ more))
 CutEnds start script (opening ∷ whole) rest =
-    (s : System) × Starts start s × CutReplies s (lines_of script) whole rest × CutConfined s (lines_of script) whole rest
+    (s : System) × Starts start s
+    × CutReplies s (lines_of script) whole rest × CutConfined s (lines_of script) whole rest
 
 -- how many whole parts there are by the status, and what stands behind them
 abbrev pub EndsBy : Start → Told → Status → List ℕ → List (List Event) → List Event → Type 0
@@ -47,7 +50,8 @@ EndsBy start told Sink script whole rest = CutEnds start script whole rest
 EndsBy start told status script whole rest = Ends start told status script whole rest
 
 -- A device was made, or was there, and the script was run on it.
-pub record IsRunOn (start : Start) (device : List ℕ) (status : Status) (old now : Model) : Type 0 where
+pub record IsRunOn (start : Start) (device : List ℕ) (status : Status) (old now : Model)
+    : Type 0 where
   -- the bytes of the script that were taken, and the events of the run in order
   pub script : List ℕ
   pub events : List Event
@@ -88,7 +92,8 @@ pub record IsCheckedOn (device : List ℕ) (status : Status) (old now : Model) :
   pub closes : Closes status old.sink_faults now.sink_faults closing
 
 -- A device was made, and the generated script run on it.
-pub record IsWorkedOn (seed lines : ℕ) (device : List ℕ) (status : Status) (old now : Model) : Type 0 where
+pub record IsWorkedOn (seed lines : ℕ) (device : List ℕ) (status : Status) (old now : Model)
+    : Type 0 where
   -- the events of a run of this script, of which those of the device came; the line that was put, and the closing line
   pub run : List Event
   pub shown : List Event
@@ -97,7 +102,8 @@ pub record IsWorkedOn (seed lines : ℕ) (device : List ℕ) (status : Status) (
   pub openings : now.openings ≡ old.openings ++ asking (Some work_blocks) device true ∷ []
   pub base : now.base ≡ base_of work_start
   pub journal : now.journal ≡ onto (device_events run ++ (shown ++ closing)) []
-  pub faults : HasFailed (device_events run ++ (shown ++ closing)) → Rose old.disk_faults now.disk_faults
+  pub faults : HasFailed (device_events run ++ (shown ++ closing))
+      → Rose old.disk_faults now.disk_faults
   pub taken : now.taken ≡ old.taken
   pub does : HasRun work_start (generated seed lines) (parts run).whole (parts run).unfinished
   pub recovers : RecoversAtFronts work_start (generated seed lines) run
@@ -108,12 +114,19 @@ pub record IsWorkedOn (seed lines : ℕ) (device : List ℕ) (status : Status) (
 -- From one model of the outside to another: the words were no command, memory was wanting before a device was asked for, the
 -- device could not be made or attached, the script was run, the report put, or the generated script run.
 pub data HasEnded (words : List (List ℕ)) (old now : Model) (status : Status) : Type 0 where
-  no_command : status ≡ Usage → ((blocks : Option ℕ) (device : List ℕ) → AsksFor words blocks device → ⊥) → IsUnopened [] status old now → HasEnded words old now status
+  no_command : status ≡ Usage → AreNoCommand words → IsUnopened [] status old now
+      → HasEnded words old now status
   no_memory : status ≡ Memory → IsUnopened [] status old now → HasEnded words old now status
-  no_device : (blocks : Option ℕ) (device : List ℕ) → status ≡ Device → AsksFor words blocks device → IsUnopened (asking blocks device false ∷ []) status old now → HasEnded words old now status
-  ran : (start : Start) (device : List ℕ) → IsRun words (blocks_asked start) device → IsRunOn start device status old now → HasEnded words old now status
-  checked : (device : List ℕ) → IsCheck words device → IsCheckedOn device status old now → HasEnded words old now status
-  worked : (seed lines : ℕ) (device : List ℕ) → IsWork words seed lines device → IsWorkedOn seed lines device status old now → HasEnded words old now status
+  no_device : (blocks : Option ℕ) (device : List ℕ) → status ≡ Device
+      → AsksFor words blocks device
+      → IsUnopened (asking blocks device false ∷ []) status old now
+      → HasEnded words old now status
+  ran : (start : Start) (device : List ℕ) → IsRun words (blocks_asked start) device
+      → IsRunOn start device status old now → HasEnded words old now status
+  checked : (device : List ℕ) → IsCheck words device → IsCheckedOn device status old now
+      → HasEnded words old now status
+  worked : (seed lines : ℕ) (device : List ℕ) → IsWork words seed lines device
+      → IsWorkedOn seed lines device status old now → HasEnded words old now status
 
 -- The whole script was run, on a device that was made, or was there.
 pub record IsDone (words : List (List ℕ)) (old now : Model) : Type 0 where
@@ -136,7 +149,8 @@ abbrev pub IsFinished : List (List ℕ) → Model → Model → Type 0
 IsFinished words old now =
     IsDone words old now
     ⊎ ((device : List ℕ) × IsCheck words device × IsCheckedOn device Done old now)
-    ⊎ ((seed : ℕ) × (lines : ℕ) × (device : List ℕ) × IsWork words seed lines device × IsWorkedOn seed lines device Done old now)
+    ⊎ ((seed : ℕ) × (lines : ℕ) × (device : List ℕ) × IsWork words seed lines device
+    × IsWorkedOn seed lines device Done old now)
 
 -- The process ends with this status: that of a run for the words.
 pub record Exits (words : List (List ℕ)) (was now : Past) (exit : ℕ) : Type 0 where

@@ -27,5 +27,6 @@ pub record CountedSoFar (first : Host) (script left : List (List ℕ)) (events :
   pub devices : device_events (joined whole) ≡ events
   pub tells : Tells tally (map output_of whole)
   pub each : Whatever first told events (λ s h. EachAnswers s meanings whole)
-  pub stands : Whatever first told events (λ s h. Stands host told.blocks (after h events) (system_after s meanings whole))
+  pub stands : Whatever first told events (λ s h.
+      Stands host told.blocks (after h events) (system_after s meanings whole))
   pub fronts : Whatever first told events (λ s h. EachAtFronts h.base h.journal s meanings whole)

@@ -28,11 +28,13 @@ abbrev pub turn_at : Turning → System → List ℕ → ℕ → Meaning → Lis
 turn_at by s full place m es = by s m (ends_of es) (list_any (nat_eq place) full)
 
 -- The replies to lines in turn, of which the first stands at this place. Each line has its device events.
-abbrev pub replies_to : Turning → System → List ℕ → ℕ → List Meaning → List (List Event) → List (List ℕ)
+abbrev pub replies_to : Turning → System → List ℕ → ℕ → List Meaning → List (List Event)
+    → List (List ℕ)
 replies_to by s full place [] lists = []
 replies_to by s full place (m ∷ ms) [] = []
 replies_to by s full place (m ∷ ms) (es ∷ lists) =
-    text (turn_at by s full place m es).said (turn_at by s full place m es).bytes ∷ replies_to by (turn_at by s full place m es).after full (place + 1) ms lists
+    text (turn_at by s full place m es).said (turn_at by s full place m es).bytes
+    ∷ replies_to by (turn_at by s full place m es).after full (place + 1) ms lists
 
 -- a line whose word may find no memory
 abbrev pub can_lack : Meaning → Bool
@@ -42,7 +44,8 @@ can_lack (Err refusal) = false
 -- of lines in turn, the first at this place, only such lines are at the places of `full`
 abbrev pub lack_rightly : List ℕ → ℕ → List Meaning → Bool
 lack_rightly full place [] = true
-lack_rightly full place (m ∷ ms) = (not (list_any (nat_eq place) full) || can_lack m) && lack_rightly full (place + 1) ms
+lack_rightly full place (m ∷ ms) =
+    (not (list_any (nat_eq place) full) || can_lack m) && lack_rightly full (place + 1) ms
 
 -- `work` makes a device of so many blocks
 abbrev pub work_blocks : ℕ
@@ -57,4 +60,5 @@ pub record Summary (by : Turning) (seed lines : ℕ) (full : List ℕ) (lists : 
   pub each : length lists ≡ length meanings
   pub in_prelude : list_all (λ place. nat_le place (length prelude)) full ≡ true
   pub lacking : lack_rightly full 1 meanings ≡ true
-  pub counts : words ≡ summary lines (replies_to by (fresh_system work_blocks) full 1 meanings lists)
+  pub counts : words
+      ≡ summary lines (replies_to by (fresh_system work_blocks) full 1 meanings lists)

@@ -10,8 +10,8 @@ use crate::rates::{PACED, RATES};
 use crate::reopened::REOPENED;
 use crate::runs::{Finished, run_on};
 use crate::words::{
-    ADDRESSES, BINDINGS, CARDS_AND_DOORS, DEVICES_GIVEN_UP, EVERY_WORD, FRAMES, TICKS, TRANSFERS,
-    WORDS_TO_COME,
+    ADDRESSES, BINDINGS, CARDS_AND_DOORS, DEVICES_GIVEN_UP, EVERY_WORD, FRAMES, LOG_COMMANDS,
+    NOT_OPEN, OPENED, TICKS, TRANSFERS, WORDS_TO_COME,
 };
 use ark_base::Status;
 use std::alloc::Global;
@@ -102,6 +102,9 @@ fn answers_as_the_tables_say(rt: HostRuntime) -> Result<(), Fail> {
         DEVICES_GIVEN_UP,
         TRANSFERS,
         BINDINGS,
+        NOT_OPEN,
+        LOG_COMMANDS,
+        OPENED,
         RATES,
         PACED,
         GRANTS,
