@@ -17,6 +17,7 @@ use Rattle.ark_objects.specs.Held.{at as key_at}
 use Rattle.ark_held.specs.Stored.{buffer_kept}
 use Rattle.ark_held.specs.Rings.{card_kept}
 use Rattle.ark_held.specs.Pacing.{rate_kept}
+use Rattle.ark_held.specs.Nets.{net_kept}
 use Rattle.ark_held.specs.Held.{IsObjectOf, Holds}
 use Rattle.ark_held.specs.Keeps.{Keeps}
 use Rattle.ark_held.specs.Beyond.{Beyond, around}
@@ -52,7 +53,7 @@ module _ (r : Beyond) (app app1 : App) (numbers : List ℕ) (machine : Machine) 
     logs = λ s k d c card same at among is kind there on. stays_same d.grant card (card_kept app.devices.cards c.key) (card_kept app1.devices.cards c.key) (ap (λ (e : Devices). card_kept e.cards c.key) devices) there;
     buffers = λ k c stays is kind. entries k c (wider k stays) is kind;
     cards = λ k c stays is kind. ap (λ (d : Devices). card_kept d.cards c.key) devices;
-    nets = λ k c stays is kind. refl;
+    nets = λ k c stays is kind. ap (λ (d : Devices). net_kept d.nets.cards c.key) devices;
     doors = λ k c stays is kind. ap (λ (d : Devices). key_at d.doors c.key) devices;
     rates = λ k c stays is kind. ap (λ (d : Devices). rate_kept d.rates c.key) devices;
     sockets = λ k c stays is kind. refl;

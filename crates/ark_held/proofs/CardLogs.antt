@@ -1,4 +1,4 @@
--- What is so of the log of each card.
+-- What is so of each card, and of the log of each.
 use Rattle.std.proofs.Common.{◌≡◌, inl, inr, ℕ, Bool, List, length, refl, sym, ◌∙◌, ap, subst}
 use Rattle.std.specs.Prelude.{Option, Some, None, IfSome, is_some}
 use Rattle.std.proofs.lemmas.Bool.{cases_eq, false≢true}
@@ -12,26 +12,26 @@ use Rattle.ark_held.specs.LogBuffers.{AllLie}
 use Rattle.ark_held.specs.declared.card.StorageCard.{StorageCard}
 use Rattle.ark_held.proofs.Lists.{some_same}
 
-module _ (P : StorageCard → Type 0) where
-  abbrev OfEachCard : List (Option StorageCard) → Type 0
-  OfEachCard cards = (key : ℕ) (c : StorageCard) → at cards key ≡ Some c → P c
+module _ {T : Type 0} (P : T → Type 0) where
+  abbrev OfEachCard : List (Option T) → Type 0
+  OfEachCard cards = (key : ℕ) (c : T) → at cards key ≡ Some c → P c
 
   -- a key has another card, of which it is so
-  pub card_set : (before after : List (Option StorageCard)) (key : ℕ) (one : StorageCard) → Changes before after key (Some one) → P one → OfEachCard before → OfEachCard after
+  pub card_set : (before after : List (Option T)) (key : ℕ) (one : T) → Changes before after key (Some one) → P one → OfEachCard before → OfEachCard after
   card_set before after key one changes its all k c there = elim (cases_eq k key) [
     | inl e ↦ subst P (some_same (at after key) one c changes.changed (ap (λ (i : ℕ). at after i) (sym e) ∙ there)) its
     | inr other ↦ all k c (sym (changes.others k other) ∙ there)
   ]
 
   -- a key has no card any more
-  pub card_less : (before after : List (Option StorageCard)) (key : ℕ) → Changes before after key None → OfEachCard before → OfEachCard after
+  pub card_less : (before after : List (Option T)) (key : ℕ) → Changes before after key None → OfEachCard before → OfEachCard after
   card_less before after key changes all k c there = elim (cases_eq k key) [
     | inl e ↦ absurd (false≢true (ap is_some (sym changes.changed ∙ ap (λ (i : ℕ). at after i) (sym e) ∙ there)))
     | inr other ↦ all k c (sym (changes.others k other) ∙ there)
   ]
 
   -- where there is no card
-  pub no_card : (cards : List (Option StorageCard)) → ((key : ℕ) → at cards key ≡ None) → OfEachCard cards
+  pub no_card : (cards : List (Option T)) → ((key : ℕ) → at cards key ≡ None) → OfEachCard cards
   no_card cards vacant key c there = absurd (false≢true (ap is_some (sym (vacant key) ∙ there)))
 
 module _ (P : Option OpenChain → Type 0) where

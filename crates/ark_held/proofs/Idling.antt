@@ -1,5 +1,5 @@
 -- Cards that stay idle while a log is open on them.
-use Rattle.std.proofs.Common.{◌≡◌, ℕ, ◌+◌, Bool, true, List, [], ◌∷◌, length, drop, refl, sym, ◌∙◌, ap, arith, eqb-true}
+use Rattle.std.proofs.Common.{◌≡◌, ℕ, true, List, [], ◌∷◌, length, drop, refl, sym, ◌∙◌, ap, arith, eqb-true}
 use Rattle.std.specs.Prelude.{◌==◌, ◌&&◌, Option, Some, None, slice_get}
 use Rattle.std.proofs.lemmas.Bool.{and_parts}
 use Rattle.std.proofs.Math.Bool.{Bool-set}
@@ -54,7 +54,7 @@ unused_idle (Some v) q none = none
 pub idle_log : (log : Option OpenChain) (v w : OpenChain) (q : Queue) → log ≡ Some v → is_idle log q ≡ true → is_idle (Some w) q ≡ true
 idle_log log v w q is idle = ap (λ (o : Option OpenChain). is_idle o q) (sym is) ∙ idle
 
-nothing : {T : Type 0} (xs : List T) → (length xs == 0) ≡ true → xs ≡ []
+pub nothing : {T : Type 0} (xs : List T) → (length xs == 0) ≡ true → xs ≡ []
 nothing [] e = refl
 nothing (x ∷ xs) e = let none = eqb-true (length (x ∷ xs)) 0 e in absurd (let z : ⊥ = omega (arith, none) in z)
 

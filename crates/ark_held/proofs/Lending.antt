@@ -15,11 +15,11 @@ use Rattle.ark_caladan.specs.Chain.{Log, Opened}
 use Rattle.ark_log.specs.Open.{OpenChain}
 use Rattle.ark_machine.specs.Objects
 use Rattle.ark_machine.specs.Objects.{Object, Job, transfer, flush, phase, Place, named as in_buffer, taken, Paced}
-use Rattle.ark_machine.specs.Machine.{Machine, Held}
+use Rattle.ark_machine.specs.Machine.{Machine, Held, holds_any}
 use Rattle.ark_machine.specs.Buffers.{is_lent, has_buffer, job_has, place_has}
-use Rattle.ark_machine.specs.Control.{has_log, is_label, is_open_on, is_paced, is_paced_by, is_watched}
+use Rattle.ark_machine.specs.Control.{has_log, is_label, is_open_on, is_paced, is_paced_by, is_socket_on, is_watched}
 use Rattle.ark_held.specs.Words.{Labels}
-use Rattle.ark_held.specs.Totals.{bit, total, uses, lent_count, open_count}
+use Rattle.ark_held.specs.Totals.{bit, total, uses, lent_count, open_count, socket_count}
 use Rattle.ark_held.specs.Kept.{PaceKept}
 use Rattle.ark_held.specs.Around.{Around, Names, IsGranted, Each, Both}
 use Rattle.ark_held.specs.Areas.{IsOpenedAs}
@@ -74,6 +74,10 @@ lent_is m l b is = any_is (λ h. has_buffer l h.object) (λ h. uses l h.object) 
 pub log_is : (m : Machine) (l : List ℕ) (b : Bool) → bit b ≡ open_count m l → has_log m l ≡ b
 log_is m l b is = any_bit (λ h. is_open_on l h.object) m.held ∙ ap (λ n. nat_lt 0 n) (sym is) ∙ bit_some b
 
+-- no socket is on a card where none is counted
+pub no_socket_on : (m : Machine) (l : List ℕ) → 0 ≡ socket_count m l → holds_any m (is_socket_on l) ≡ false
+no_socket_on m l is = any_bit (λ h. is_socket_on l h.object) m.held ∙ ap (λ n. nat_lt 0 n) (sym is)
+
 -- Nothing has a buffer under a label that is no buffer's.
 
 each_zero : {X Y : Type 0} (P : X → Y → Type 0) (f : Y → ℕ) → ((x : X) (y : Y) → P x y → f y ≡ 0) → (xs : List X) (ys : List Y) → Each P xs ys → total f ys ≡ 0
@@ -97,18 +101,18 @@ module _ (x : Around) (l : List ℕ) (other : (c : Capability) → value_at x.la
   ended_none log c (flush, o) is = refl
   ended_none log c (phase p, o) is = refl
 
-  place_none : (tag : ℕ) (given : Option Piece) (p : Place) → IsFramePlace x tag given p → bit (place_has l p) ≡ 0
-  place_none tag given (in_buffer b) is = name_none x l cap_kind.Buf other b tag is.named
-  place_none tag given (taken b) is = refl
+  place_none : (ports : Option ℕ) (tag : ℕ) (given : Option Piece) (p : Place) → IsFramePlace x ports tag given p → bit (place_has l p) ≡ 0
+  place_none ports tag given (in_buffer b) is = name_none x l cap_kind.Buf other b tag is.named
+  place_none ports tag given (taken b) is = refl
 
-  received_none : (c : Completion) (u : Place × ℕ) → IsReceived x c u → bit (place_has l u.0) ≡ 0
-  received_none c (p, len) is = place_none c.tag c.buf p is.1
+  received_none : (ports : Option ℕ) (c : Completion) (u : Place × ℕ) → IsReceived x ports c u → bit (place_has l u.0) ≡ 0
+  received_none ports c (p, len) is = place_none ports c.tag c.buf p is.1
 
-  sending_none : (d : Descriptor) (p : Place × ℕ) → IsSending x d p → bit (place_has l p.0) ≡ 0
-  sending_none d (p, len) is = place_none d.tag d.buf p is.2
+  sending_none : (ports : Option ℕ) (d : Descriptor) (p : Place × ℕ) → IsSending x ports d p → bit (place_has l p.0) ≡ 0
+  sending_none ports d (p, len) is = place_none ports d.tag d.buf p is.2
 
-  sent_none : (c : Completion) (u : Place × Outcome) → IsSent x c u → bit (place_has l u.0) ≡ 0
-  sent_none c (p, o) is = place_none c.tag c.buf p is.1
+  sent_none : (ports : Option ℕ) (c : Completion) (u : Place × Outcome) → IsSent x ports c u → bit (place_has l u.0) ≡ 0
+  sent_none ports c (p, o) is = place_none ports c.tag c.buf p is.1
 
   pub none_uses : (k : List ℕ) (c : Capability) (o : Object) → IsObjectOf x k c o → uses l o ≡ 0
   none_uses k c (Objects.vsic v) f =
@@ -116,10 +120,10 @@ module _ (x : Around) (l : List ℕ) (other : (c : Capability) → value_at x.la
       let b = each_zero (IsEnded x f.card.log) (λ u. bit (job_has l u.0)) (ended_none f.card.log) f.card.ring.unreaped v.queue.unreaped f.unreaped in
       omega (arith, a, b)
   none_uses k c (Objects.vnic v) f =
-      let a = each_zero (IsReceiving x) (λ p. bit (place_has l p)) (λ d p is. place_none d.tag d.buf p is.1) f.net.rx.posted v.rx.posted f.rx_posted in
-      let b = each_zero (IsReceived x) (λ u. bit (place_has l u.0)) received_none f.net.rx.unreaped v.rx.unreaped f.rx_unreaped in
-      let d = each_zero (IsSending x) (λ p. bit (place_has l p.0)) sending_none f.net.tx.posted v.tx.posted f.tx_posted in
-      let e = each_zero (IsSent x) (λ u. bit (place_has l u.0)) sent_none f.net.tx.unreaped v.tx.unreaped f.tx_unreaped in
+      let a = each_zero (IsReceiving x f.net.ports) (λ p. bit (place_has l p)) (λ d p is. place_none f.net.ports d.tag d.buf p is.1) f.net.rx.posted v.rx.posted f.rx_posted in
+      let b = each_zero (IsReceived x f.net.ports) (λ u. bit (place_has l u.0)) (received_none f.net.ports) f.net.rx.unreaped v.rx.unreaped f.rx_unreaped in
+      let d = each_zero (IsSending x f.net.ports) (λ p. bit (place_has l p.0)) (sending_none f.net.ports) f.net.tx.posted v.tx.posted f.tx_posted in
+      let e = each_zero (IsSent x f.net.ports) (λ u. bit (place_has l u.0)) (sent_none f.net.ports) f.net.tx.unreaped v.tx.unreaped f.tx_unreaped in
       omega (arith, a, b, d, e)
   none_uses k c (Objects.raw z) f = refl
   none_uses k c (Objects.log z) f = refl
@@ -163,6 +167,19 @@ module _ (x : Around) (l : List ℕ) (absent : value_at x.labels l ≡ None) whe
   none_open [] (h ∷ hs) all = absurd all
   none_open (p ∷ ps) [] all = absurd all
 
+-- Nor is a socket.
+
+module _ (x : Around) (l : List ℕ) (absent : value_at x.labels l ≡ None) where
+  object_socketed : (k : List ℕ) (c : Capability) (o : Object) → IsObjectOf x k c o → bit (is_socket_on l o) ≡ 0
+  object_socketed k c (Objects.socket z) f = name_none x l cap_kind.Vnic (λ d is kind. not_some (value_at x.labels l) d absent is) z.card f.socket.card f.card
+  object_socketed k c _ f = refl
+
+  pub none_socketed : (ps : Labels) (hs : List Held) → AllMatch x ps hs → total (λ h. bit (is_socket_on l h.object)) hs ≡ 0
+  none_socketed [] [] all = refl
+  none_socketed (p ∷ ps) (h ∷ hs) all = let a = object_socketed p.0 p.1 h.object all.0.object in let b = none_socketed ps hs all.1 in omega (arith, a, b)
+  none_socketed [] (h ∷ hs) all = absurd all
+  none_socketed (p ∷ ps) [] all = absurd all
+
 -- An object that does not have the buffer under a label names other labels alone.
 
 bit_zero : (b : Bool) → bit b ≡ 0 → not b ≡ true
@@ -175,7 +192,13 @@ narrow P Q f step (x ∷ xs) none all = (step x (omega (arith, none)) all.0, nar
 
 -- What names no label of this kind, or not this one of it, has all else within the others.
 
-module _ (x : Around) (l : List ℕ) (cap : Capability) (there : value_at x.labels l ≡ Some cap) (no_net : cap.kind ≡ cap_kind.Vnic → ⊥) (rests : Piece → Type 0) where
+-- a filter is assigned to the network card under a label, or a socket is on it
+abbrev pub names_net : List ℕ → Object → Bool
+names_net l (Objects.filter f card) = is_label l card
+names_net l (Objects.socket k) = bytes_eq l k.card
+names_net l _ = false
+
+module _ (x : Around) (l : List ℕ) (cap : Capability) (there : value_at x.labels l ≡ Some cap) (rests : Piece → Type 0) where
   name_apart : (b : List ℕ) (c : Capability) (kind : CapKind) → value_at x.labels b ≡ Some c → c.kind ≡ kind → (cap.kind ≡ kind → bytes_eq l b ≡ false) → but l b ≡ true
   name_apart b c kind at is other =
       ap not (name_other l b (λ e. other_name l b
@@ -202,26 +225,27 @@ module _ (x : Around) (l : List ℕ) (cap : Capability) (there : value_at x.labe
   door_narrow None (Some d) is unwatched = absurd is
   door_narrow (Some k) None is unwatched = absurd is
 
-  card_narrow : (k : Option ℕ) (v : Option (List ℕ)) → Both (λ g v. IsGranted x v cap_kind.Vnic g) k v → LabelWithin (but l) rests v
-  card_narrow None None is = tt
-  card_narrow (Some k) (Some v) is = name_apart v is.cap cap_kind.Vnic is.there is.its_kind (λ e. absurd (no_net e))
-  card_narrow None (Some v) is = absurd is
-  card_narrow (Some k) None is = absurd is
+  card_narrow : (k : Option ℕ) (v : Option (List ℕ)) → Both (λ g v. IsGranted x v cap_kind.Vnic g) k v → (cap.kind ≡ cap_kind.Vnic → is_label l v ≡ false) → LabelWithin (but l) rests v
+  card_narrow None None is unused = tt
+  card_narrow (Some k) (Some v) is unused = name_apart v is.cap cap_kind.Vnic is.there is.its_kind unused
+  card_narrow None (Some v) is unused = absurd is
+  card_narrow (Some k) None is unused = absurd is
 
   opened_narrow : (grant : ℕ) (blocks : List ℕ) (g : Log) (o : Option Opened) → IsOpenedAs x grant blocks g o → (cap.kind ≡ cap_kind.Vsic → unwrap_or (option_map (λ z. bytes_eq l z.card) o) false ≡ false) → OpenedWithin any_label rests o → OpenedWithin (but l) rests o
   opened_narrow grant blocks g None is closed w = tt
   opened_narrow grant blocks g (Some o) is closed w = (name_apart o.card is.card.cap cap_kind.Vsic is.card.there is.card.its_kind closed, w.1, w.2)
 
-  pub narrowed_from : (k : List ℕ) (c : Capability) (o : Object) → IsObjectOf x k c o → uses l o ≡ 0 → (cap.kind ≡ cap_kind.Door → is_watched l o ≡ false) → (cap.kind ≡ cap_kind.Vsic → is_open_on l o ≡ false) → (cap.kind ≡ cap_kind.Rate → is_paced l o ≡ false) → Within any_label rests o → Within (but l) rests o
-  narrowed_from k c (Objects.raw z) f none seen closed unpaced w = tt
-  narrowed_from k c (Objects.log g) f none seen closed unpaced w = opened_narrow c.grant f.slot.blocks g g.opened f.opened closed w
-  narrowed_from k c (Objects.vsic v) f none seen closed unpaced w = (
+  pub narrowed_from : (k : List ℕ) (c : Capability) (o : Object) → IsObjectOf x k c o → uses l o ≡ 0 → (cap.kind ≡ cap_kind.Door → is_watched l o ≡ false) → (cap.kind ≡ cap_kind.Vsic → is_open_on l o ≡ false) → (cap.kind ≡ cap_kind.Rate → is_paced l o ≡ false)
+      → (cap.kind ≡ cap_kind.Vnic → names_net l o ≡ false) → Within any_label rests o → Within (but l) rests o
+  narrowed_from k c (Objects.raw z) f none seen closed unpaced unused w = tt
+  narrowed_from k c (Objects.log g) f none seen closed unpaced unused w = opened_narrow c.grant f.slot.blocks g g.opened f.opened closed w
+  narrowed_from k c (Objects.vsic v) f none seen closed unpaced unused w = (
     narrow (JobWithin any_label rests) (JobWithin (but l) rests) (λ j. bit (job_has l j)) job_narrow v.queue.posted (omega (arith, none)) w.0,
     narrow (λ u. JobWithin any_label rests u.0) (λ u. JobWithin (but l) rests u.0) (λ u. bit (job_has l u.0)) (λ u. job_narrow u.0) v.queue.unreaped (omega (arith, none)) w.1,
     paced_narrow f.card.pace v.pace f.pace unpaced,
     door_narrow f.card.door v.door f.door seen,
   )
-  narrowed_from k c (Objects.vnic v) f none seen closed unpaced w = (
+  narrowed_from k c (Objects.vnic v) f none seen closed unpaced unused w = (
     narrow (PlaceWithin any_label rests) (PlaceWithin (but l) rests) (λ p. bit (place_has l p)) place_narrow v.rx.posted (omega (arith, none)) w.0,
     narrow (λ u. PlaceWithin any_label rests u.0) (λ u. PlaceWithin (but l) rests u.0) (λ u. bit (place_has l u.0)) (λ u. place_narrow u.0) v.rx.unreaped (omega (arith, none)) w.1,
     narrow (λ p. PlaceWithin any_label rests p.0) (λ p. PlaceWithin (but l) rests p.0) (λ p. bit (place_has l p.0)) (λ p. place_narrow p.0) v.tx.posted (omega (arith, none)) w.2,
@@ -231,25 +255,26 @@ module _ (x : Around) (l : List ℕ) (cap : Capability) (there : value_at x.labe
     door_narrow f.net.rx_door v.rx_door f.rx_door (λ e. (none_of_both (is_label l v.rx_door) (is_label l v.tx_door) (seen e)).0),
     door_narrow f.net.tx_door v.tx_door f.tx_door (λ e. (none_of_both (is_label l v.rx_door) (is_label l v.tx_door) (seen e)).1),
   )
-  narrowed_from k c (Objects.filter z card) f none seen closed unpaced w = card_narrow f.live.vnic card f.card
-  narrowed_from k c (Objects.door z) f none seen closed unpaced w = tt
-  narrowed_from k c (Objects.rate z y) f none seen closed unpaced w = tt
-  narrowed_from k c (Objects.buffer z) f none seen closed unpaced w = w
-  narrowed_from k c (Objects.socket z) f none seen closed unpaced w = name_apart z.card f.card.cap cap_kind.Vnic f.card.there f.card.its_kind (λ e. absurd (no_net e))
+  narrowed_from k c (Objects.filter z card) f none seen closed unpaced unused w = card_narrow f.live.vnic card f.card unused
+  narrowed_from k c (Objects.door z) f none seen closed unpaced unused w = tt
+  narrowed_from k c (Objects.rate z y) f none seen closed unpaced unused w = tt
+  narrowed_from k c (Objects.buffer z) f none seen closed unpaced unused w = w
+  narrowed_from k c (Objects.socket z) f none seen closed unpaced unused w = name_apart z.card f.card.cap cap_kind.Vnic f.card.there f.card.its_kind unused
 
 -- of a buffer's label
 pub narrowed : (x : Around) (l : List ℕ) (cap : Capability) → value_at x.labels l ≡ Some cap → cap.kind ≡ cap_kind.Buf → (rests : Piece → Type 0) (k : List ℕ) (c : Capability) (o : Object) → IsObjectOf x k c o → uses l o ≡ 0
     → Within any_label rests o → Within (but l) rests o
-narrowed x l cap there is rests k c o f none w = narrowed_from x l cap there (λ e. cc (is, e)) rests k c o f none (λ e. cc (is, e)) (λ e. cc (is, e)) (λ e. cc (is, e)) w
+narrowed x l cap there is rests k c o f none w = narrowed_from x l cap there rests k c o f none (λ e. cc (is, e)) (λ e. cc (is, e)) (λ e. cc (is, e)) (λ e. cc (is, e)) w
 
 -- of a label of another kind
-pub narrowed_other : (x : Around) (l : List ℕ) (cap : Capability) → value_at x.labels l ≡ Some cap → (cap.kind ≡ cap_kind.Vnic → ⊥) → (cap.kind ≡ cap_kind.Buf → ⊥) → (rests : Piece → Type 0) (k : List ℕ) (c : Capability) (o : Object) → IsObjectOf x k c o
-    → (cap.kind ≡ cap_kind.Door → is_watched l o ≡ false) → (cap.kind ≡ cap_kind.Vsic → is_open_on l o ≡ false) → (cap.kind ≡ cap_kind.Rate → is_paced l o ≡ false) → Within any_label rests o → Within (but l) rests o
-narrowed_other x l cap there no_net no_buffer rests k c o f seen closed unpaced w =
-    narrowed_from x l cap there no_net rests k c o f
-    (none_uses x l (λ d at kind. no_buffer (ap (λ (z : Capability). z.kind) (some_same (value_at x.labels l) cap d there at) ∙ kind)) k c o f) seen closed unpaced w
+pub narrowed_other : (x : Around) (l : List ℕ) (cap : Capability) → value_at x.labels l ≡ Some cap → (cap.kind ≡ cap_kind.Buf → ⊥) → (rests : Piece → Type 0) (k : List ℕ) (c : Capability) (o : Object) → IsObjectOf x k c o
+    → (cap.kind ≡ cap_kind.Door → is_watched l o ≡ false) → (cap.kind ≡ cap_kind.Vsic → is_open_on l o ≡ false) → (cap.kind ≡ cap_kind.Rate → is_paced l o ≡ false)
+    → (cap.kind ≡ cap_kind.Vnic → names_net l o ≡ false) → Within any_label rests o → Within (but l) rests o
+narrowed_other x l cap there no_buffer rests k c o f seen closed unpaced unused w =
+    narrowed_from x l cap there rests k c o f
+    (none_uses x l (λ d at kind. no_buffer (ap (λ (z : Capability). z.kind) (some_same (value_at x.labels l) cap d there at) ∙ kind)) k c o f) seen closed unpaced unused w
 
 -- An object names no area by its label.
 pub narrowed_area : (x : Around) (l : List ℕ) (cap : Capability) → value_at x.labels l ≡ Some cap → cap.kind ≡ cap_kind.Vsa → (rests : Piece → Type 0) (k : List ℕ) (c : Capability) (o : Object) → IsObjectOf x k c o
     → Within any_label rests o → Within (but l) rests o
-narrowed_area x l cap there is rests k c o f w = narrowed_other x l cap there (λ e. cc (is, e)) (λ e. cc (is, e)) rests k c o f (λ e. cc (is, e)) (λ e. cc (is, e)) (λ e. cc (is, e)) w
+narrowed_area x l cap there is rests k c o f w = narrowed_other x l cap there (λ e. cc (is, e)) rests k c o f (λ e. cc (is, e)) (λ e. cc (is, e)) (λ e. cc (is, e)) (λ e. cc (is, e)) w

@@ -1,16 +1,15 @@
 -- A log and the card on which it is open change together, with bytes and frames of its own: what stays, and what labels stand for then.
-use Rattle.std.proofs.Common.{◌≡◌, ◌⊎◌, inl, inr, ℕ, ◌+◌, ◌<◌, ◌≤◌, Bool, true, false, not, cond, ◌&&◌, List, [], ◌∷◌, length, map, refl, sym, ◌∙◌, ap, subst, arith, bytes_eq, nat_eq}
-use Rattle.std.specs.Prelude.{Option, Some, None, find, is_some, option_map, slice_get, slice_index_or}
+use Rattle.std.proofs.Common.{◌≡◌, ◌⊎◌, inl, inr, ℕ, ◌+◌, ◌≤◌, Bool, true, false, not, cond, ◌&&◌, List, [], ◌∷◌, length, map, refl, sym, ◌∙◌, ap, subst, arith, bytes_eq, nat_eq}
+use Rattle.std.specs.Prelude.{Option, Some, None, find, is_some, option_map, slice_index_or}
 use Rattle.std.specs.Map.{lookup}
 use Rattle.std.proofs.lemmas.Bool.{cases_eq, false≢true, and_parts}
 use Rattle.std.proofs.lemmas.Simd.{map-map}
-use Rattle.ark_base.specs.declared.kind.Outcome.{Outcome}
 use Rattle.ark_media.specs.Journal.{History}
 use Rattle.ark_objects.specs.Held.{at as key_at, Changes}
 use Rattle.ark_caps.specs.Labels.{value_at}
 use Rattle.ark_caps.specs.declared.capability.Capability.{Capability}
 use Rattle.ark_caps.specs.declared.capability.CapKind.TheVariants as cap_kind
-use Rattle.ark_region.specs.Frames.{Piece, Covers, bytes_of}
+use Rattle.ark_region.specs.Frames.{Piece, bytes_of}
 use Rattle.ark_vic.specs.declared.door.Counts.{Counts}
 use Rattle.ark_caladan.specs.Chain.{Log}
 use Rattle.ark_log.specs.Open.{OpenChain}
@@ -25,17 +24,19 @@ use Rattle.ark_held.specs.Kept.{CardKept}
 use Rattle.ark_held.specs.Stored.{buffer_kept}
 use Rattle.ark_held.specs.Rings.{kept_card, card_kept}
 use Rattle.ark_held.specs.Pacing.{rate_kept}
+use Rattle.ark_held.specs.Nets.{net_kept}
 use Rattle.ark_held.specs.Around.{Around, slot_at}
 use Rattle.ark_held.specs.Areas.{IsLog}
 use Rattle.ark_held.specs.Cards.{IsCard}
 use Rattle.ark_held.specs.Held.{IsObjectOf, AllMatch, AreDistinctLabels, Matches, Holds, has_key}
-use Rattle.ark_held.specs.Keeps.{Keeps, Within, IsOpenOn, SameAt, StaysOpen, any_label}
+use Rattle.ark_held.specs.Keeps.{Keeps, IsOpenOn, SameAt, StaysOpen, any_label}
 use Rattle.ark_held.specs.Beyond.{Beyond, around}
 use Rattle.ark_held.specs.declared.allowance.Allowance.{Allowance}
 use Rattle.ark_held.specs.declared.app.App.{App}
 use Rattle.ark_held.specs.declared.buffer.Buffer.{Buffer}
 use Rattle.ark_held.specs.declared.card.StorageCard.{StorageCard}
-use Rattle.ark_held.proofs.Lists.{by_test, same_name, other_name, name_other, not_some, some_same, head_apart}
+use Rattle.ark_held.specs.declared.nets.Nets.{Nets}
+use Rattle.ark_held.proofs.Lists.{by_test, same_name, other_name, name_other, some_same, head_apart}
 use Rattle.ark_held.proofs.Changing.{put_at}
 use Rattle.ark_held.proofs.Covering.{Spares, within_spares, in_total, two_total, found_in}
 use Rattle.ark_held.proofs.Finding.{found_there, its_own}
@@ -83,6 +84,7 @@ pub record Reaches (r : Beyond) (app app1 : App) (s : List ℕ) (history : Histo
   pub areas : app1.areas ≡ app.areas
   pub doors : app1.devices.doors ≡ app.devices.doors
   pub rates : app1.devices.rates ≡ app.devices.rates
+  pub nets : app1.devices.nets ≡ app.devices.nets
   pub base : history.base ≡ r.history.base
   pub beside : (l : List ℕ) (t : Slot) → bytes_eq s l ≡ false → slot_at (around r app) l ≡ Some t → SameAt r.history history t.blocks
   pub frames : length app1.store.region.taken ≡ length app.store.region.taken
@@ -136,7 +138,7 @@ module _ (r : Beyond) (app : App) (h : Holds (around r app)) (s : List ℕ) (hel
       logs = λ k l d c q stays at named is kind there on. logs k l d c q stays at is kind there on;
       buffers = λ k c stays is kind. ap (λ (bs : List (Option Buffer)). buffer_kept bs c.key) e.buffers;
       cards = cards;
-      nets = λ k c stays is kind. refl;
+      nets = λ k c stays is kind. ap (λ (ns : Nets). net_kept ns.cards c.key) e.nets;
       doors = λ k c stays is kind. ap (λ (ds : List (Option Counts)). key_at ds c.key) e.doors;
       rates = λ k c stays is kind. ap (λ (rs : List (Option Allowance)). rate_kept rs c.key) e.rates;
       sockets = λ k c stays is kind. refl;

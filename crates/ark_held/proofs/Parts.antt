@@ -16,6 +16,7 @@ use Rattle.ark_held.specs.Totals.{bit, uses, object_covers, lent_count, open_cou
 use Rattle.ark_held.specs.Stored.{buffer_kept}
 use Rattle.ark_held.specs.Rings.{card_kept}
 use Rattle.ark_held.specs.Pacing.{rate_kept}
+use Rattle.ark_held.specs.Nets.{net_kept}
 use Rattle.ark_held.specs.Around.{Around}
 use Rattle.ark_held.specs.Held.{Holds, IsObjectOf, has_key, is_area, is_area_cap, area_labels}
 use Rattle.ark_held.specs.Keeps.{Keeps, any_label, any_piece, LogsStay}
@@ -34,7 +35,7 @@ use Rattle.ark_held.proofs.Staying.{within}
 abbrev pub AreCounted : (List ℕ → Bool) → Machine → Machine → Type 0
 AreCounted same m n = (k : List ℕ) → same k ≡ true → (lent_count n k ≡ lent_count m k) × (open_count n k ≡ open_count m k) × (socket_count n k ≡ socket_count m k)
 
--- from application app to app1 these labels keep their cards, doors and rates, and each card the log that is open on it
+-- from application app to app1 these labels keep their cards of both kinds, doors and rates, and each storage card the log that is open on it
 pub record KeepsParts (same : List ℕ → Bool) (app app1 : App) : Type 0 where
   pub store : app1.store ≡ app.store
   pub areas : app1.areas ≡ app.areas
@@ -43,6 +44,7 @@ pub record KeepsParts (same : List ℕ → Bool) (app app1 : App) : Type 0 where
   pub cards : (k : List ℕ) (c : Capability) → same k ≡ true → value_at app.labels k ≡ Some c → c.kind ≡ cap_kind.Vsic → card_kept app1.devices.cards c.key ≡ card_kept app.devices.cards c.key
   pub doors : (k : List ℕ) (c : Capability) → same k ≡ true → value_at app.labels k ≡ Some c → c.kind ≡ cap_kind.Door → key_at app1.devices.doors c.key ≡ key_at app.devices.doors c.key
   pub rates : (k : List ℕ) (c : Capability) → same k ≡ true → value_at app.labels k ≡ Some c → c.kind ≡ cap_kind.Rate → rate_kept app1.devices.rates c.key ≡ rate_kept app.devices.rates c.key
+  pub nets : (k : List ℕ) (c : Capability) → same k ≡ true → value_at app.labels k ≡ Some c → c.kind ≡ cap_kind.Vnic → net_kept app1.devices.nets.cards c.key ≡ net_kept app.devices.nets.cards c.key
 
 module _ (r : Beyond) (app app1 : App) (numbers : List ℕ) (machine : Machine) (same : List ℕ → Bool) (p : KeepsParts same app app1) (counts : AreCounted same r.machine machine) where
   pub parts_keep : ((i n : ℕ) → slice_get r.numbers i ≡ Some n → slice_get numbers i ≡ Some n)
@@ -60,7 +62,7 @@ module _ (r : Beyond) (app app1 : App) (numbers : List ℕ) (machine : Machine) 
     logs = λ s k d c card stays at among is kind there on. p.logs k c is kind card d.grant there on;
     buffers = λ k c stays is kind. ap (λ (s : Store). buffer_kept s.buffers c.key) p.store;
     cards = λ k c stays is kind. p.cards k c stays is kind;
-    nets = λ k c stays is kind. refl;
+    nets = λ k c stays is kind. p.nets k c stays is kind;
     doors = λ k c stays is kind. p.doors k c stays is kind;
     rates = λ k c stays is kind. p.rates k c stays is kind;
     sockets = λ k c stays is kind. refl;

@@ -23,7 +23,7 @@ use Rattle.ark_held.proofs.Exchanging.{HasBoth, exchanged, lent_then, was_lent, 
 module _ (r : Beyond) (app app1 : App) (v b : List ℕ) (h : Holds (around r app)) (both : HasBoth (around r app) v b) (t : Transfer) (to : t.buffer ≡ b) (one : StorageCard) (here : key_at app.devices.cards both.card.key ≡ Some one) (shut : one.log ≡ None)
     (lent : kept.Buffer) (was : key_at app.store.buffers both.cap.key ≡ Some lent) (right : is_none lent.buf ≡ false)
     (d : Descriptor) (cards : Changes app.devices.cards app1.devices.cards both.card.key (Some (with_posted d one))) (buffers : Changes app.store.buffers app1.store.buffers both.cap.key (Some (record lent { buf = None })))
-    (region : app1.store.region ≡ app.store.region) (labels : app1.labels ≡ app.labels) (doors : app1.devices.doors ≡ app.devices.doors) (rates : app1.devices.rates ≡ app.devices.rates) (areas : app1.areas ≡ app.areas) where
+    (region : app1.store.region ≡ app.store.region) (labels : app1.labels ≡ app.labels) (doors : app1.devices.doors ≡ app.devices.doors) (rates : app1.devices.rates ≡ app.devices.rates) (nets : app1.devices.nets ≡ app.devices.nets) (areas : app1.areas ≡ app.areas) where
   abbrev pub ring : Queue
   ring = record one.vsic.ring { posted = one.vsic.ring.posted ++ d ∷ [] }
 
@@ -41,16 +41,16 @@ module _ (r : Beyond) (app app1 : App) (v b : List ℕ) (h : Holds (around r app
   used k other = let more = uses_more k in let none : bit (bytes_eq k b) ≡ 0 = ap bit other in omega (arith, more, none)
 
   abbrev pub then : Around
-  then = y r app app1 v b h both one here shut lent was ring queue None cards buffers region labels doors rates areas used
+  then = y r app app1 v b h both one here shut lent was ring queue None cards buffers region labels doors rates nets areas used
 
   pub posted : IsJob then one.log d (transfer t) → Holds then
-  posted job = exchanged r app app1 v b h both one here shut lent was ring queue None cards buffers region labels doors rates areas used refl
-      (each_more (IsJob then one.log) one.vsic.ring.posted both.vsic.queue.posted d (transfer t) (posted_then r app app1 v b h both one here shut lent was ring queue None cards buffers region labels doors rates areas used) job)
-      (unreaped_then r app app1 v b h both one here shut lent was ring queue None cards buffers region labels doors rates areas used)
-      (moved_then r app app1 v b h both one here shut lent was ring queue None cards buffers region labels doors rates areas used)
+  posted job = exchanged r app app1 v b h both one here shut lent was ring queue None cards buffers region labels doors rates nets areas used refl
+      (each_more (IsJob then one.log) one.vsic.ring.posted both.vsic.queue.posted d (transfer t) (posted_then r app app1 v b h both one here shut lent was ring queue None cards buffers region labels doors rates nets areas used) job)
+      (unreaped_then r app app1 v b h both one here shut lent was ring queue None cards buffers region labels doors rates nets areas used)
+      (moved_then r app app1 v b h both one here shut lent was ring queue None cards buffers region labels doors rates nets areas used)
       (λ p is. absurd (cc (is)))
-      (let then_count = lent_then r app app1 v b h both one here shut lent was ring queue None cards buffers region labels doors rates areas used b in
-      let had = was_lent r app app1 v b h both one here shut lent was ring queue None cards buffers region labels doors rates areas used in
+      (let then_count = lent_then r app app1 v b h both one here shut lent was ring queue None cards buffers region labels doors rates nets areas used b in
+      let had = was_lent r app app1 v b h both one here shut lent was ring queue None cards buffers region labels doors rates nets areas used in
       let gone : bit (is_none lent.buf) ≡ 0 = ap bit right in
       let more = uses_more b in
       let its : bit (bytes_eq b b) ≡ 1 = ap bit (name_same b b refl) in

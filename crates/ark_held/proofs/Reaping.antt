@@ -25,7 +25,7 @@ module _ (r : Beyond) (app app1 : App) (v b : List ℕ) (h : Holds (around r app
     (lent : kept.Buffer) (was : key_at app.store.buffers both.cap.key ≡ Some lent)
     (c : Completion) (cs : List Completion) (first : one.vsic.ring.unreaped ≡ c ∷ cs) (o : Outcome) (us : List (Job × Outcome)) (oldest : both.vsic.queue.unreaped ≡ (transfer t, o) ∷ us)
     (cards : Changes app.devices.cards app1.devices.cards both.card.key (Some (with_reaped one))) (buffers : Changes app.store.buffers app1.store.buffers both.cap.key (Some (record lent { buf = Some (place_kept lent) })))
-    (region : app1.store.region ≡ app.store.region) (labels : app1.labels ≡ app.labels) (doors : app1.devices.doors ≡ app.devices.doors) (rates : app1.devices.rates ≡ app.devices.rates) (areas : app1.areas ≡ app.areas) where
+    (region : app1.store.region ≡ app.store.region) (labels : app1.labels ≡ app.labels) (doors : app1.devices.doors ≡ app.devices.doors) (rates : app1.devices.rates ≡ app.devices.rates) (nets : app1.devices.nets ≡ app.devices.nets) (areas : app1.areas ≡ app.areas) where
   abbrev pub ring : Queue
   ring = record one.vsic.ring { unreaped = drop 1 one.vsic.ring.unreaped }
 
@@ -43,23 +43,23 @@ module _ (r : Beyond) (app app1 : App) (v b : List ℕ) (h : Holds (around r app
   used k other = let less = uses_less k in let none : bit (bytes_eq k b) ≡ 0 = ap bit other in omega (arith, less, none)
 
   abbrev pub then : Around
-  then = y r app app1 v b h both one here shut lent was ring queue (Some (place_kept lent)) cards buffers region labels doors rates areas used
+  then = y r app app1 v b h both one here shut lent was ring queue (Some (place_kept lent)) cards buffers region labels doors rates nets areas used
 
   rest_then : Each (IsEnded then one.log) (drop 1 one.vsic.ring.unreaped) us
   rest_then =
-      let all = unreaped_then r app app1 v b h both one here shut lent was ring queue (Some (place_kept lent)) cards buffers region labels doors rates areas used in
+      let all = unreaped_then r app app1 v b h both one here shut lent was ring queue (Some (place_kept lent)) cards buffers region labels doors rates nets areas used in
       let split : Each (IsEnded then one.log) (c ∷ cs) ((transfer t, o) ∷ us) =
       subst (λ (zs : List (Job × Outcome)). Each (IsEnded then one.log) (c ∷ cs) zs) oldest (subst (λ (zs : List Completion). Each (IsEnded then one.log) zs both.vsic.queue.unreaped) first all) in
       subst (λ (zs : List Completion). Each (IsEnded then one.log) (drop 1 zs) us) (sym first) split.1
 
   pub reaped : Holds then
-  reaped = exchanged r app app1 v b h both one here shut lent was ring queue (Some (place_kept lent)) cards buffers region labels doors rates areas used refl
-      (posted_then r app app1 v b h both one here shut lent was ring queue (Some (place_kept lent)) cards buffers region labels doors rates areas used)
+  reaped = exchanged r app app1 v b h both one here shut lent was ring queue (Some (place_kept lent)) cards buffers region labels doors rates nets areas used refl
+      (posted_then r app app1 v b h both one here shut lent was ring queue (Some (place_kept lent)) cards buffers region labels doors rates nets areas used)
       rest_then
-      (moved_then r app app1 v b h both one here shut lent was ring queue (Some (place_kept lent)) cards buffers region labels doors rates areas used)
+      (moved_then r app app1 v b h both one here shut lent was ring queue (Some (place_kept lent)) cards buffers region labels doors rates nets areas used)
       (λ p is. some_same (Some (place_kept lent)) p (place_kept lent) is refl)
-      (let then_count = lent_then r app app1 v b h both one here shut lent was ring queue (Some (place_kept lent)) cards buffers region labels doors rates areas used b in
-      let had = was_lent r app app1 v b h both one here shut lent was ring queue (Some (place_kept lent)) cards buffers region labels doors rates areas used in
+      (let then_count = lent_then r app app1 v b h both one here shut lent was ring queue (Some (place_kept lent)) cards buffers region labels doors rates nets areas used b in
+      let had = was_lent r app app1 v b h both one here shut lent was ring queue (Some (place_kept lent)) cards buffers region labels doors rates nets areas used in
       let most = at_most_one (is_none lent.buf) in
       let less = uses_less b in
       let its : bit (bytes_eq b b) ≡ 1 = ap bit (name_same b b refl) in

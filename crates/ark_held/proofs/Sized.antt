@@ -1,10 +1,13 @@
 -- Each buffer that an application holds has a frame at least.
-use Rattle.std.proofs.Common.{ℕ, ◌<◌, List, [], ◌∷◌, ◌++◌, length, refl, sym, subst, arith}
+use Rattle.std.proofs.Common.{ℕ, ◌<◌, List, [], ◌∷◌, ◌++◌, length, sym, subst, arith}
 use Rattle.std.specs.Prelude.{Option, Some, None, map}
 use Rattle.std.specs.List.{flat_map}
 use Rattle.std.proofs.lemmas.Bool.Decides.{nat_tests}
 use Rattle.ark_caps.specs.declared.capability.Capability.{Capability}
-use Rattle.ark_region.specs.Frames.{frames_of}
+use Rattle.ark_base.specs.declared.kind.Outcome.{Outcome}
+use Rattle.ark_region.specs.Frames.{Piece, frames_of}
+use Rattle.ark_vic.specs.declared.descriptor.Descriptor.{Descriptor}
+use Rattle.ark_vic.specs.declared.descriptor.Completion.{Completion}
 use Rattle.ark_entry.specs.Entry.{entry_blocks}
 use Rattle.ark_entry.proofs.Readings.{some_block}
 use Rattle.ark_caladan.specs.Chain as chain
@@ -14,16 +17,16 @@ use Rattle.ark_log.specs.declared.command.Command.TheVariants.{Append, Trim, Pop
 use Rattle.ark_log.specs.declared.command.Waiting.{Waiting}
 use Rattle.ark_running.specs.Buffers.{AreRoomsOf, buffers_by}
 use Rattle.ark_machine.specs.Objects
-use Rattle.ark_machine.specs.Objects.{Object, object_frames, opened_frames}
+use Rattle.ark_machine.specs.Objects.{Object, Place, named, taken, object_frames, opened_frames, place_frames}
 use Rattle.ark_machine.specs.Machine.{Held, live_frames}
 use Rattle.ark_machine.specs.Places.{AreSized}
 use Rattle.ark_held.specs.Words.{Labels}
-use Rattle.ark_held.specs.Around.{Around}
+use Rattle.ark_held.specs.Around.{Around, Each}
 use Rattle.ark_held.specs.Areas.{IsOpenedAs}
+use Rattle.ark_held.specs.Network.{IsFramePlace, IsReceiving, IsReceived, IsSending, IsSent}
 use Rattle.ark_held.specs.Held.{IsObjectOf, AllMatch, Holds}
 use Rattle.ark_held.specs.Beyond.{Beyond, around}
 use Rattle.ark_held.specs.declared.app.App.{App}
-use Rattle.ark_held.proofs.Lists.{not_some}
 
 pub frames_some : (n : ℕ) → 0 < n → 0 < frames_of n
 frames_some n lt = grind (arith, nat_tests, lt)
@@ -52,11 +55,36 @@ module _ (r : Beyond) (app : App) where
   sized_opened grant blocks g None is = tt
   sized_opened grant blocks g (Some o) is = (omega arith, sized_rooms is.chain.waiting o.waiting is.runs.is.rooms)
 
+  -- the buffers that network cards took
+
+  sized_place : (ports : Option ℕ) (tag : ℕ) (given : Option Piece) (p : Place) → IsFramePlace x ports tag given p → AreSized (place_frames p)
+  sized_place ports tag given (named b) is = tt
+  sized_place ports tag given (taken b) is = let some = frames_some (length b.bytes) is.1 in (omega (arith, some), tt)
+
+  sized_received : (ports : Option ℕ) (c : Completion) (u : Place × ℕ) → IsReceived x ports c u → AreSized (place_frames u.0)
+  sized_received ports c (p, len) is = sized_place ports c.tag c.buf p is.1
+
+  sized_sending : (ports : Option ℕ) (d : Descriptor) (p : Place × ℕ) → IsSending x ports d p → AreSized (place_frames p.0)
+  sized_sending ports d (p, len) is = sized_place ports d.tag d.buf p is.2
+
+  sized_sent : (ports : Option ℕ) (c : Completion) (u : Place × Outcome) → IsSent x ports c u → AreSized (place_frames u.0)
+  sized_sent ports c (p, o) is = sized_place ports c.tag c.buf p is.1
+
+  sized_each : {X Y : Type 0} (P : X → Y → Type 0) (f : Y → List (ℕ × ℕ)) → ((a : X) (b : Y) → P a b → AreSized (f b)) → (xs : List X) (ys : List Y) → Each P xs ys → AreSized (flat_map f ys)
+  sized_each P f step [] [] all = tt
+  sized_each P f step (a ∷ xs) (b ∷ ys) all = sized_join (f b) (flat_map f ys) (step a b all.0) (sized_each P f step xs ys all.1)
+  sized_each P f step [] (b ∷ ys) all = absurd all
+  sized_each P f step (a ∷ xs) [] all = absurd all
+
   sized_object : (l : List ℕ) (c : Capability) (o : Object) → IsObjectOf x l c o → AreSized (object_frames o)
   sized_object l c (Objects.raw z) f = tt
   sized_object l c (Objects.log z) f = sized_opened c.grant f.slot.blocks z z.opened f.opened
   sized_object l c (Objects.vsic z) f = tt
-  sized_object l c (Objects.vnic z) f = absurd (not_some None f.net refl f.kept)
+  sized_object l c (Objects.vnic z) f =
+      sized_join (flat_map place_frames z.rx.posted) _ (sized_each (IsReceiving x f.net.ports) place_frames (λ d p is. sized_place f.net.ports d.tag d.buf p is.1) f.net.rx.posted z.rx.posted f.rx_posted)
+      (sized_join (flat_map (λ u. place_frames u.0) z.rx.unreaped) _ (sized_each (IsReceived x f.net.ports) (λ u. place_frames u.0) (sized_received f.net.ports) f.net.rx.unreaped z.rx.unreaped f.rx_unreaped)
+      (sized_join (flat_map (λ p. place_frames p.0) z.tx.posted) _ (sized_each (IsSending x f.net.ports) (λ p. place_frames p.0) (sized_sending f.net.ports) f.net.tx.posted z.tx.posted f.tx_posted)
+      (sized_each (IsSent x f.net.ports) (λ u. place_frames u.0) (sized_sent f.net.ports) f.net.tx.unreaped z.tx.unreaped f.tx_unreaped)))
   sized_object l c (Objects.filter z y) f = tt
   sized_object l c (Objects.door z) f = tt
   sized_object l c (Objects.rate z y) f = tt

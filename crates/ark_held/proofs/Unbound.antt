@@ -17,10 +17,11 @@ use Rattle.ark_machine.specs.Objects.{Object, Vsic}
 use Rattle.ark_machine.specs.Machine.{holding, each_object}
 use Rattle.ark_machine.specs.Control.{is_open_on, is_socket_on, lets_go}
 use Rattle.ark_held.specs.Totals.{bit, total, uses, object_covers}
-use Rattle.ark_held.specs.Kept.{CardKept, Tables}
+use Rattle.ark_held.specs.Kept.{CardKept, NetKept, Tables}
 use Rattle.ark_held.specs.Stored.{buffer_kept}
 use Rattle.ark_held.specs.Rings.{kept_card, card_kept, unbound}
 use Rattle.ark_held.specs.Pacing.{rate_kept}
+use Rattle.ark_held.specs.Nets.{net_kept}
 use Rattle.ark_held.specs.Beyond.{tables_of}
 use Rattle.std.specs.Map.{lookup}
 use Rattle.ark_held.specs.Words.{without_area}
@@ -29,6 +30,7 @@ use Rattle.ark_held.specs.declared.app.App.{App}
 use Rattle.ark_held.specs.declared.buffer.Buffer.{Buffer}
 use Rattle.ark_held.specs.declared.card.StorageCard.{StorageCard}
 use Rattle.ark_held.specs.declared.devices.Devices.{Devices}
+use Rattle.ark_held.specs.declared.nets.Nets.{Nets}
 use Rattle.ark_held.specs.declared.store.Store.{Store}
 use Rattle.ark_held.specs.Around.{Around, IsGranted, Each, Both}
 use Rattle.ark_held.specs.Cards.{IsJob, IsEnded}
@@ -196,14 +198,15 @@ kept_unbound grant None = refl
 kept_unbound grant (Some c) = refl
 
 -- the tables once no card has the area bound
-pub tables_unbound : (s t : Store) (d e : Devices) (grant : ℕ) (f : ℕ → Option CardKept) (g : ℕ → Option Counts) (q : ℕ → Option (ℕ × ℕ)) → s.region ≡ t.region → s.buffers ≡ t.buffers → ((key : ℕ) → card_kept d.cards key ≡ option_map (unbound_kept grant) (f key)) → ((key : ℕ) → key_at d.doors key ≡ g key)
-    → ((key : ℕ) → rate_kept d.rates key ≡ q key) → tables_of s d ≡ unbound_tables grant (record (tables_of t e) { cards = f; doors = g; rates = q })
-tables_unbound s t d e grant f g q region buffers cards doors rates =
+pub tables_unbound : (s t : Store) (d e : Devices) (grant : ℕ) (f : ℕ → Option CardKept) (g : ℕ → Option Counts) (q : ℕ → Option (ℕ × ℕ)) (n : ℕ → Option NetKept) → s.region ≡ t.region → s.buffers ≡ t.buffers → ((key : ℕ) → card_kept d.cards key ≡ option_map (unbound_kept grant) (f key)) → ((key : ℕ) → key_at d.doors key ≡ g key)
+    → ((key : ℕ) → rate_kept d.rates key ≡ q key) → ((key : ℕ) → net_kept d.nets.cards key ≡ n key) → tables_of s d ≡ unbound_tables grant (record (tables_of t e) { cards = f; doors = g; rates = q; nets = n })
+tables_unbound s t d e grant f g q n region buffers cards doors rates nets =
     ap (λ (z : Space). record (tables_of s d) { memory = z }) region
     ∙ ap (λ (b : List (Option Buffer)). record (tables_of t d) { buffers = buffer_kept b }) buffers
     ∙ ap (λ (c : ℕ → Option CardKept). record (tables_of t d) { cards = c }) (λ i key. (cards key) i)
     ∙ ap (λ (c : ℕ → Option Counts). record (unbound_tables grant (record (tables_of t d) { cards = f })) { doors = c }) (λ i key. (doors key) i)
-    ∙ ap (λ (c : ℕ → Option (ℕ × ℕ)). record (unbound_tables grant (record (tables_of t e) { cards = f; doors = g })) { rates = c }) (λ i key. (rates key) i)
+    ∙ ap (λ (c : ℕ → Option (ℕ × ℕ)). record (unbound_tables grant (record (tables_of t d) { cards = f; doors = g })) { rates = c }) (λ i key. (rates key) i)
+    ∙ ap (λ (c : ℕ → Option NetKept). record (unbound_tables grant (record (tables_of t e) { cards = f; doors = g; rates = q })) { nets = c }) (λ i key. (nets key) i)
 
 -- What an application has lost once it gave up the area of a grant under a label.
 pub record LosesArea (app app1 : App) (l : List ℕ) (grant : ℕ) : Type 0 where
@@ -213,12 +216,13 @@ pub record LosesArea (app app1 : App) (l : List ℕ) (grant : ℕ) : Type 0 wher
   pub cards : (k : ℕ) → key_at app1.devices.cards k ≡ option_map (unbound grant) (key_at app.devices.cards k)
   pub doors : app1.devices.doors ≡ app.devices.doors
   pub rates : app1.devices.rates ≡ app.devices.rates
+  pub nets : app1.devices.nets ≡ app.devices.nets
   pub name : app1.name ≡ app.name
   pub region : app1.store.region ≡ app.store.region
   pub buffers : app1.store.buffers ≡ app.store.buffers
 
 -- its tables then; the area's label had a capability of this grant
 pub area_tables : (app app1 : App) (l : List ℕ) (grant was : ℕ) → was ≡ grant → LosesArea app app1 l grant → tables_of app1.store app1.devices ≡ unbound_tables was (tables_of app.store app.devices)
-area_tables app app1 l grant was is loses = tables_unbound app1.store app.store app1.devices app.devices was (card_kept app.devices.cards) (key_at app.devices.doors) (rate_kept app.devices.rates) loses.region loses.buffers
+area_tables app app1 l grant was is loses = tables_unbound app1.store app.store app1.devices app.devices was (card_kept app.devices.cards) (key_at app.devices.doors) (rate_kept app.devices.rates) (net_kept app.devices.nets.cards) loses.region loses.buffers
     (λ k. ap (λ o. option_map kept_card o) (subst (λ (n : ℕ). key_at app1.devices.cards k ≡ option_map (unbound n) (key_at app.devices.cards k)) (sym is) (loses.cards k)) ∙ kept_unbound was (key_at app.devices.cards k))
-    (λ k. ap (λ (z : List (Option Counts)). key_at z k) loses.doors) (λ k. ap (λ (z : List (Option Allowance)). rate_kept z k) loses.rates)
+    (λ k. ap (λ (z : List (Option Counts)). key_at z k) loses.doors) (λ k. ap (λ (z : List (Option Allowance)). rate_kept z k) loses.rates) (λ k. ap (λ (z : Nets). net_kept z.cards k) loses.nets)

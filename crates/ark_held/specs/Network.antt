@@ -1,5 +1,5 @@
 -- What network cards, filters and sockets stand for.
-use Rattle.std.specs.Prelude.{◌≡◌, ℕ, List, nat_eq, find, Option, Some, is_some, unwrap_or}
+use Rattle.std.specs.Prelude.{◌≡◌, ℕ, ◌<◌, true, List, length, nat_eq, find, Option, Some, is_some, unwrap_or}
 use Rattle.ark_base.specs.declared.kind.Outcome.{Outcome}
 use Rattle.ark_caps.specs.declared.capability.CapKind.TheVariants as cap_kind
 use Rattle.ark_caps.specs.declared.capability.Capability.{Capability}
@@ -15,22 +15,22 @@ use Rattle.ark_held.specs.Kept.{NetKept, SocketKept}
 use Rattle.ark_held.specs.Around.{Around, Names, IsGranted, Each, Both, piece_of}
 use Rattle.ark_held.specs.Cards.{IsPaced, IsWatched, HasBuffer}
 
--- the frame of a descriptor with this tag and buffer stands in this place
-abbrev pub IsFramePlace : Around → ℕ → Option Piece → Place → Type 0
-IsFramePlace x tag given (named b) = HasBuffer x tag given b
-IsFramePlace x tag given (taken b) = (given ≡ Some (piece_of b)) × LiesInRegion x.tables.memory.taken (piece_of b) × (b.bytes ≡ bytes_of x.tables.memory (piece_of b))
+-- the frame of a descriptor with this tag and buffer stands in this place; only a card with sockets took buffers
+abbrev pub IsFramePlace : Around → Option ℕ → ℕ → Option Piece → Place → Type 0
+IsFramePlace x ports tag given (named b) = HasBuffer x tag given b
+IsFramePlace x ports tag given (taken b) = (is_some ports ≡ true) × (0 < length b.bytes) × (given ≡ Some (piece_of b)) × LiesInRegion x.tables.memory.taken (piece_of b) × (b.bytes ≡ bytes_of x.tables.memory (piece_of b))
 
-abbrev pub IsReceiving : Around → Descriptor → Place → Type 0
-IsReceiving x d p = (d.job ≡ vic.Receive) × IsFramePlace x d.tag d.buf p
+abbrev pub IsReceiving : Around → Option ℕ → Descriptor → Place → Type 0
+IsReceiving x ports d p = (d.job ≡ vic.Receive) × IsFramePlace x ports d.tag d.buf p
 
-abbrev pub IsReceived : Around → Completion → Place × ℕ → Type 0
-IsReceived x c (p, len) = (c.len ≡ len) × IsFramePlace x c.tag c.buf p
+abbrev pub IsReceived : Around → Option ℕ → Completion → Place × ℕ → Type 0
+IsReceived x ports c (p, len) = (c.len ≡ len) × IsFramePlace x ports c.tag c.buf p
 
-abbrev pub IsSending : Around → Descriptor → Place × ℕ → Type 0
-IsSending x d (p, len) = (d.job ≡ vic.Send) × (d.len ≡ len) × IsFramePlace x d.tag d.buf p
+abbrev pub IsSending : Around → Option ℕ → Descriptor → Place × ℕ → Type 0
+IsSending x ports d (p, len) = (d.job ≡ vic.Send) × (d.len ≡ len) × IsFramePlace x ports d.tag d.buf p
 
-abbrev pub IsSent : Around → Completion → Place × Outcome → Type 0
-IsSent x c (p, o) = (c.outcome ≡ o) × IsFramePlace x c.tag c.buf p
+abbrev pub IsSent : Around → Option ℕ → Completion → Place × Outcome → Type 0
+IsSent x ports c (p, o) = (c.outcome ≡ o) × IsFramePlace x ports c.tag c.buf p
 
 -- a network card
 pub record IsNet (x : Around) (l : List ℕ) (c : Capability) (v : Vnic) : Type 0 where
@@ -39,11 +39,11 @@ pub record IsNet (x : Around) (l : List ℕ) (c : Capability) (v : Vnic) : Type 
   pub kept : x.tables.nets c.key ≡ Some net
   pub rx_size : v.rx_size ≡ net.rx.size
   pub tx_size : v.tx_size ≡ net.tx.size
-  pub rx_posted : Each (IsReceiving x) net.rx.posted v.rx.posted
-  pub rx_unreaped : Each (IsReceived x) net.rx.unreaped v.rx.unreaped
+  pub rx_posted : Each (IsReceiving x net.ports) net.rx.posted v.rx.posted
+  pub rx_unreaped : Each (IsReceived x net.ports) net.rx.unreaped v.rx.unreaped
   pub rx_moved : v.rx.moved ≡ net.rx.moved
-  pub tx_posted : Each (IsSending x) net.tx.posted v.tx.posted
-  pub tx_unreaped : Each (IsSent x) net.tx.unreaped v.tx.unreaped
+  pub tx_posted : Each (IsSending x net.ports) net.tx.posted v.tx.posted
+  pub tx_unreaped : Each (IsSent x net.ports) net.tx.unreaped v.tx.unreaped
   pub tx_moved : v.tx.moved ≡ net.tx.moved
   pub rx_pace : Both (IsPaced x) net.rx_pace v.rx_pace
   pub tx_pace : Both (IsPaced x) net.tx_pace v.tx_pace

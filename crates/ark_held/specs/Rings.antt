@@ -1,15 +1,11 @@
 -- The storage cards of an application, by key, and their descriptors.
-use Rattle.std.specs.Prelude.{◌≡◌, ◌<◌, ℕ, Bool, false, List, [], ◌∷◌, ◌++◌, length, drop, nat_eq, Option, Some, None, option_map, option_and_then, IfSome, Contains}
-use Rattle.std.specs.List.{list_any}
+use Rattle.std.specs.Prelude.{◌≡◌, ◌<◌, ℕ, Bool, List, [], ◌∷◌, ◌++◌, length, drop, Option, Some, None, option_map, IfSome, Contains}
 use Rattle.ark_objects.specs.Held.{at, Changes}
-use Rattle.ark_caps.specs.declared.capability.CapKind.{CapKind}
-use Rattle.ark_caps.specs.declared.capability.CapKind.TheVariants as cap_kind
 use Rattle.ark_vic.specs.Queue.{Queue, members}
 use Rattle.ark_vic.specs.declared.descriptor.Descriptor.{Descriptor}
 use Rattle.ark_vsic.specs.Card.{Card, bound_without, head_of}
 use Rattle.ark_vsic.specs.Moves.{CanMove}
 use Rattle.ark_held.specs.Kept.{CardKept}
-use Rattle.ark_held.specs.Words.{Labels}
 use Rattle.ark_held.specs.declared.card.StorageCard.{StorageCard}
 
 -- what a table keeps of a card
@@ -71,16 +67,3 @@ pub record LosesCard (old new : List (Option StorageCard)) (key grant : ℕ) : T
   pub rest : List (Option StorageCard)
   pub gone : Changes old rest key None
   pub cards : (k : ℕ) → at new k ≡ option_map (unbound grant) (at rest k)
-
-abbrev pub is_key : ℕ → Option ℕ → Bool
-is_key key None = false
-is_key key (Some k) = nat_eq k key
-
--- whether the door of a key watches the object of this kind and key
-abbrev pub is_seen_by : List (Option StorageCard) → ℕ → CapKind → ℕ → Bool
-is_seen_by cards door cap_kind.Vsic key = is_key door (option_and_then (λ c. c.door) (at cards key))
-is_seen_by cards door _ key = false
-
--- whether it watches one of those under these labels
-abbrev pub sees_any : List (Option StorageCard) → ℕ → Labels → Bool
-sees_any cards door labels = list_any (λ p. is_seen_by cards door p.1.kind p.1.key) labels

@@ -33,6 +33,7 @@ impl Devices {
         ensures held { held self.new.cards ≡ held self.old.cards }
         ensures doors { self.new.doors ≡ self.old.doors }
         ensures rates { self.new.rates ≡ self.old.rates }
+        ensures nets { self.new.nets ≡ self.old.nets }
         ensures frames { self.new.frames ≡ self.old.frames }
     {
         let Some(chain) = &mut self.cards.at_mut(key).log else {
@@ -53,6 +54,7 @@ impl Devices {
         ensures held { held self.new.cards ≡ held self.old.cards }
         ensures doors { self.new.doors ≡ self.old.doors }
         ensures rates { self.new.rates ≡ self.old.rates }
+        ensures nets { self.new.nets ≡ self.old.nets }
         ensures frames { self.new.frames ≡ self.old.frames }
     {
         let Some(chain) = &mut self.cards.at_mut(key).log else {
@@ -76,6 +78,7 @@ impl Devices {
         ensures held { held self.new.cards ≡ held self.old.cards }
         ensures doors { self.new.doors ≡ self.old.doors }
         ensures rates { self.new.rates ≡ self.old.rates }
+        ensures nets { self.new.nets ≡ self.old.nets }
         ensures frames { self.new.frames ≡ self.old.frames }
     {
         let Some(chain) = &mut self.cards.at_mut(key).log else {
@@ -104,6 +107,7 @@ impl App {
         ensures areas { self.new.areas ≡ self.old.areas }
         ensures doors { self.new.devices.doors ≡ self.old.devices.doors }
         ensures rates { self.new.devices.rates ≡ self.old.devices.rates }
+        ensures nets { self.new.devices.nets ≡ self.old.devices.nets }
         ensures name { self.new.name ≡ self.old.name }
     {
         self.devices.append(key, &mut self.store.region, payload)
@@ -123,6 +127,7 @@ impl App {
         ensures areas { self.new.areas ≡ self.old.areas }
         ensures doors { self.new.devices.doors ≡ self.old.devices.doors }
         ensures rates { self.new.devices.rates ≡ self.old.devices.rates }
+        ensures nets { self.new.devices.nets ≡ self.old.devices.nets }
         ensures name { self.new.name ≡ self.old.name }
     {
         self.devices.trim(key, n)
@@ -144,6 +149,7 @@ impl App {
         ensures areas { self.new.areas ≡ self.old.areas }
         ensures doors { self.new.devices.doors ≡ self.old.devices.doors }
         ensures rates { self.new.devices.rates ≡ self.old.devices.rates }
+        ensures nets { self.new.devices.nets ≡ self.old.devices.nets }
         ensures name { self.new.name ≡ self.old.name }
     {
         self.devices.pop(key, &mut self.store.region)

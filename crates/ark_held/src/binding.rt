@@ -20,6 +20,7 @@ impl App {
         ensures store { self.new.store ≡ self.old.store }
         ensures doors { self.new.devices.doors ≡ self.old.devices.doors }
         ensures rates { self.new.devices.rates ≡ self.old.devices.rates }
+        ensures nets { self.new.devices.nets ≡ self.old.devices.nets }
         ensures name { self.new.name ≡ self.old.name }
     {
         let areas = self.areas.len();
@@ -37,6 +38,7 @@ impl App {
         ensures store { self.new.store ≡ self.old.store }
         ensures doors { self.new.devices.doors ≡ self.old.devices.doors }
         ensures rates { self.new.devices.rates ≡ self.old.devices.rates }
+        ensures nets { self.new.devices.nets ≡ self.old.devices.nets }
         ensures name { self.new.name ≡ self.old.name }
     {
         self.devices.unbind(key, grant);

@@ -26,6 +26,7 @@ impl Devices {
         ensures held { held self.new.cards ≡ held self.old.cards }
         ensures doors { self.new.doors ≡ self.old.doors }
         ensures rates { self.new.rates ≡ self.old.rates }
+        ensures nets { self.new.nets ≡ self.old.nets }
         ensures frames { self.new.frames ≡ self.old.frames }
     {
         let card = self.cards.at_mut(key);
@@ -65,6 +66,7 @@ impl App {
         ensures areas { self.new.areas ≡ self.old.areas }
         ensures doors { self.new.devices.doors ≡ self.old.devices.doors }
         ensures rates { self.new.devices.rates ≡ self.old.devices.rates }
+        ensures nets { self.new.devices.nets ≡ self.old.devices.nets }
         ensures name { self.new.name ≡ self.old.name }
     {
         self.devices.close(key, &mut self.store.region)

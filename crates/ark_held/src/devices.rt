@@ -9,18 +9,20 @@ ghost use Rattle.ark_held.specs.Rings.{AreSound, ChangesCard, HasRoomFor, new_ca
 
 use crate::allowance::Allowance;
 use crate::card::StorageCard;
+use crate::nets::Nets;
 use ark_base::Memory;
 use ark_objects::Objects;
 use ark_vic::{Completion, Counts, Descriptor, Door};
 use ark_vsic::Vsic;
 use std::alloc::Global;
 
-/// The storage cards, the doors and the rates of an application, by key.
+/// The cards, the doors and the rates of an application, by key.
 #[derive(Drop)]
 pub struct Devices {
     pub cards: Objects<StorageCard>,
     pub doors: Objects<Door>,
     pub rates: Objects<Allowance>,
+    pub nets: Nets,
     /// The frames of the memory in which the buffers of descriptors lie.
     pub frames: u32,
     pub ghost sound: { ∥ AreSound frames cards ∥₁ },
@@ -38,15 +40,18 @@ impl Devices {
         ensures vacant { IfOk result (λ d. (key : ℕ) → at d.cards key ≡ None) }
         ensures doors { IfOk result (λ d. held d.doors ≡ 0) }
         ensures rates { IfOk result (λ d. held d.rates ≡ 0) }
+        ensures nets { IfOk result (λ d. held d.nets.cards ≡ 0) }
         ensures frames { IfOk result (λ d. d.frames ≡ frames) }
     {
         let cards = Objects::new(alloc)?;
         let doors = Objects::new(alloc)?;
         let rates = Objects::new(alloc)?;
+        let nets = Nets::new(alloc)?;
         Ok(Devices {
             cards,
             doors,
             rates,
+            nets,
             frames,
         })
     }
@@ -60,6 +65,7 @@ impl Devices {
         ensures more { held self.new.cards ≡ held self.old.cards + 1 }
         ensures doors { self.new.doors ≡ self.old.doors }
         ensures rates { self.new.rates ≡ self.old.rates }
+        ensures nets { self.new.nets ≡ self.old.nets }
         ensures frames { self.new.frames ≡ self.old.frames }
     {
         self.cards.put(StorageCard {
@@ -79,6 +85,7 @@ impl Devices {
         ensures held { held self.new.doors ≡ held self.old.doors }
         ensures cards { self.new.cards ≡ self.old.cards }
         ensures rates { self.new.rates ≡ self.old.rates }
+        ensures nets { self.new.nets ≡ self.old.nets }
         ensures frames { self.new.frames ≡ self.old.frames }
     {
         self.doors.at(key)?;
@@ -93,6 +100,7 @@ impl Devices {
         ensures held { held self.new.cards ≡ held self.old.cards }
         ensures doors { self.new.doors ≡ self.old.doors }
         ensures rates { self.new.rates ≡ self.old.rates }
+        ensures nets { self.new.nets ≡ self.old.nets }
         ensures frames { self.new.frames ≡ self.old.frames }
     {
         self.cards.at_mut(key).door = door;
@@ -105,6 +113,7 @@ impl Devices {
         ensures held { held self.new.cards ≡ held self.old.cards }
         ensures doors { self.new.doors ≡ self.old.doors }
         ensures rates { self.new.rates ≡ self.old.rates }
+        ensures nets { self.new.nets ≡ self.old.nets }
         ensures frames { self.new.frames ≡ self.old.frames }
     {
         self.cards.at_mut(key).vsic.bind(grant);
@@ -117,6 +126,7 @@ impl Devices {
         ensures held { held self.new.cards ≡ held self.old.cards }
         ensures doors { self.new.doors ≡ self.old.doors }
         ensures rates { self.new.rates ≡ self.old.rates }
+        ensures nets { self.new.nets ≡ self.old.nets }
         ensures frames { self.new.frames ≡ self.old.frames }
     {
         self.cards.at_mut(key).vsic.unbind(grant);
@@ -132,6 +142,7 @@ impl Devices {
         ensures held { held self.new.cards ≡ held self.old.cards }
         ensures doors { self.new.doors ≡ self.old.doors }
         ensures rates { self.new.rates ≡ self.old.rates }
+        ensures nets { self.new.nets ≡ self.old.nets }
         ensures frames { self.new.frames ≡ self.old.frames }
     {
         match self.cards.at_mut(key).vsic.ring_mut().post(descriptor) {
@@ -149,6 +160,7 @@ impl Devices {
         ensures held { held self.new.cards ≡ held self.old.cards }
         ensures doors { self.new.doors ≡ self.old.doors }
         ensures rates { self.new.rates ≡ self.old.rates }
+        ensures nets { self.new.nets ≡ self.old.nets }
         ensures frames { self.new.frames ≡ self.old.frames }
     {
         self.cards.at_mut(key).vsic.ring_mut().reap()
@@ -161,6 +173,7 @@ impl Devices {
         ensures held { held self.new.cards ≡ held self.old.cards }
         ensures doors { self.new.doors ≡ self.old.doors }
         ensures rates { self.new.rates ≡ self.old.rates }
+        ensures nets { self.new.nets ≡ self.old.nets }
         ensures frames { self.new.frames ≡ self.old.frames }
     {
         if self.cards.at(key).is_some() {
@@ -175,6 +188,7 @@ impl Devices {
         ensures held { held self.new.cards ≡ held self.old.cards }
         ensures doors { self.new.doors ≡ self.old.doors }
         ensures rates { self.new.rates ≡ self.old.rates }
+        ensures nets { self.new.nets ≡ self.old.nets }
         ensures frames { self.new.frames ≡ self.old.frames }
     {
         for key in 0..self.cards.end() {
@@ -189,6 +203,7 @@ impl Devices {
         ensures fewer { held self.new.cards + 1 ≡ held self.old.cards }
         ensures doors { self.new.doors ≡ self.old.doors }
         ensures rates { self.new.rates ≡ self.old.rates }
+        ensures nets { self.new.nets ≡ self.old.nets }
         ensures frames { self.new.frames ≡ self.old.frames }
     {
         let _ = self.cards.take(key);

@@ -22,6 +22,7 @@ impl Devices {
         ensures held { held self.new.cards ≡ held self.old.cards }
         ensures doors { self.new.doors ≡ self.old.doors }
         ensures rates { self.new.rates ≡ self.old.rates }
+        ensures nets { self.new.nets ≡ self.old.nets }
         ensures frames { self.new.frames ≡ self.old.frames }
     {
         self.cards.at_mut(key).log = Some(chain);

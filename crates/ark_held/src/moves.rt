@@ -70,6 +70,7 @@ impl Devices {
         ensures held { held self.new.doors ≡ held self.old.doors }
         ensures cards { self.new.cards ≡ self.old.cards }
         ensures rates { self.new.rates ≡ self.old.rates }
+        ensures nets { self.new.nets ≡ self.old.nets }
         ensures frames { self.new.frames ≡ self.old.frames }
     {
         let Some(key) = door else {
@@ -117,6 +118,7 @@ impl Devices {
         ensures held_cards { held self.new.cards ≡ held self.old.cards }
         ensures held_doors { held self.new.doors ≡ held self.old.doors }
         ensures rates { self.new.rates ≡ self.old.rates }
+        ensures nets { self.new.nets ≡ self.old.nets }
         ensures frames { self.new.frames ≡ self.old.frames }
         ensures taken { region.new.taken ≡ region.old.taken }
     {

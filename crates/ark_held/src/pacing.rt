@@ -2,8 +2,9 @@
 ghost use Rattle.std.specs.Prelude.{◌≡◌, ℕ, None, IsSome, option_map};
 ghost use Rattle.ark_caps.specs.Labels.{others, value_at};
 ghost use Rattle.ark_objects.specs.Held.{Changes, at, held};
-ghost use Rattle.ark_held.specs.Pacing.{is_paced_by, paces_any, with_pace, without_pace};
+ghost use Rattle.ark_held.specs.Pacing.{with_pace, without_pace};
 ghost use Rattle.ark_held.specs.Rings.{ChangesCard, unbound};
+ghost use Rattle.ark_held.specs.Seen.{is_net_paced, is_pace_of, is_paced_by, paces_any};
 
 use crate::app::App;
 use crate::devices::Devices;
@@ -19,6 +20,7 @@ impl Devices {
         ensures held { held self.new.cards ≡ held self.old.cards }
         ensures doors { self.new.doors ≡ self.old.doors }
         ensures rates { self.new.rates ≡ self.old.rates }
+        ensures nets { self.new.nets ≡ self.old.nets }
         ensures frames { self.new.frames ≡ self.old.frames }
     {
         let card = self.cards.at_mut(key);
@@ -33,6 +35,7 @@ impl Devices {
         ensures held { held self.new.cards ≡ held self.old.cards }
         ensures doors { self.new.doors ≡ self.old.doors }
         ensures rates { self.new.rates ≡ self.old.rates }
+        ensures nets { self.new.nets ≡ self.old.nets }
         ensures frames { self.new.frames ≡ self.old.frames }
     {
         self.cards.at_mut(key).vsic.pace(None);
@@ -47,6 +50,7 @@ impl App {
         requires there { IsSome (at self.old.devices.rates key) }
         ensures labels { self.new.labels ≡ others label.now self.old.labels }
         ensures rates { Changes self.old.devices.rates self.new.devices.rates key None }
+        ensures nets { self.new.devices.nets ≡ self.old.devices.nets }
         ensures doors { self.new.devices.doors ≡ self.old.devices.doors }
         ensures cards { (k : ℕ) → at self.new.devices.cards k
             ≡ option_map (unbound grant) (at self.old.devices.cards k) }
@@ -59,22 +63,44 @@ impl App {
         self.labels.remove(label);
     }
 
-    // Whether the rate of a key paces what a capability stands for.
-    fn is_paced(&self, cap: Capability, rate: u32) -> bool
-        ensures { result ≡ is_paced_by self.now.devices.cards rate cap.kind cap.key }
+    // Whether the rate of a key paces the storage card of a key.
+    fn is_card_paced(&self, key: u32, rate: u32) -> bool
+        ensures { result ≡ is_pace_of rate (at self.now.devices.cards key) }
     {
-        let CapKind::Vsic = cap.kind else {
-            return false;
-        };
-        let Some(card) = self.devices.cards.at(cap.key) else {
+        let Some(card) = self.devices.cards.at(key) else {
             return false;
         };
         card.vsic.is_paced() && card.rate == rate
     }
 
+    // Whether it paces a side of the network card of a key.
+    fn is_net_paced(&self, key: u32, rate: u32) -> bool
+        ensures { result ≡ is_net_paced rate (at self.now.devices.nets.cards key) }
+    {
+        let Some(card) = self.devices.nets.cards.at(key) else {
+            return false;
+        };
+        let rx = card.vnic.is_rx_paced() && card.rx.rate == rate;
+        let tx = card.vnic.is_tx_paced() && card.tx.rate == rate;
+        rx || tx
+    }
+
+    // Whether it paces what a capability stands for.
+    fn is_paced(&self, cap: Capability, rate: u32) -> bool
+        ensures { result ≡ is_paced_by self.now.devices.cards self.now.devices.nets.cards rate
+            cap.kind cap.key }
+    {
+        match cap.kind {
+            CapKind::Vsic => self.is_card_paced(cap.key, rate),
+            CapKind::Vnic => self.is_net_paced(cap.key, rate),
+            _ => false,
+        }
+    }
+
     /// Whether the rate of a key paces a card.
     pub fn paces(&self, rate: u32) -> bool
-        ensures { result ≡ paces_any self.now.devices.cards rate self.now.labels }
+        ensures { result ≡ paces_any self.now.devices.cards self.now.devices.nets.cards rate
+            self.now.labels }
     {
         for place in 0..self.labels.len() {
             let Some((_, cap)) = self.labels.at(place) else {

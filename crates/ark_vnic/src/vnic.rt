@@ -1,4 +1,4 @@
-ghost use Rattle.std.specs.Prelude.{◌≡◌, ◌≤◌, ◌<◌, [], None, true, length, IfOk, IfSome};
+ghost use Rattle.std.specs.Prelude.{◌≡◌, ◌≤◌, ◌<◌, [], None, true, length, is_some, IfOk, IfSome};
 ghost use Rattle.std.specs.Borrow.{sem};
 ghost use Rattle.ark_base.specs.declared.kind.Outcome.TheVariants as outcome;
 ghost use Rattle.ark_vnic.specs.declared.sent.Sent.TheVariants as sent;
@@ -114,6 +114,20 @@ impl Vnic {
         ensures { self.new ≡ record self.old { tx_pace = rate } }
     {
         self.tx_pace = rate;
+    }
+
+    /// Whether a rate paces its receive ring.
+    pub fn is_rx_paced(&self) -> bool
+        ensures { result ≡ is_some self.now.rx_pace }
+    {
+        self.rx_pace.is_some()
+    }
+
+    /// Whether a rate paces its transmit ring.
+    pub fn is_tx_paced(&self) -> bool
+        ensures { result ≡ is_some self.now.tx_pace }
+    {
+        self.tx_pace.is_some()
     }
 
     /// What becomes of a frame of `len` bytes that arrives at tick `now`.

@@ -2,6 +2,7 @@ use Rattle.std.proofs.Common.{sym, ◌∙◌, ap, arith}
 use Rattle.ark_objects.specs.Held.{held}
 use Rattle.ark_held.proofs.Commands.{appended_bound}
 use Rattle.ark_held.proofs.Storing.{long_in}
+use Rattle.ark_held.specs.declared.nets.Nets.{Nets}
 use Rattle.ark_held.proofs.app.App.append.Goals as goal
 
 pub invariant_of-self : goal.invariant_of-self
@@ -14,8 +15,9 @@ invariant_of-self-2 c =
     let cards = c.append.ensures.held in
     let doors = ap held c.append.ensures.doors in
     let rates = ap held c.append.ensures.rates in
+    let nets = ap (λ (n : Nets). held n.cards) c.append.ensures.nets in
     record {
-      room = omega (arith, labelled, cards, doors, rates);
+      room = omega (arith, labelled, cards, doors, rates, nets);
       memory = c.append.ensures.frames ∙ app.memory ∙ sym c.append.ensures.length;
       bound = appended_bound app.areas app.devices.cards c.append.new.self.cards c.args.key app.bound c.requires.there c.args.payload.now _ _ c.append.result c.append.ensures.accepted c.append.ensures.cards;
     }

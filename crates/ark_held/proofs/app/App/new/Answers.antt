@@ -12,8 +12,9 @@ invariant_of-result-2 c =
     let cards = c.in_ok-new-2.ensures.cards in
     let doors = c.in_ok-new-2.ensures.doors in
     let rates = c.in_ok-new-2.ensures.rates in
+    let nets = c.in_ok-new-2.ensures.nets in
     record {
-      room = omega (arith, areas, buffers, cards, doors, rates);
+      room = omega (arith, areas, buffers, cards, doors, rates, nets);
       memory = c.in_ok-new-2.ensures.frames ∙ sym (ap (λ (z : Space). length z.taken) c.in_ok-new.ensures.region ∙ length-replicate c.args.frames false);
       bound = ∣ none_bound c.in-Ok-new.areas c.in_ok-new-2.field-0.cards c.in_ok-new-2.ensures.vacant ∣₁;
     }

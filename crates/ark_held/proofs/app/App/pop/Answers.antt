@@ -2,6 +2,7 @@ use Rattle.std.proofs.Common.{sym, ◌∙◌, ap, arith}
 use Rattle.ark_objects.specs.Held.{held}
 use Rattle.ark_held.proofs.Commands.{popped_bound}
 use Rattle.ark_held.proofs.Storing.{long_in}
+use Rattle.ark_held.specs.declared.nets.Nets.{Nets}
 use Rattle.ark_held.proofs.app.App.pop.Goals as goal
 
 pub invariant_of-self : goal.invariant_of-self
@@ -14,8 +15,9 @@ invariant_of-self-2 c =
     let cards = c.pop.ensures.held in
     let doors = ap held c.pop.ensures.doors in
     let rates = ap held c.pop.ensures.rates in
+    let nets = ap (λ (n : Nets). held n.cards) c.pop.ensures.nets in
     record {
-      room = omega (arith, labelled, cards, doors, rates);
+      room = omega (arith, labelled, cards, doors, rates, nets);
       memory = c.pop.ensures.frames ∙ app.memory ∙ sym c.pop.ensures.length;
       bound = popped_bound app.areas app.devices.cards c.pop.new.self.cards c.args.key app.bound c.requires.there _ _ c.pop.result c.pop.ensures.accepted c.pop.ensures.cards;
     }

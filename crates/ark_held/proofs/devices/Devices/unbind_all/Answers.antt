@@ -14,5 +14,6 @@ loop-key-preserved c =
       held = c.unbind_card.ensures.held ∙ was.held;
       doors = c.unbind_card.ensures.doors ∙ was.doors;
       rates = c.unbind_card.ensures.rates ∙ was.rates;
+      nets = c.unbind_card.ensures.nets ∙ was.nets;
       frames = c.unbind_card.ensures.frames ∙ was.frames;
     }

@@ -11,5 +11,6 @@ invariant-loop-key l = record {
   held : held l.self.cards ≡ held l.initial.self.cards;
   doors : l.self.doors ≡ l.initial.self.doors;
   rates : l.self.rates ≡ l.initial.self.rates;
+  nets : l.self.nets ≡ l.initial.self.nets;
   frames : l.self.frames ≡ l.initial.self.frames;
 }
