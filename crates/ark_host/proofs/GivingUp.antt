@@ -31,14 +31,14 @@ use Rattle.ark_machine.specs.Fronts.{AtEachFront}
 use Rattle.ark_caps.specs.declared.capability.Capability.{Capability}
 use Rattle.ark_caps.specs.declared.capability.CapKind.{CapKind}
 use Rattle.ark_caps.specs.declared.capability.CapKind.TheVariants as cap_kind
-use Rattle.ark_held.specs.Does.{Acts}
-use Rattle.ark_held.specs.Held.{is_shared, is_shared_kind, is_area, is_area_cap}
+use Rattle.ark_held.specs.Does.{Acts, GivesUpNet}
+use Rattle.ark_held.specs.Held.{is_shared, is_shared_kind, is_area, is_area_cap, is_net, is_net_kind}
 use Rattle.ark_held.specs.Words.{slot_under}
 use Rattle.ark_held.proofs.Members.{contains_in}
 use Rattle.ark_held.specs.declared.app.App.{App}
 use Rattle.ark_host.specs.declared.host.Host.{Host}
 use Rattle.ark_host.specs.Tabled.{table_of}
-use Rattle.ark_host.specs.Stands.{Stands, Stood, Steps, RowDone, LineDone, IsHeld, IsHeldBack, IsEarly, IsItsOwn, MayGo, drop_row}
+use Rattle.ark_host.specs.Stands.{Stands, Stood, Steps, RowDone, LineDone, IsHeld, IsHeldBack, IsEarly, IsItsNet, IsItsOwn, MayGo, drop_row}
 use Rattle.ark_host.proofs.Standing.{refused, same_apps, slot_fits}
 use Rattle.ark_host.proofs.Apps.{not_made, held_there}
 use Rattle.ark_host.proofs.Lifting.{acted_by, quiet_steps}
@@ -193,4 +193,24 @@ module _ (host : Host) (a l : List ℕ) (place : ℕ) (app : App) (own : IsItsOw
   steps_own enough items free grants table failed clock addresses acts =
       acted_by host now told a (w.drop a l) place app app1 [] reply [] refl refl
       (λ s past st h x. plane_stays s.plane (machine_of s a) a l (h.holds.unlisted l (unshared (value_at app.labels l) (own.own app there))) st.plane.filters x)
-      (λ m g none lacks. absurd (false≢true lacks)) own.place there (λ no. enough) items free grants table failed clock addresses (acts host.grants host.clock)
+      (λ m g none lacks. absurd (false≢true lacks)) own.place there (λ no. enough) items free grants table failed clock addresses refl (λ r g rules tick came nic is fresh sited h. (acts host.grants host.clock).does r g tick came is fresh sited h)
+
+-- A network card.
+
+net_area : (o : Option Capability) → is_net o ≡ true → is_area_cap o ≡ false
+net_area None net = refl
+net_area (Some c) net = by c.kind net
+  where
+    by : (k : CapKind) → is_net_kind k ≡ true → is_area k ≡ false
+    by cap_kind.Vsa net = absurd (false≢true net)
+    by _ net = refl
+
+module _ (host : Host) (a l : List ℕ) (place : ℕ) (app : App) (own : IsItsNet host a l place) (there : get_or host.apps.items place app ≡ app) (now : Host) (told : Told) (app1 : App) (reply : Said) where
+  -- it goes, or is refused, as in its application
+  pub steps_net : wants_memory reply ≡ false → now.apps.items ≡ set host.apps.items place app1 → now.free ≡ host.free → now.grants ≡ host.grants + 1 → now.table ≡ host.table → now.failed ≡ host.failed → now.clock ≡ host.clock → now.own ≡ host.own
+      → GivesUpNet app app1 (λ m g. control.drop m l g) reply → Steps host now told (Ok (w.drop a l)) [] reply []
+  unfolding step
+  steps_net enough items free grants table failed clock addresses gives =
+      acted_by host now told a (w.drop a l) place app app1 [] reply [] refl refl
+      (λ s past st h x. plane_stays s.plane (machine_of s a) a l (h.holds.unlisted l (net_area (value_at app.labels l) (own.net app there))) st.plane.filters x)
+      (λ m g none lacks. absurd (false≢true lacks)) own.place there (λ no. enough) items free grants table failed clock addresses refl (λ r g rules tick came nic is fresh sited h. gives r g host.grants rules came h)

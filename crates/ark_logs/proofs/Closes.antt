@@ -193,7 +193,7 @@ module _ (r : Beyond) (app : App) (s : List ℕ) (a : OpenAt) (f : FoundOpen (ar
 
   -- What labels stand for then.
   module _ (app1 : App) (h : Holds (around r app)) (c : HasClosed app.devices.cards app1.devices.cards a.key f.one f.chain app.store.region app1.store.region) (frames : length app1.store.region.taken ≡ length app.store.region.taken)
-      (buffers : app1.store.buffers ≡ app.store.buffers) (labels : app1.labels ≡ app.labels) (areas : app1.areas ≡ app.areas) (doors : app1.devices.doors ≡ app.devices.doors) (rates : app1.devices.rates ≡ app.devices.rates) where
+      (buffers : app1.store.buffers ≡ app.store.buffers) (labels : app1.labels ≡ app.labels) (areas : app1.areas ≡ app.areas) (doors : app1.devices.doors ≡ app.devices.doors) (rates : app1.devices.rates ≡ app.devices.rates) (nets : app1.devices.nets ≡ app.devices.nets) where
     abbrev x : Around
     x = around r app
 
@@ -210,6 +210,7 @@ module _ (r : Beyond) (app : App) (s : List ℕ) (a : OpenAt) (f : FoundOpen (ar
       areas = areas;
       doors = doors;
       rates = rates;
+      nets = nets;
       base = refl;
       beside = λ l t is there. same_history r.history t.blocks;
       frames = frames;
@@ -374,13 +375,13 @@ module _ (t : Told) (app : App) (s : List ℕ) where
     is_busy waiting = looked.is_busy t app its_labels other no busy no no row rest (λ m g. refl) (looks (Ok a) is) (λ y h. refl) (λ y h. waits y app s a (its y h) (its_log (λ one chain. IsWaiting chain) waiting y h))
 
     pub close_done : (app1 : App) → OfLogAt app.devices.cards a.key (λ one chain. HasClosed app.devices.cards app1.devices.cards a.key one chain app.store.region app1.store.region) → length app1.store.region.taken ≡ length app.store.region.taken
-        → app1.store.buffers ≡ app.store.buffers → app1.labels ≡ app.labels → app1.areas ≡ app.areas → app1.devices.doors ≡ app.devices.doors → app1.devices.rates ≡ app.devices.rates → app1.name ≡ app.name → Acts t app app1 row [] said.Ok []
-    close_done app1 closes_it frames buffers labels areas doors rates name = comes t app app1 row said.Ok [] areas name (λ y g sited h.
+        → app1.store.buffers ≡ app.store.buffers → app1.labels ≡ app.labels → app1.areas ≡ app.areas → app1.devices.doors ≡ app.devices.doors → app1.devices.rates ≡ app.devices.rates → app1.devices.nets ≡ app.devices.nets → app1.name ≡ app.name → Acts t app app1 row [] said.Ok []
+    close_done app1 closes_it frames buffers labels areas doors rates nets name = comes t app app1 row said.Ok [] areas name (λ y g sited h.
         let f = its y h in
         let c = its_log (λ one chain. HasClosed app.devices.cards app1.devices.cards a.key one chain app.store.region app1.store.region) closes_it y h in (
           machine_then y app s a f,
           looked.done t app its_labels other no busy no no row rest (λ m g. refl) (looks (Ok a) is) (λ y h. refl)
               (λ z i. rests z app s a (its z i) (its_log (λ one chain. HasClosed app.devices.cards app1.devices.cards a.key one chain app.store.region app1.store.region) closes_it z i).can) (λ y h. refl) y g h refl
               ∙ rest_is y app s a f,
-          closed_holds y app s a f app1 h c frames buffers labels areas doors rates,
+          closed_holds y app s a f app1 h c frames buffers labels areas doors rates nets,
         ))

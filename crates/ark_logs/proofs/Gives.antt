@@ -218,7 +218,7 @@ module _ (y : Beyond) (app : App) (s : List ℕ) (a : OpenAt) (h : Holds (around
   away = new_apart y app s a h f b (λ j has. ap bit (free j has))
 
 -- What a word leaves of its application.
-module _ (app app1 : App) (buffers : app1.store.buffers ≡ app.store.buffers) (labels : app1.labels ≡ app.labels) (areas : app1.areas ≡ app.areas) (doors : app1.devices.doors ≡ app.devices.doors) (rates : app1.devices.rates ≡ app.devices.rates) (frames : length app1.store.region.taken ≡ length app.store.region.taken) where
+module _ (app app1 : App) (buffers : app1.store.buffers ≡ app.store.buffers) (labels : app1.labels ≡ app.labels) (areas : app1.areas ≡ app.areas) (doors : app1.devices.doors ≡ app.devices.doors) (rates : app1.devices.rates ≡ app.devices.rates) (nets : app1.devices.nets ≡ app.devices.nets) (frames : length app1.store.region.taken ≡ length app.store.region.taken) where
   reaches : (y : Beyond) (s : List ℕ) (touched : ℕ → Type 0) → ((p : Piece) → ((j : ℕ) → touched j → Covers p j → ⊥) → bytes_of app1.store.region p ≡ bytes_of app.store.region p) → Reaches y app app1 s y.history touched
   reaches y s touched bytes = record {
     buffers = buffers;
@@ -226,6 +226,7 @@ module _ (app app1 : App) (buffers : app1.store.buffers ≡ app.store.buffers) (
     areas = areas;
     doors = doors;
     rates = rates;
+    nets = nets;
     base = refl;
     beside = λ l t is there. same_history y.history t.blocks;
     frames = frames;
@@ -285,7 +286,7 @@ module _ (t : Told) (app : App) (s : List ℕ) (k : Kind) (payload : List ℕ) w
 
     module _ (short : length payload ≤ 32768) (app1 : App) (n : ℕ) (accepts : OfLogAt app.devices.cards a.key (λ one v. HasAppended app.devices.cards app1.devices.cards a.key one v payload app.store.region app1.store.region n))
         (frames : length app1.store.region.taken ≡ length app.store.region.taken) (buffers : app1.store.buffers ≡ app.store.buffers) (labels : app1.labels ≡ app.labels) (areas : app1.areas ≡ app.areas)
-        (doors : app1.devices.doors ≡ app.devices.doors) (rates : app1.devices.rates ≡ app.devices.rates) (name : app1.name ≡ app.name) where
+        (doors : app1.devices.doors ≡ app.devices.doors) (rates : app1.devices.rates ≡ app.devices.rates) (nets : app1.devices.nets ≡ app.devices.nets) (name : app1.name ≡ app.name) where
       module _ (y : Beyond) (h : Holds (around y app)) where
         abbrev f : FoundOpen (around y app) app.devices.cards s a
         f = (its y h).0
@@ -325,7 +326,7 @@ module _ (t : Told) (app : App) (s : List ℕ) (k : Kind) (payload : List ℕ) w
 
         then_holds : Holds (around (record y { machine = machine_with y app s a f waiting }) app1)
         then_holds = accepted_holds y app s a h f app1 got.log waiting (with_buffer (Append (next_number f.chain)) (length payload) b) (Covers b)
-            (reaches app app1 buffers labels areas doors rates frames y s (Covers b) (λ p spares. got.waits.made.others p (λ j in_b in_p. spares j in_b in_p))) got.card
+            (reaches app app1 buffers labels areas doors rates nets frames y s (Covers b) (λ p spares. got.waits.made.others p (λ j in_b in_p. spares j in_b in_p))) got.card
             (ap (λ (z : OpenChain). z.grant) got.waits.waiting) (ap (λ (z : OpenChain). z.waiting) got.waits.waiting) (ap (λ (z : OpenChain). z.done) got.waits.waiting) runs
             (free y app s a h f app1.store.region _ b blocks got.waits.len got.waits.made) (fresh y app s a h f app1.store.region _ b blocks got.waits.len got.waits.made)
 
@@ -400,7 +401,7 @@ module _ (t : Told) (app : App) (s : List ℕ) (n : ℕ) where
         (λ y h. trim_refused_by y h e (of_its (λ one v. IsRefused v (IsNoEntry v n) e) why y h))
 
     module _ (app1 : App) (accepts : OfLogAt app.devices.cards a.key (λ one v. HasTrimmed app.devices.cards app1.devices.cards a.key one v n)) (region : app1.store.region ≡ app.store.region) (buffers : app1.store.buffers ≡ app.store.buffers)
-        (labels : app1.labels ≡ app.labels) (areas : app1.areas ≡ app.areas) (doors : app1.devices.doors ≡ app.devices.doors) (rates : app1.devices.rates ≡ app.devices.rates) (name : app1.name ≡ app.name) where
+        (labels : app1.labels ≡ app.labels) (areas : app1.areas ≡ app.areas) (doors : app1.devices.doors ≡ app.devices.doors) (rates : app1.devices.rates ≡ app.devices.rates) (nets : app1.devices.nets ≡ app.devices.nets) (name : app1.name ≡ app.name) where
       module _ (y : Beyond) (h : Holds (around y app)) where
         abbrev g : FoundOpen (around y app) app.devices.cards s a
         g = (its_open y h).0
@@ -423,7 +424,7 @@ module _ (t : Told) (app : App) (s : List ℕ) (n : ℕ) where
 
         trimmed_holds : Holds (around (record y { machine = machine_with y app s a g trims }) app1)
         trimmed_holds = accepted_holds y app s a h g app1 (waits g.chain behind n) trims behind (λ j. ⊥)
-            (reaches app app1 buffers labels areas doors rates (ap (λ (z : Space). length z.taken) region) y s (λ j. ⊥) (λ p spares. ap (λ (z : Space). bytes_of z p) region)) has.card
+            (reaches app app1 buffers labels areas doors rates nets (ap (λ (z : Space). length z.taken) region) y s (λ j. ⊥) (λ p spares. ap (λ (z : Space). bytes_of z p) region)) has.card
             refl refl refl runs_then (λ j no. absurd no)
             (λ j. plus_zero (bit (slice_index_or app.store.region.taken j false)) ∙ ap (λ (z : Space). bit (slice_index_or z.taken j false)) (sym region))
 
@@ -502,7 +503,7 @@ module _ (t : Told) (app : App) (s : List ℕ) where
 
     module _ (app1 : App) (n : ℕ) (accepts : OfLogAt app.devices.cards a.key (λ one v. HasPopped app.devices.cards app1.devices.cards a.key one v app.store.region app1.store.region n))
         (frames : length app1.store.region.taken ≡ length app.store.region.taken) (buffers : app1.store.buffers ≡ app.store.buffers) (labels : app1.labels ≡ app.labels) (areas : app1.areas ≡ app.areas)
-        (doors : app1.devices.doors ≡ app.devices.doors) (rates : app1.devices.rates ≡ app.devices.rates) (name : app1.name ≡ app.name) where
+        (doors : app1.devices.doors ≡ app.devices.doors) (rates : app1.devices.rates ≡ app.devices.rates) (nets : app1.devices.nets ≡ app.devices.nets) (name : app1.name ≡ app.name) where
       module _ (y : Beyond) (h : Holds (around y app)) where
         abbrev q : FoundOpen (around y app) app.devices.cards s a
         q = (its_queue y h).0
@@ -552,7 +553,7 @@ module _ (t : Told) (app : App) (s : List ℕ) where
 
         popped_holds : Holds (around (record y { machine = machine_with y app s a q pops }) app1)
         popped_holds = accepted_holds y app s a h q app1 did.log pops last (Covers bf)
-            (reaches app app1 buffers labels areas doors rates frames y s (Covers bf) (λ p spares. did.waits.made.others p (λ j in_b in_p. spares j in_b in_p))) did.card
+            (reaches app app1 buffers labels areas doors rates nets frames y s (Covers bf) (λ p spares. did.waits.made.others p (λ j in_b in_p. spares j in_b in_p))) did.card
             (ap (λ (z : OpenChain). z.grant) did.waits.waiting) (ap (λ (z : OpenChain). z.waiting) did.waits.waiting) (ap (λ (z : OpenChain). z.done) did.waits.waiting) popped_runs
             (free y app s a h q app1.store.region _ bf size_of did.waits.len did.waits.made) (fresh y app s a h q app1.store.region _ bf size_of did.waits.len did.waits.made)
 

@@ -105,6 +105,7 @@ module _ (r : Beyond) (app app1 : App) (s v : List ℕ) (h : Holds (around r app
     areas = rest.areas;
     doors = rest.doors;
     rates = rest.rates;
+    nets = rest.nets;
     base = refl;
     beside = λ l t apart there. same_history r.history t.blocks;
     frames = frames;

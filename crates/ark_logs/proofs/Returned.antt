@@ -45,6 +45,7 @@ module _ (q : Beyond) (app app1 : App) (h : Holds (around q app)) (s : List ℕ)
     areas = rest.areas;
     doors = rest.doors;
     rates = rest.rates;
+    nets = rest.nets;
     base = refl;
     beside = λ l t apart at. same_history q.history t.blocks;
     frames = back.sized;

@@ -79,6 +79,7 @@ pub record KeepsRest (old new : App) : Type 0 where
   pub buffers : new.store.buffers ≡ old.store.buffers
   pub doors : new.devices.doors ≡ old.devices.doors
   pub rates : new.devices.rates ≡ old.devices.rates
+  pub nets : new.devices.nets ≡ old.devices.nets
   pub name : new.name ≡ old.name
 
 -- A buffer for the header was taken, the log was loaded from the area, and is open on the card of a key. Its list begins with this

@@ -163,21 +163,21 @@ abbrev pub rebound : List ℕ → StorageCard → StorageCard
 rebound ks one = record one { vsic = record one.vsic { bound = ks } }
 
 module _ (app app1 : App) (v : List ℕ) (key : ℕ) (is : Ok key ≡ card_key app.labels v) (one : StorageCard) (here : slot app.devices.cards key ≡ Some one) (free : is_some one.log ≡ false) (ks : List ℕ) (changes : Changes app.devices.cards app1.devices.cards key (Some (rebound ks one)))
-    (labels : app1.labels ≡ app.labels) (doors : app1.devices.doors ≡ app.devices.doors) (rates : app1.devices.rates ≡ app.devices.rates) (store : app1.store ≡ app.store) (areas : app1.areas ≡ app.areas) (y : Beyond) (h : Holds (around y app)) (c : HasCard (around y app) v key) (ms : List ℕ) where
+    (labels : app1.labels ≡ app.labels) (doors : app1.devices.doors ≡ app.devices.doors) (rates : app1.devices.rates ≡ app.devices.rates) (nets : app1.devices.nets ≡ app.devices.nets) (store : app1.store ≡ app.store) (areas : app1.areas ≡ app.areas) (y : Beyond) (h : Holds (around y app)) (c : HasCard (around y app) v key) (ms : List ℕ) where
   abbrev its_vsic : Vsic
   its_vsic = record c.vsic { bound = ms }
 
   abbrev after : Around
-  after = now app app1 v key is one (rebound ks one) here changes (shut_stays one (rebound ks one) free) labels doors rates store areas y h c its_vsic (alike c.vsic ms)
+  after = now app app1 v key is one (rebound ks one) here changes (shut_stays one (rebound ks one) free) labels doors rates nets store areas y h c its_vsic (alike c.vsic ms)
 
   held : Each (λ g s. slice_get y.numbers s ≡ Some g) ks ms → Holds after
-  held bound = card_altered app app1 v key is one (rebound ks one) here changes (shut_stays one (rebound ks one) free) labels doors rates store areas y h c its_vsic (alike c.vsic ms) fits
+  held bound = card_altered app app1 v key is one (rebound ks one) here changes (shut_stays one (rebound ks one) free) labels doors rates nets store areas y h c its_vsic (alike c.vsic ms) fits
     where
       fits : IsCard after v c.cap its_vsic
-      fits = let keeps = card_keeps app app1 v key is one (rebound ks one) here changes (shut_stays one (rebound ks one) free) labels doors rates store areas y h c its_vsic (alike c.vsic ms) in record {
+      fits = let keeps = card_keeps app app1 v key is one (rebound ks one) here changes (shut_stays one (rebound ks one) free) labels doors rates nets store areas y h c its_vsic (alike c.vsic ms) in record {
         its_kind = c.fits.its_kind;
         card = kept_card (rebound ks one);
-        kept = kept_now app app1 v key is one (rebound ks one) here changes (shut_stays one (rebound ks one) free) labels doors rates store areas y h c its_vsic (alike c.vsic ms);
+        kept = kept_now app app1 v key is one (rebound ks one) here changes (shut_stays one (rebound ks one) free) labels doors rates nets store areas y h c its_vsic (alike c.vsic ms);
         size = size_now app v key is one here y c;
         posted = posted_now app v key is one here y c after keeps;
         unreaped = unreaped_now app v key is one here y c after keeps;
@@ -185,12 +185,12 @@ module _ (app app1 : App) (v : List ℕ) (key : ℕ) (is : Ok key ≡ card_key a
         bound = bound;
         pace = pace_now app v key is one here y c after keeps;
         door = door_now app v key is one here y c after keeps;
-        log = opens_now app v key is one here y c ∙ sym (card_opens app app1 v key is one (rebound ks one) here changes (shut_stays one (rebound ks one) free) labels doors rates store areas y h c its_vsic (alike c.vsic ms));
+        log = opens_now app v key is one here y c ∙ sym (card_opens app app1 v key is one (rebound ks one) here changes (shut_stays one (rebound ks one) free) labels doors rates nets store areas y h c its_vsic (alike c.vsic ms));
       }
 
 -- The words.
 module _ (t : Told) (app app1 : App) (v s : List ℕ) (key : ℕ) (area : RawArea) (keys : Ok (key, area) ≡ both_keys (card_key app.labels v) (raw_area app.labels app.areas s)) (one : StorageCard) (here : slot app.devices.cards key ≡ Some one) (free : is_some one.log ≡ false)
-    (labels : app1.labels ≡ app.labels) (doors : app1.devices.doors ≡ app.devices.doors) (rates : app1.devices.rates ≡ app.devices.rates) (store : app1.store ≡ app.store) (areas : app1.areas ≡ app.areas) (name : app1.name ≡ app.name) where
+    (labels : app1.labels ≡ app.labels) (doors : app1.devices.doors ≡ app.devices.doors) (rates : app1.devices.rates ≡ app.devices.rates) (nets : app1.devices.nets ≡ app.devices.nets) (store : app1.store ≡ app.store) (areas : app1.areas ≡ app.areas) (name : app1.name ≡ app.name) where
   abbrev both : (Ok key ≡ card_key app.labels v) × (Ok area ≡ raw_area app.labels app.areas s)
   both = each_key key area _ _ keys
 
@@ -213,7 +213,7 @@ module _ (t : Told) (app app1 : App) (v s : List ℕ) (key : ℕ) (area : RawAre
       let now_bound = bound_with a.held.serial c.vsic in (
         with_object y.machine v (Objects.vsic now_bound),
         done v s bound_with t app (λ m g. rows.bind m v s g) (λ m g. refl) key area keys one here free y g h ∙ rest_is v s bound_with y.machine g c.held a.held c.vsic c.there c.object a.there,
-        held app app1 v key both.0 one here free (card.bound_with area.grant one.vsic.bound) changes labels doors rates store areas y h c now_bound.bound
+        held app app1 v key both.0 one here free (card.bound_with area.grant one.vsic.bound) changes labels doors rates nets store areas y h c now_bound.bound
             (each_with (around y app) h.one a.held.serial area.grant (its_number y h) one.vsic.bound c.vsic.bound (bound_before y c)),
       ))
 
@@ -224,6 +224,6 @@ module _ (t : Told) (app app1 : App) (v s : List ℕ) (key : ℕ) (area : RawAre
       let now_bound = bound_without a.held.serial c.vsic in (
         with_object y.machine v (Objects.vsic now_bound),
         done v s bound_without t app (λ m g. rows.unbind m v s g) (λ m g. refl) key area keys one here free y g h ∙ rest_is v s bound_without y.machine g c.held a.held c.vsic c.there c.object a.there,
-        held app app1 v key both.0 one here free (card.bound_without area.grant one.vsic.bound) changes labels doors rates store areas y h c now_bound.bound
+        held app app1 v key both.0 one here free (card.bound_without area.grant one.vsic.bound) changes labels doors rates nets store areas y h c now_bound.bound
             (each_without (around y app) h.one a.held.serial area.grant (its_number y h) one.vsic.bound c.vsic.bound (bound_before y c)),
       ))

@@ -57,18 +57,18 @@ alike x = record {
 
 module _ (t : Told) (app app1 : App) (v : List ℕ) (key : ℕ) (is : Ok key ≡ card_key app.labels v) (one : StorageCard) (here : slot app.devices.cards key ≡ Some one) (free : is_some one.log ≡ false) (under : members one.vsic.ring < one.vsic.ring.size)
     (d : Descriptor) (job : d.job ≡ vic.Sync) (buf : d.buf ≡ None) (changes : Changes app.devices.cards app1.devices.cards key (Some (with_posted d one)))
-    (labels : app1.labels ≡ app.labels) (doors : app1.devices.doors ≡ app.devices.doors) (rates : app1.devices.rates ≡ app.devices.rates) (store : app1.store ≡ app.store) (areas : app1.areas ≡ app.areas) (name : app1.name ≡ app.name) where
+    (labels : app1.labels ≡ app.labels) (doors : app1.devices.doors ≡ app.devices.doors) (rates : app1.devices.rates ≡ app.devices.rates) (nets : app1.devices.nets ≡ app.devices.nets) (store : app1.store ≡ app.store) (areas : app1.areas ≡ app.areas) (name : app1.name ≡ app.name) where
   module _ (y : Beyond) (h : Holds (around y app)) (c : HasCard (around y app) v key) where
     abbrev after : Around
-    after = now app app1 v key is one (with_posted d one) here changes (shut_stays one (with_posted d one) free) labels doors rates store areas y h c (more c.vsic) (alike c.vsic)
+    after = now app app1 v key is one (with_posted d one) here changes (shut_stays one (with_posted d one) free) labels doors rates nets store areas y h c (more c.vsic) (alike c.vsic)
 
     fits : IsCard after v c.cap (more c.vsic)
     fits =
-        let keeps = card_keeps app app1 v key is one (with_posted d one) here changes (shut_stays one (with_posted d one) free) labels doors rates store areas y h c (more c.vsic) (alike c.vsic) in
+        let keeps = card_keeps app app1 v key is one (with_posted d one) here changes (shut_stays one (with_posted d one) free) labels doors rates nets store areas y h c (more c.vsic) (alike c.vsic) in
         record {
           its_kind = c.fits.its_kind;
           card = kept_card (with_posted d one);
-          kept = kept_now app app1 v key is one (with_posted d one) here changes (shut_stays one (with_posted d one) free) labels doors rates store areas y h c (more c.vsic) (alike c.vsic);
+          kept = kept_now app app1 v key is one (with_posted d one) here changes (shut_stays one (with_posted d one) free) labels doors rates nets store areas y h c (more c.vsic) (alike c.vsic);
           size = size_now app v key is one here y c;
           posted = each_more (IsJob after one.log) one.vsic.ring.posted c.vsic.queue.posted d flush (posted_now app v key is one here y c after keeps) (job, buf);
           unreaped = unreaped_now app v key is one here y c after keeps;
@@ -76,11 +76,11 @@ module _ (t : Told) (app app1 : App) (v : List ℕ) (key : ℕ) (is : Ok key ≡
           bound = bound_now app v key is one here y c after keeps;
           pace = pace_now app v key is one here y c after keeps;
           door = door_now app v key is one here y c after keeps;
-          log = opens_now app v key is one here y c ∙ sym (card_opens app app1 v key is one (with_posted d one) here changes (shut_stays one (with_posted d one) free) labels doors rates store areas y h c (more c.vsic) (alike c.vsic));
+          log = opens_now app v key is one here y c ∙ sym (card_opens app app1 v key is one (with_posted d one) here changes (shut_stays one (with_posted d one) free) labels doors rates nets store areas y h c (more c.vsic) (alike c.vsic));
         }
 
     held : Holds after
-    held = card_altered app app1 v key is one (with_posted d one) here changes (shut_stays one (with_posted d one) free) labels doors rates store areas y h c (more c.vsic) (alike c.vsic) fits
+    held = card_altered app app1 v key is one (with_posted d one) here changes (shut_stays one (with_posted d one) free) labels doors rates nets store areas y h c (more c.vsic) (alike c.vsic) fits
 
   pub flush_done : Acts t app app1 (λ m g. rows.flush_card m v g) [] said.Ok []
   flush_done = comes t app app1 (λ m g. rows.flush_card m v g) said.Ok [] areas name (λ y g sited h.

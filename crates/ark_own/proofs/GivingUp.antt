@@ -26,13 +26,16 @@ use Rattle.ark_machine.specs.Row.{Row, Given, answer, has_fault}
 use Rattle.ark_held.specs.Words.{Labels, AreaList}
 use Rattle.ark_held.specs.Totals.{bit, total}
 use Rattle.ark_held.specs.Kept.{Tables}
-use Rattle.ark_held.specs.Rings.{LosesCard, card_kept, kept_card, sees_any, unbound}
+use Rattle.ark_held.specs.Rings.{LosesCard, card_kept, kept_card, unbound}
+use Rattle.ark_held.specs.Nets.{net_kept}
+use Rattle.ark_held.specs.Seen.{sees_any}
 use Rattle.ark_held.specs.Pacing.{rate_kept}
-use Rattle.ark_held.specs.Held.{IsObjectOf, AtLabel, Holds, is_area, has_key, is_shared, is_shared_kind}
+use Rattle.ark_held.specs.Held.{IsObjectOf, AtLabel, Holds, is_area, has_key, is_shared, is_shared_kind, is_net, is_net_kind}
 use Rattle.ark_held.specs.Beyond.{Beyond, around, tables_of}
 use Rattle.ark_held.specs.Does.{Acts}
 use Rattle.ark_held.specs.declared.allowance.Allowance.{Allowance}
 use Rattle.ark_held.specs.declared.app.App.{App}
+use Rattle.ark_held.specs.declared.nets.Nets.{Nets}
 use Rattle.ark_held.specs.declared.card.StorageCard.{StorageCard}
 use Rattle.ark_held.specs.declared.store.Store.{Store}
 use Rattle.ark_held.proofs.Lists.{not_some, some_same}
@@ -115,13 +118,16 @@ module _ (t : Told) (app : App) (l : List ℕ) where
       by y (Some c) None is m = absurd m
 
   -- what is under the label is a buffer
-  pub other_kind : (cap : Capability) → value_at app.labels l ≡ Some cap → is_shared (value_at app.labels l) ≡ false → (cap.kind ≡ cap_kind.Vsic → ⊥) → (cap.kind ≡ cap_kind.Door → ⊥) → (cap.kind ≡ cap_kind.Rate → ⊥) → Acts t app app (row l) [] (said.Refused r.WrongKind) []
-  other_kind cap label plain no_card no_door no_rate = refuses t app (row l) r.WrongKind (λ y g sited h.
+  pub other_kind : (cap : Capability) → value_at app.labels l ≡ Some cap → is_shared (value_at app.labels l) ≡ false → (cap.kind ≡ cap_kind.Vsic → ⊥) → (cap.kind ≡ cap_kind.Door → ⊥) → (cap.kind ≡ cap_kind.Rate → ⊥) → is_net (value_at app.labels l) ≡ false → Acts t app app (row l) [] (said.Refused r.WrongKind) []
+  other_kind cap label plain no_card no_door no_rate no_net = refuses t app (row l) r.WrongKind (λ y g sited h.
       let b = by y (value_at app.labels l) (at y.machine l) label (found (around y app) l app.labels y.machine.held h.held) in
       refused_first y.machine (conditions y.machine l g) _ r.WrongKind (early_kind y.machine l g h.made b.0 b.1 b.2))
     where
       not_shared : (k : CapKind) → is_shared_kind k ≡ true → cap.kind ≡ k → ⊥
       not_shared k shared kind = false≢true (sym plain ∙ ap is_shared label ∙ ap is_shared_kind kind ∙ shared)
+
+      not_net : cap.kind ≡ cap_kind.Vnic → ⊥
+      not_net kind = false≢true (sym no_net ∙ ap is_net label ∙ ap is_net_kind kind)
 
       buffer : (y : Beyond) (k : List ℕ) (c : Capability) (o : Object) → c ≡ cap → IsObjectOf (around y app) k c o → is_buffer o ≡ true
       buffer y k c (Objects.buffer z) same f = refl
@@ -129,7 +135,7 @@ module _ (t : Told) (app : App) (l : List ℕ) where
       buffer y k c (Objects.log z) same f = absurd (not_shared cap_kind.Vsa refl (ap (λ (q : Capability). q.kind) (sym same) ∙ f.its_kind))
       buffer y k c (Objects.vsic z) same f = absurd (no_card (ap (λ (q : Capability). q.kind) (sym same) ∙ f.its_kind))
       buffer y k c (Objects.door z) same f = absurd (no_door (ap (λ (q : Capability). q.kind) (sym same) ∙ f.its_kind))
-      buffer y k c (Objects.vnic z) same f = absurd (not_some None f.net refl f.kept)
+      buffer y k c (Objects.vnic z) same f = absurd (not_net (ap (λ (q : Capability). q.kind) (sym same) ∙ f.its_kind))
       buffer y k c (Objects.filter z q) same f = absurd (not_shared cap_kind.Filter refl (ap (λ (q : Capability). q.kind) (sym same) ∙ f.its_kind))
       buffer y k c (Objects.rate z q) same f = absurd (no_rate (ap (λ (q : Capability). q.kind) (sym same) ∙ f.its_kind))
       buffer y k c (Objects.socket z) same f = absurd (not_some None f.socket refl f.kept)
@@ -143,10 +149,10 @@ module _ (t : Told) (app : App) (l : List ℕ) where
 -- A card that is in use, or goes.
 
 card_device : (cap : Capability) → cap.kind ≡ cap_kind.Vsic → IsDevice cap
-card_device cap kind = record { no_net = λ e. cc (kind, e); no_buffer = λ e. cc (kind, e); plain = ap is_area kind; stored = ap has_key kind }
+card_device cap kind = record { no_buffer = λ e. cc (kind, e); plain = ap is_area kind; stored = ap has_key kind }
 
 door_device : (cap : Capability) → cap.kind ≡ cap_kind.Door → IsDevice cap
-door_device cap kind = record { no_net = λ e. cc (kind, e); no_buffer = λ e. cc (kind, e); plain = ap is_area kind; stored = ap has_key kind }
+door_device cap kind = record { no_buffer = λ e. cc (kind, e); plain = ap is_area kind; stored = ap has_key kind }
 
 some_items : {X : Type 0} (f : X → ℕ) (xs : List X) → length xs ≡ 0 → total f xs ≡ 0
 some_items f [] none = refl
@@ -197,7 +203,7 @@ module _ (t : Told) (app app1 : App) (l : List ℕ) (cap : Capability) (label : 
         (early_busy y.machine l g h.made v.held v.there (ap is_buffer v.object) (ap is_vsa v.object) (in_use y h v ∙ used)))
 
     module _ (unused : (is_some one.log || nat_lt 0 (members one.vsic.ring)) ≡ false) (labels : app1.labels ≡ others l app.labels) (loses : LosesCard app.devices.cards app1.devices.cards cap.key cap.grant)
-        (doors : app1.devices.doors ≡ app.devices.doors) (rates : app1.devices.rates ≡ app.devices.rates) (areas : app1.areas ≡ app.areas) (name : app1.name ≡ app.name) (store : app1.store ≡ app.store) where
+        (doors : app1.devices.doors ≡ app.devices.doors) (rates : app1.devices.rates ≡ app.devices.rates) (nets : app1.devices.nets ≡ app.devices.nets) (areas : app1.areas ≡ app.areas) (name : app1.name ≡ app.name) (store : app1.store ≡ app.store) where
       tables : Tables
       tables = record (tables_of app.store app.devices) { cards = card_kept loses.rest }
 
@@ -207,13 +213,14 @@ module _ (t : Told) (app app1 : App) (l : List ℕ) (cap : Capability) (label : 
         cards = λ k other. ap (λ o. option_map kept_card o) (loses.gone.others k (λ e. other kind e));
         doors = λ k other. refl;
         rates = λ k other. refl;
+        nets = λ k other. refl;
         rest = refl;
       }
 
       tables_now : tables_of app1.store app1.devices ≡ unbound_tables cap.grant tables
       unfolding tables
-      tables_now = tables_unbound app1.store app.store app1.devices app.devices cap.grant (card_kept loses.rest) (slot app.devices.doors) (rate_kept app.devices.rates) (ap (λ (z : Store). z.region) store) (ap (λ (z : Store). z.buffers) store)
-          (λ k. ap (λ o. option_map kept_card o) (loses.cards k) ∙ kept_unbound cap.grant (slot loses.rest k)) (λ k. ap (λ (z : List (Option Counts)). slot z k) doors) (λ k. ap (λ (z : List (Option Allowance)). rate_kept z k) rates)
+      tables_now = tables_unbound app1.store app.store app1.devices app.devices cap.grant (card_kept loses.rest) (slot app.devices.doors) (rate_kept app.devices.rates) (net_kept app.devices.nets.cards) (ap (λ (z : Store). z.region) store) (ap (λ (z : Store). z.buffers) store)
+          (λ k. ap (λ o. option_map kept_card o) (loses.cards k) ∙ kept_unbound cap.grant (slot loses.rest k)) (λ k. ap (λ (z : List (Option Counts)). slot z k) doors) (λ k. ap (λ (z : List (Option Allowance)). rate_kept z k) rates) (λ k. ap (λ (z : Nets). net_kept z.cards k) nets)
 
       empty : (y : Beyond) (v : HasCard (around y app) l cap.key) → held_in v.vsic.queue ≡ 0
       empty y v =
@@ -237,7 +244,7 @@ module _ (t : Told) (app app1 : App) (l : List ℕ) (cap : Capability) (label : 
           let v = its y h in
           without_it y app app1 l cap.grant tables labels areas tables_now
           (lost_all (around y app) h l cap label v.held v.there (card_device cap kind) (nothing y v) (λ door. cc (kind, door))
-          (λ card. log_same app l cap.key is_key one here y v ∙ (none_of_both (is_some one.log) (nat_lt 0 (members one.vsic.ring)) unused).0) (λ rate. cc (kind, rate)) tables one_less)
+          (λ card. log_same app l cap.key is_key one here y v ∙ (none_of_both (is_some one.log) (nat_lt 0 (members one.vsic.ring)) unused).0) (λ rate. cc (kind, rate)) (λ net. cc (kind, net)) tables one_less)
 
       pub card_done : Acts t app app1 (row l) [] said.Ok []
       card_done = comes_quiet t app app1 (row l) said.Ok [] areas name (λ y g came sited h.
@@ -260,28 +267,28 @@ module _ (t : Told) (app app1 : App) (l : List ℕ) (cap : Capability) (label : 
   no_door_there e gone = never t app app1 (row l) (said.Refused e) [] (λ y h.
       let d = its_door y h in not_some (slot app.devices.doors cap.key) d.counts gone (doors.entry_is app l cap.key door_is y d))
 
-  watching : (y : Beyond) (h : Holds (around y app)) (d : HasDoor (around y app) l cap.key) → is_in_use y.machine l d.held.object ≡ sees_any app.devices.cards cap.key app.labels
+  watching : (y : Beyond) (h : Holds (around y app)) (d : HasDoor (around y app) l cap.key) → is_in_use y.machine l d.held.object ≡ sees_any app.devices.cards app.devices.nets.cards cap.key app.labels
   watching y h d = ap (λ (o : Object). is_in_use y.machine l o) d.object ∙ sym (watched_same y app h l cap label kind)
 
-  pub door_busy : sees_any app.devices.cards cap.key app.labels ≡ true → Acts t app app (row l) [] (said.Refused r.Busy) []
+  pub door_busy : sees_any app.devices.cards app.devices.nets.cards cap.key app.labels ≡ true → Acts t app app (row l) [] (said.Refused r.Busy) []
   door_busy used = refuses t app (row l) r.Busy (λ y g sited h.
       let d = its_door y h in
       refused_first y.machine (conditions y.machine l g) _ r.Busy
       (early_busy y.machine l g h.made d.held d.there (ap is_buffer d.object) (ap is_vsa d.object) (watching y h d ∙ used)))
 
-  module _ (unused : sees_any app.devices.cards cap.key app.labels ≡ false) (labels : app1.labels ≡ others l app.labels) (changes : Changes app.devices.doors app1.devices.doors cap.key None)
-      (unbind : (k : ℕ) → slot app1.devices.cards k ≡ option_map (unbound cap.grant) (slot app.devices.cards k)) (rates : app1.devices.rates ≡ app.devices.rates) (areas : app1.areas ≡ app.areas) (name : app1.name ≡ app.name) (store : app1.store ≡ app.store) where
+  module _ (unused : sees_any app.devices.cards app.devices.nets.cards cap.key app.labels ≡ false) (labels : app1.labels ≡ others l app.labels) (changes : Changes app.devices.doors app1.devices.doors cap.key None)
+      (unbind : (k : ℕ) → slot app1.devices.cards k ≡ option_map (unbound cap.grant) (slot app.devices.cards k)) (rates : app1.devices.rates ≡ app.devices.rates) (nets : app1.devices.nets ≡ app.devices.nets) (areas : app1.areas ≡ app.areas) (name : app1.name ≡ app.name) (store : app1.store ≡ app.store) where
     tables_less : Tables
     tables_less = record (tables_of app.store app.devices) { doors = slot app1.devices.doors }
 
     door_less : LosesOne (tables_of app.store app.devices) tables_less cap
     unfolding tables_less
-    door_less = record { cards = λ k other. refl; doors = λ k other. changes.others k (λ e. other kind e); rates = λ k other. refl; rest = refl }
+    door_less = record { cards = λ k other. refl; doors = λ k other. changes.others k (λ e. other kind e); rates = λ k other. refl; nets = λ k other. refl; rest = refl }
 
     tables_then : tables_of app1.store app1.devices ≡ unbound_tables cap.grant tables_less
     unfolding tables_less
-    tables_then = tables_unbound app1.store app.store app1.devices app.devices cap.grant (card_kept app.devices.cards) (slot app1.devices.doors) (rate_kept app.devices.rates) (ap (λ (z : Store). z.region) store) (ap (λ (z : Store). z.buffers) store)
-        (λ k. ap (λ o. option_map kept_card o) (unbind k) ∙ kept_unbound cap.grant (slot app.devices.cards k)) (λ k. refl) (λ k. ap (λ (z : List (Option Allowance)). rate_kept z k) rates)
+    tables_then = tables_unbound app1.store app.store app1.devices app.devices cap.grant (card_kept app.devices.cards) (slot app1.devices.doors) (rate_kept app.devices.rates) (net_kept app.devices.nets.cards) (ap (λ (z : Store). z.region) store) (ap (λ (z : Store). z.buffers) store)
+        (λ k. ap (λ o. option_map kept_card o) (unbind k) ∙ kept_unbound cap.grant (slot app.devices.cards k)) (λ k. refl) (λ k. ap (λ (z : List (Option Allowance)). rate_kept z k) rates) (λ k. ap (λ (z : Nets). net_kept z.cards k) nets)
 
     no_count : (y : Beyond) (d : HasDoor (around y app) l cap.key) → CountsNothing d.held.object
     no_count y d = subst (λ (o : Object). CountsNothing o) (sym d.object) (record { uses = λ k. refl; opens = λ k. refl; sockets = λ k. refl; covers = λ j. refl })
@@ -290,7 +297,7 @@ module _ (t : Told) (app app1 : App) (l : List ℕ) (cap : Capability) (label : 
     door_gone y h =
         let d = its_door y h in
         without_it y app app1 l cap.grant tables_less labels areas tables_then
-        (lost_all (around y app) h l cap label d.held d.there (door_device cap kind) (no_count y d) (λ door. sym (watched_same y app h l cap label kind) ∙ unused) (λ card. cc (kind, card)) (λ rate. cc (kind, rate)) tables_less door_less)
+        (lost_all (around y app) h l cap label d.held d.there (door_device cap kind) (no_count y d) (λ door. sym (watched_same y app h l cap label kind) ∙ unused) (λ card. cc (kind, card)) (λ rate. cc (kind, rate)) (λ net. cc (kind, net)) tables_less door_less)
 
     pub door_done : Acts t app app1 (row l) [] said.Ok []
     door_done = comes_quiet t app app1 (row l) said.Ok [] areas name (λ y g came sited h.

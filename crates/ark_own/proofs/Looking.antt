@@ -23,12 +23,14 @@ use Rattle.ark_machine.specs.Control.{is_open_on, is_socket_on}
 use Rattle.ark_held.specs.Totals.{bit, uses, object_covers}
 use Rattle.ark_held.specs.Rings.{card_kept}
 use Rattle.ark_held.specs.Pacing.{rate_kept}
+use Rattle.ark_held.specs.Nets.{net_kept}
 use Rattle.ark_held.specs.Around.{Around}
 use Rattle.ark_held.specs.Held.{Holds, has_key}
 use Rattle.ark_held.specs.Beyond.{Beyond, around}
 use Rattle.ark_held.specs.Does.{Acts}
 use Rattle.ark_held.specs.declared.allowance.Allowance.{Allowance}
 use Rattle.ark_held.specs.declared.app.App.{App}
+use Rattle.ark_held.specs.declared.nets.Nets.{Nets}
 use Rattle.ark_held.specs.declared.card.StorageCard.{StorageCard}
 use Rattle.ark_held.proofs.Lists.{not_some, some_same, other_name}
 use Rattle.ark_held.proofs.Creating.{but}
@@ -66,7 +68,7 @@ module _ (t : Told) (app : App) (l : List ℕ) where
     no_door_there e gone = never t app app1 (row l) (said.Refused e) [] (λ y h. let d = its app l key is y h in not_some (slot app.devices.doors key) d.counts gone (entry_is app l key is y d))
 
     module _ (counts : Counts) (here : slot app.devices.doors key ≡ Some counts) (changes : Changes app.devices.doors app1.devices.doors key (Some (counts_of [])))
-        (labels : app1.labels ≡ app.labels) (cards : app1.devices.cards ≡ app.devices.cards) (rates : app1.devices.rates ≡ app.devices.rates) (store : app1.store ≡ app.store) (areas : app1.areas ≡ app.areas) (name : app1.name ≡ app.name) where
+        (labels : app1.labels ≡ app.labels) (cards : app1.devices.cards ≡ app.devices.cards) (rates : app1.devices.rates ≡ app.devices.rates) (nets : app1.devices.nets ≡ app.devices.nets) (store : app1.store ≡ app.store) (areas : app1.areas ≡ app.areas) (name : app1.name ≡ app.name) where
       parts : (y : Beyond) → Holds (around y app) → HasDoor (around y app) l key → KeepsParts (but l) app app1
       parts y h d = record {
         store = store;
@@ -77,6 +79,7 @@ module _ (t : Told) (app : App) (l : List ℕ) where
         doors = λ k c stays at kind. changes.others c.key
             (λ e. other_name l k (not_but l k stays) (h.own.keys l k d.cap c d.label at (d.fits.its_kind ∙ sym kind) (ap has_key d.fits.its_kind) (d.key_is ∙ sym e)));
         rates = λ k c stays at kind. ap (λ (rs : List (Option Allowance)). rate_kept rs c.key) rates;
+        nets = λ k c stays at kind. ap (λ (ns : Nets). net_kept ns.cards c.key) nets;
       }
 
       pub look_done : Acts t app app1 (row l) [] (rung counts) []

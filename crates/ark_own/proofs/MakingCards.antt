@@ -26,12 +26,14 @@ use Rattle.ark_held.specs.Words.{Labels}
 use Rattle.ark_held.specs.Totals.{bit, open_count}
 use Rattle.ark_held.specs.Rings.{card_kept, kept_card, new_card, no_ring}
 use Rattle.ark_held.specs.Pacing.{rate_kept}
+use Rattle.ark_held.specs.Nets.{net_kept}
 use Rattle.ark_held.specs.Cards.{IsCard}
 use Rattle.ark_held.specs.Held.{Holds}
 use Rattle.ark_held.specs.Beyond.{Beyond, around}
 use Rattle.ark_held.specs.Does.{Grants}
 use Rattle.ark_held.specs.declared.allowance.Allowance.{Allowance}
 use Rattle.ark_held.specs.declared.app.App.{App}
+use Rattle.ark_held.specs.declared.nets.Nets.{Nets}
 use Rattle.ark_held.proofs.ByKind.{card_of}
 use Rattle.ark_held.proofs.Lists.{le_true, le_false, none_of, not_some, lookup_front, total_last}
 use Rattle.ark_held.proofs.Creating.{but}
@@ -45,6 +47,10 @@ use Rattle.ark_own.proofs.Making.{free_name}
 
 abbrev conditions : Machine → List ℕ → Bool → Conditions
 conditions m v lacks = record none { no_application = not m.made; name_taken = is_some (at m v); limit = no_more_cards m; no_memory = lacks }
+
+-- whether no more cards are possible
+pub limited : (app : App) (y : Beyond) → Holds (around y app) → (full many : Bool) → nat_le 64 (length app.labels) ≡ full → nat_le 8 (length (card_labels app.labels)) ≡ many → no_more_cards y.machine ≡ (full || many)
+limited app y h full many is cards = ap (λ b. b || nat_le 8 (held_count is_card y.machine)) (full_is (around y app) h ∙ is) ∙ ap (λ n. full || nat_le 8 n) (count_cards (around y app) h) ∙ ap (λ b. full || b) cards
 
 -- a card with an empty ring, to which nothing is bound
 abbrev empty : ℕ → Card
@@ -74,9 +80,6 @@ module _ (t : Told) (app : App) (v : List ℕ) (size grant : ℕ) where
       refused_first y.machine (conditions y.machine v false) _ refusal.NameTaken (rw (h.made, there) refl)) grant
 
   module _ (none : is_some (value_at app.labels v) ≡ false) where
-    limited : (y : Beyond) → Holds (around y app) → (full many : Bool) → nat_le 64 (length app.labels) ≡ full → nat_le 8 (length (card_labels app.labels)) ≡ many → no_more_cards y.machine ≡ (full || many)
-    limited y h full many is cards = ap (λ b. b || nat_le 8 (held_count is_card y.machine)) (full_is (around y app) h ∙ is) ∙ ap (λ n. full || nat_le 8 n) (count_cards (around y app) h) ∙ ap (λ b. full || b) cards
-
     refused_limit : ((y : Beyond) → Holds (around y app) → no_more_cards y.machine ≡ true) → Grants t app app (row (said.Refused refusal.Limit)) [] (said.Refused refusal.Limit) [] grant
     refused_limit full = refuses t app (row (said.Refused refusal.Limit)) refusal.Limit (λ y g sited h.
         let gone = free_name y app v none h in
@@ -84,15 +87,15 @@ module _ (t : Told) (app : App) (v : List ℕ) (size grant : ℕ) where
         refused_first y.machine (conditions y.machine v false) _ refusal.Limit (rw (h.made, gone, at_limit) refl)) grant
 
     pub vsic_full : 64 ≤ length app.labels → Grants t app app (row (said.Refused refusal.Limit)) [] (said.Refused refusal.Limit) [] grant
-    vsic_full many = refused_limit (λ y h. limited y h true _ (le_true 64 (length app.labels) many) refl)
+    vsic_full many = refused_limit (λ y h. limited app y h true _ (le_true 64 (length app.labels) many) refl)
 
     module _ (few : length app.labels < 64) where
       pub vsic_many : 8 ≤ length (card_labels app.labels) → Grants t app app (row (said.Refused refusal.Limit)) [] (said.Refused refusal.Limit) [] grant
-      vsic_many many = refused_limit (λ y h. limited y h false true (le_false 64 (length app.labels) few) (le_true 8 (length (card_labels app.labels)) many))
+      vsic_many many = refused_limit (λ y h. limited app y h false true (le_false 64 (length app.labels) few) (le_true 8 (length (card_labels app.labels)) many))
 
       module _ (less : length (card_labels app.labels) < 8) where
         room : (y : Beyond) → Holds (around y app) → no_more_cards y.machine ≡ false
-        room y h = limited y h false false (le_false 64 (length app.labels) few) (le_false 8 (length (card_labels app.labels)) less)
+        room y h = limited app y h false false (le_false 64 (length app.labels) few) (le_false 8 (length (card_labels app.labels)) less)
 
         pub vsic_lacks : Grants t app app (row (said.Refused refusal.NoMemory)) [] (said.Refused refusal.NoMemory) [] grant
         vsic_lacks = refuses t app (row (said.Refused refusal.NoMemory)) refusal.NoMemory (λ y g sited h.
@@ -101,7 +104,7 @@ module _ (t : Told) (app : App) (v : List ℕ) (size grant : ℕ) where
             refused_first y.machine (conditions y.machine v true) _ refusal.NoMemory (rw (h.made, gone, below) refl)) grant
 
         module _ (app1 : App) (key : ℕ) (card : Card) (ring : card.ring ≡ no_ring size) (bound : card.bound ≡ []) (pace : card.pace ≡ None) (vacant : slot app.devices.cards key ≡ None) (changes : Changes app.devices.cards app1.devices.cards key (Some (new_card card)))
-            (labels : app1.labels ≡ app.labels ++ (v, record { kind = cap_kind.Vsic; grant = grant; key = key }) ∷ []) (doors : app1.devices.doors ≡ app.devices.doors) (rates : app1.devices.rates ≡ app.devices.rates) (store : app1.store ≡ app.store) (areas : app1.areas ≡ app.areas) (name : app1.name ≡ app.name) where
+            (labels : app1.labels ≡ app.labels ++ (v, record { kind = cap_kind.Vsic; grant = grant; key = key }) ∷ []) (doors : app1.devices.doors ≡ app.devices.doors) (rates : app1.devices.rates ≡ app.devices.rates) (nets : app1.devices.nets ≡ app.devices.nets) (store : app1.store ≡ app.store) (areas : app1.areas ≡ app.areas) (name : app1.name ≡ app.name) where
           abbrev cap : Capability
           cap = record { kind = cap_kind.Vsic; grant = grant; key = key }
 
@@ -124,6 +127,7 @@ module _ (t : Told) (app : App) (v : List ℕ) (size grant : ℕ) where
             cards = λ k c stays is kind. same_card y h k c is kind;
             doors = λ k c stays is kind. ap (λ (ds : List (Option Counts)). slot ds c.key) doors;
             rates = λ k c stays is kind. ap (λ (rs : List (Option Allowance)). rate_kept rs c.key) rates;
+            nets = λ k c stays is kind. ap (λ (ns : Nets). net_kept ns.cards c.key) nets;
           }
 
           abbrev one : Machine → Held

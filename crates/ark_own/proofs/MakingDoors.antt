@@ -18,11 +18,13 @@ use Rattle.ark_machine.specs.Row.{Row, Given, says, answer}
 use Rattle.ark_held.specs.Words.{Labels}
 use Rattle.ark_held.specs.Rings.{card_kept}
 use Rattle.ark_held.specs.Pacing.{rate_kept}
+use Rattle.ark_held.specs.Nets.{net_kept}
 use Rattle.ark_held.specs.Held.{Holds}
 use Rattle.ark_held.specs.Beyond.{Beyond, around}
 use Rattle.ark_held.specs.Does.{Grants}
 use Rattle.ark_held.specs.declared.allowance.Allowance.{Allowance}
 use Rattle.ark_held.specs.declared.app.App.{App}
+use Rattle.ark_held.specs.declared.nets.Nets.{Nets}
 use Rattle.ark_held.specs.declared.card.StorageCard.{StorageCard}
 use Rattle.ark_held.proofs.ByKind.{door_of}
 use Rattle.ark_held.proofs.Lists.{le_true, none_of, not_some, lookup_front}
@@ -57,7 +59,7 @@ module _ (t : Told) (app : App) (l : List ℕ) (grant : ℕ) where
         refused_first y.machine (conditions y.machine l) _ refusal.Limit (rw (h.made, gone, full) refl)) grant
 
     module _ (few : length app.labels < 64) (app1 : App) (key : ℕ) (vacant : slot app.devices.doors key ≡ None) (changes : Changes app.devices.doors app1.devices.doors key (Some (counts_of [])))
-        (labels : app1.labels ≡ app.labels ++ (l, record { kind = cap_kind.Door; grant = grant; key = key }) ∷ []) (cards : app1.devices.cards ≡ app.devices.cards) (rates : app1.devices.rates ≡ app.devices.rates) (store : app1.store ≡ app.store) (areas : app1.areas ≡ app.areas) (name : app1.name ≡ app.name) where
+        (labels : app1.labels ≡ app.labels ++ (l, record { kind = cap_kind.Door; grant = grant; key = key }) ∷ []) (cards : app1.devices.cards ≡ app.devices.cards) (rates : app1.devices.rates ≡ app.devices.rates) (nets : app1.devices.nets ≡ app.devices.nets) (store : app1.store ≡ app.store) (areas : app1.areas ≡ app.areas) (name : app1.name ≡ app.name) where
       abbrev cap : Capability
       cap = record { kind = cap_kind.Door; grant = grant; key = key }
 
@@ -77,6 +79,7 @@ module _ (t : Told) (app : App) (l : List ℕ) (grant : ℕ) where
         cards = λ k c stays is kind. ap (λ (cs : List (Option StorageCard)). card_kept cs c.key) cards;
         doors = λ k c stays is kind. changes.others c.key (λ e. apart_key y h k c is kind e);
         rates = λ k c stays is kind. ap (λ (rs : List (Option Allowance)). rate_kept rs c.key) rates;
+        nets = λ k c stays is kind. ap (λ (ns : Nets). net_kept ns.cards c.key) nets;
       }
 
       pub door_done : Grants t app app1 row [] said.Ok [] grant

@@ -17,10 +17,12 @@ use Rattle.ark_machine.specs.Row.{Row, Given, says, answer}
 use Rattle.ark_held.specs.Words.{Labels}
 use Rattle.ark_held.specs.Rings.{card_kept}
 use Rattle.ark_held.specs.Pacing.{allowed, rate_kept}
+use Rattle.ark_held.specs.Nets.{net_kept}
 use Rattle.ark_held.specs.Held.{Holds}
 use Rattle.ark_held.specs.Beyond.{Beyond, around}
 use Rattle.ark_held.specs.Does.{Grants}
 use Rattle.ark_held.specs.declared.app.App.{App}
+use Rattle.ark_held.specs.declared.nets.Nets.{Nets}
 use Rattle.ark_held.specs.declared.card.StorageCard.{StorageCard}
 use Rattle.ark_held.proofs.ByKind.{rate_of}
 use Rattle.ark_held.proofs.Lists.{le_true, none_of, not_some, lookup_front}
@@ -55,7 +57,7 @@ module _ (t : Told) (app : App) (l : List ℕ) (q b grant : ℕ) where
         refused_first y.machine (conditions y.machine l) _ refusal.Limit (rw (h.made, gone, full) refl)) grant
 
     module _ (few : length app.labels < 64) (app1 : App) (key : ℕ) (vacant : slot app.devices.rates key ≡ None) (changes : Changes app.devices.rates app1.devices.rates key (Some (record { per_tick = q; burst = b })))
-        (labels : app1.labels ≡ app.labels ++ (l, record { kind = cap_kind.Rate; grant = grant; key = key }) ∷ []) (cards : app1.devices.cards ≡ app.devices.cards) (doors : app1.devices.doors ≡ app.devices.doors) (store : app1.store ≡ app.store) (areas : app1.areas ≡ app.areas) (name : app1.name ≡ app.name) where
+        (labels : app1.labels ≡ app.labels ++ (l, record { kind = cap_kind.Rate; grant = grant; key = key }) ∷ []) (cards : app1.devices.cards ≡ app.devices.cards) (doors : app1.devices.doors ≡ app.devices.doors) (nets : app1.devices.nets ≡ app.devices.nets) (store : app1.store ≡ app.store) (areas : app1.areas ≡ app.areas) (name : app1.name ≡ app.name) where
       abbrev cap : Capability
       cap = record { kind = cap_kind.Rate; grant = grant; key = key }
 
@@ -75,6 +77,7 @@ module _ (t : Told) (app : App) (l : List ℕ) (q b grant : ℕ) where
         cards = λ k c stays is kind. ap (λ (cs : List (Option StorageCard)). card_kept cs c.key) cards;
         doors = λ k c stays is kind. ap (λ (ds : List (Option Counts)). slot ds c.key) doors;
         rates = λ k c stays is kind. ap (λ o. option_map allowed o) (changes.others c.key (λ e. apart_key y h k c is kind e));
+        nets = λ k c stays is kind. ap (λ (ns : Nets). net_kept ns.cards c.key) nets;
       }
 
       pub rate_done : Grants t app app1 row [] said.Ok [] grant

@@ -11,6 +11,7 @@ use Rattle.ark_media.specs.Standing.{after}
 use Rattle.ark_media.proofs.Planning.{makes_devices}
 use Rattle.ark_extents.specs.Blocks.{AreDistinct}
 use Rattle.ark_script.specs.declared.said.Said.TheVariants as said
+use Rattle.ark_caps.specs.Labels.{value_at}
 use Rattle.ark_caps.specs.declared.capability.Capability.{Capability}
 use Rattle.ark_caps.specs.declared.capability.CapKind.TheVariants as cap_kind
 use Rattle.ark_objects.specs.Held.{at as slot, Changes}
@@ -32,16 +33,18 @@ use Rattle.ark_held.specs.Kept.{CardKept, PaceKept, Tables}
 use Rattle.ark_held.specs.Stored.{buffer_kept}
 use Rattle.ark_held.specs.Rings.{kept_card, card_kept}
 use Rattle.ark_held.specs.Pacing.{rate_kept}
+use Rattle.ark_held.specs.Nets.{net_kept}
 use Rattle.ark_held.specs.Around.{Around, Both}
 use Rattle.ark_held.specs.Idle.{is_idle}
 use Rattle.ark_held.specs.Cards.{IsWatched}
-use Rattle.ark_held.specs.Held.{IsObjectOf, Holds}
+use Rattle.ark_held.specs.Held.{IsObjectOf, Holds, is_net}
 use Rattle.ark_held.specs.Beyond.{Beyond, around, tables_of}
 use Rattle.ark_held.specs.Does.{ActsAt, Acts}
 use Rattle.ark_held.specs.Moving.{card_of, blocks_held, pace_moved, card_moved, vsic_moved, said_of, area_named}
 use Rattle.ark_held.specs.Ringing.{IsWatching, RingsAt}
 use Rattle.ark_held.specs.declared.allowance.Allowance.{Allowance}
 use Rattle.ark_held.specs.declared.app.App.{App}
+use Rattle.ark_held.specs.declared.nets.Nets.{Nets}
 use Rattle.ark_held.specs.declared.buffer.Buffer.{Buffer}
 use Rattle.ark_held.specs.declared.card.StorageCard.{StorageCard}
 use Rattle.ark_held.proofs.Finding.{stands_at}
@@ -50,7 +53,7 @@ use Rattle.ark_held.proofs.Ending.{OnCard, on_card}
 use Rattle.ark_held.proofs.Carrying.{WasMoved, carried}
 use Rattle.ark_held.proofs.MovedCard.{carries}
 use Rattle.ark_own.specs.Keys.{card_key}
-use Rattle.ark_own.proofs.Sides.{no_net_at}
+use Rattle.ark_own.proofs.OfNets.{other_kind}
 use Rattle.ark_own.proofs.OfCards.{HasCard, HasNone, found_card, its, never_gone}
 
 abbrev conditions : Machine → List ℕ → Conditions
@@ -61,10 +64,10 @@ row l m g = devices.dev m l g
 
 -- Why there is none.
 module _ (r : Beyond) (app : App) (l : List ℕ) where
-  why : Holds (around r app) → (e : Refusal) → HasNone (around r app) l e → early (conditions r.machine l) ≡ Some e
-  why holds (refusal.NoGrant k) h = let made = holds.made in rw (h.0, made, h.1) refl
-  why holds refusal.WrongKind h = let made = holds.made in let net = no_net_at r app holds l h.0 h.1 in rw (made, h.1, h.2, net) refl
-  why holds _ h = absurd h
+  why : Holds (around r app) → is_net (value_at app.labels l) ≡ false → (e : Refusal) → HasNone (around r app) l e → early (conditions r.machine l) ≡ Some e
+  why holds other (refusal.NoGrant k) h = let made = holds.made in rw (h.0, made, h.1) refl
+  why holds other refusal.WrongKind h = let made = holds.made in let net = other_kind (around r app) holds l other h.0 h.1 in rw (made, h.1, h.2, net) refl
+  why holds other _ h = absurd h
 
 accepted : (m : Machine) (l : List ℕ) (h : Held) (v : Vsic) (z : Move) → m.made ≡ true → at m l ≡ Some h → h.object ≡ Objects.vsic v → answer m (conditions m l) (row_of z) ≡ row_of z
 unfolding answer
@@ -114,8 +117,8 @@ pace_same rate p (due.Ends o) now = refl
 pace_same rate p due.Sync now = refl
 
 module _ (t : Told) (app : App) (l : List ℕ) where
-  pub dev_no_key : (e : Refusal) → Err e ≡ card_key app.labels l → Acts t app app (row l) [] (said.Refused e) []
-  dev_no_key e is = refuses t app (row l) e (λ r g sited h. refused_first r.machine (conditions r.machine l) _ e (why r app l h e (found_card (around r app) l h (Err e) is)))
+  pub dev_no_key : is_net (value_at app.labels l) ≡ false → (e : Refusal) → Err e ≡ card_key app.labels l → Acts t app app (row l) [] (said.Refused e) []
+  dev_no_key other e is = refuses t app (row l) e (λ r g sited h. refused_first r.machine (conditions r.machine l) _ e (why r app l h other e (found_card (around r app) l h (Err e) is)))
 
   module _ (key : ℕ) (is : Ok key ≡ card_key app.labels l) (app1 : App) where
     pub dev_no_card : (e : Refusal) → slot app.devices.cards key ≡ None → Acts t app app1 (row l) [] (said.Refused e) []
@@ -127,7 +130,7 @@ module _ (t : Told) (app : App) (l : List ℕ) where
         (changes : Changes app.devices.cards app1.devices.cards key (Some (record one { vsic = vsic_moved one.vsic (blocks_held app.areas) now a })))
         (rings : IsWatching one.door (slot app.devices.doors) → RingsAt a one.door (slot app.devices.doors) (slot app1.devices.doors))
         (sound : IfSome (head_of one.vsic.ring) (λ d. CanMove app.store.region.taken one.vsic.ring.moved d)) (distinct : IfSome (area_named (head_of one.vsic.ring) app.areas) (λ z. AreDistinct z.1))
-        (labels : app1.labels ≡ app.labels) (rates : app1.devices.rates ≡ app.devices.rates) (areas : app1.areas ≡ app.areas) (buffers : app1.store.buffers ≡ app.store.buffers) (name : app1.name ≡ app.name) (idle : is_idle one.log one.vsic.ring ≡ true) where
+        (labels : app1.labels ≡ app.labels) (rates : app1.devices.rates ≡ app.devices.rates) (nets : app1.devices.nets ≡ app.devices.nets) (areas : app1.areas ≡ app.areas) (buffers : app1.store.buffers ≡ app.store.buffers) (name : app1.name ≡ app.name) (idle : is_idle one.log one.vsic.ring ≡ true) where
       module _ (r : Beyond) (tick : r.now ≡ now) (h : Holds (around r app)) where
         abbrev v : HasCard (around r app) l key
         v = its app l key is r h
@@ -194,9 +197,10 @@ module _ (t : Told) (app : App) (l : List ℕ) where
               → Holds (around (record r { history = after r.history es; machine = n }) app1)
           held_then r n done =
               let z : Around = around (record r { history = after r.history es; machine = n }) app1 in
-              let same : tables_of app1.store app1.devices ≡ record (tables_of app1.store app1.devices) { buffers = buffer_kept app.store.buffers; rates = rate_kept app.devices.rates } =
+              let same : tables_of app1.store app1.devices ≡ record (tables_of app1.store app1.devices) { buffers = buffer_kept app.store.buffers; rates = rate_kept app.devices.rates; nets = net_kept app.devices.nets.cards } =
               ap (λ (bs : List (Option Buffer)). record (tables_of app1.store app1.devices) { buffers = buffer_kept bs }) buffers
-              ∙ ap (λ (rs : List (Option Allowance)). record (tables_of app1.store app1.devices) { buffers = buffer_kept app.store.buffers; rates = rate_kept rs }) rates in
+              ∙ ap (λ (rs : List (Option Allowance)). record (tables_of app1.store app1.devices) { buffers = buffer_kept app.store.buffers; rates = rate_kept rs }) rates
+              ∙ ap (λ (ns : Nets). record (tables_of app1.store app1.devices) { buffers = buffer_kept app.store.buffers; rates = rate_kept app.devices.rates; nets = net_kept ns.cards }) nets in
               subst (λ (ls : Labels). Holds (record z { labels = ls })) (sym labels)
               (subst (λ (es : AreaList). Holds (record z { labels = app.labels; areas = es })) (sym areas)
               (subst (λ (t : Tables). Holds (record z { labels = app.labels; areas = app.areas; tables = t })) (sym same) done))

@@ -24,6 +24,7 @@ use Rattle.ark_held.specs.Totals.{bit, open_count}
 use Rattle.ark_held.specs.Kept.{CardKept}
 use Rattle.ark_held.specs.Rings.{kept_card, card_kept}
 use Rattle.ark_held.specs.Pacing.{rate_kept}
+use Rattle.ark_held.specs.Nets.{net_kept}
 use Rattle.ark_held.specs.Around.{Around, Each, Both}
 use Rattle.ark_held.specs.Cards.{IsCard, IsJob, IsEnded, IsPaced, IsWatched}
 use Rattle.ark_held.specs.Held.{IsObjectOf, AtLabel, Holds, has_key}
@@ -32,6 +33,7 @@ use Rattle.ark_held.specs.Beyond.{Beyond, around}
 use Rattle.ark_held.specs.Does.{Acts}
 use Rattle.ark_held.specs.declared.allowance.Allowance.{Allowance}
 use Rattle.ark_held.specs.declared.app.App.{App}
+use Rattle.ark_held.specs.declared.nets.Nets.{Nets}
 use Rattle.ark_held.specs.declared.card.StorageCard.{StorageCard}
 use Rattle.ark_held.proofs.Lists.{not_some, some_same, other_name, each_kept, each_all, each_length}
 use Rattle.ark_held.proofs.Creating.{but}
@@ -154,7 +156,7 @@ module _ (app : App) (l : List ℕ) (key : ℕ) (is : Ok key ≡ card_key app.la
 
 -- Another content of the card under a label, where all else stays.
 module _ (app app1 : App) (l : List ℕ) (key : ℕ) (is : Ok key ≡ card_key app.labels l) (one one1 : StorageCard) (here : slot app.devices.cards key ≡ Some one) (changes : Changes app.devices.cards app1.devices.cards key (Some one1)) (opens : (grant : ℕ) → IsOpenOn grant (kept_card one) → StaysOpen grant (kept_card one) (Some (kept_card one1)))
-    (labels : app1.labels ≡ app.labels) (doors : app1.devices.doors ≡ app.devices.doors) (rates : app1.devices.rates ≡ app.devices.rates) (store : app1.store ≡ app.store) (areas : app1.areas ≡ app.areas) (y : Beyond) (h : Holds (around y app)) (v : HasCard (around y app) l key) where
+    (labels : app1.labels ≡ app.labels) (doors : app1.devices.doors ≡ app.devices.doors) (rates : app1.devices.rates ≡ app.devices.rates) (nets : app1.devices.nets ≡ app.devices.nets) (store : app1.store ≡ app.store) (areas : app1.areas ≡ app.areas) (y : Beyond) (h : Holds (around y app)) (v : HasCard (around y app) l key) where
   same_card : (k : List ℕ) (c : Capability) → but l k ≡ true → value_at app.labels k ≡ Some c → c.kind ≡ cap_kind.Vsic → card_kept app1.devices.cards c.key ≡ card_kept app.devices.cards c.key
   same_card k c stays at kind = ap (λ o. option_map kept_card o)
       (changes.others c.key (λ e. other_name l k (not_but l k stays) (h.own.keys l k v.cap c v.label at (v.fits.its_kind ∙ sym kind) (ap has_key v.fits.its_kind) (v.key_is ∙ sym e))))
@@ -168,6 +170,7 @@ module _ (app app1 : App) (l : List ℕ) (key : ℕ) (is : Ok key ≡ card_key a
     cards = same_card;
     doors = λ k c stays at kind. ap (λ (ds : List (Option Counts)). slot ds c.key) doors;
     rates = λ k c stays at kind. ap (λ (rs : List (Option Allowance)). rate_kept rs c.key) rates;
+    nets = λ k c stays at kind. ap (λ (ns : Nets). net_kept ns.cards c.key) nets;
   }
 
   module _ (v1 : Vsic) (alike : CountsAlike (Objects.vsic v.vsic) (Objects.vsic v1)) where

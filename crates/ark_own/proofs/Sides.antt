@@ -1,20 +1,19 @@
 -- A side of a card, and what is given for it: the door that watches it, or the rate that paces it.
-use Rattle.std.proofs.Common.{◌≡◌, ℕ, Bool, true, false, not, List, [], ◌∷◌, refl, sym, ◌∙◌, ap, subst}
+use Rattle.std.proofs.Common.{◌≡◌, ℕ, Bool, false, not, List, [], ◌∷◌, refl, sym, ◌∙◌, subst}
 use Rattle.std.specs.Prelude.{Option, Some, None, Result, Ok, Err, ◌||◌, is_some, is_none}
 use Rattle.ark_base.specs.Conditions.{none}
 use Rattle.ark_base.specs.declared.refusal.Refusal.{Refusal}
-use Rattle.ark_base.specs.declared.refusal.Refusal.TheVariants as r
+use Rattle.ark_filters.specs.declared.filter.Direction.{Direction}
+use Rattle.ark_filters.specs.declared.filter.Direction.TheVariants as direction
 use Rattle.ark_media.specs.Calls.{Told}
 use Rattle.ark_script.specs.declared.said.Said.TheVariants as said
 use Rattle.ark_script.specs.declared.step.Side.{Side}
 use Rattle.ark_script.specs.declared.step.Side.TheVariants as side
-use Rattle.ark_caps.specs.Labels.{value_at}
-use Rattle.ark_caps.specs.declared.capability.Capability.{Capability}
 use Rattle.ark_objects.specs.Held.{at as slot, Changes}
 use Rattle.ark_vic.specs.Pace.{Pace}
 use Rattle.ark_machine.specs.Objects
-use Rattle.ark_machine.specs.Objects.{Object, Vsic, Paced, as_vnic}
-use Rattle.ark_machine.specs.Machine.{Machine, Held, at, given_label, missing, vsic_at, vnic_at}
+use Rattle.ark_machine.specs.Objects.{Vsic, Paced}
+use Rattle.ark_machine.specs.Machine.{Machine, given_label, missing, vsic_at, vnic_at}
 use Rattle.ark_machine.specs.Rates.{has_side}
 use Rattle.ark_machine.specs.Row.{Row, Given, says, answer}
 use Rattle.ark_held.specs.Around.{Around, Both}
@@ -22,7 +21,7 @@ use Rattle.ark_held.specs.Cards.{IsPaced, IsWatched}
 use Rattle.ark_held.specs.Keeps.{Keeps, any_label, any_piece}
 use Rattle.ark_held.specs.Pacing.{repaced}
 use Rattle.ark_held.specs.Rings.{kept_card}
-use Rattle.ark_held.specs.Held.{IsObjectOf, AtLabel, Holds}
+use Rattle.ark_held.specs.Held.{Holds}
 use Rattle.ark_held.specs.Beyond.{Beyond, around}
 use Rattle.ark_held.specs.Does.{Acts}
 use Rattle.ark_held.specs.declared.app.App.{App}
@@ -30,67 +29,14 @@ use Rattle.ark_held.specs.declared.card.StorageCard.{StorageCard}
 use Rattle.ark_held.proofs.Creating.{but}
 use Rattle.ark_held.proofs.Parts.{CountsAlike}
 use Rattle.ark_held.proofs.Opens.{alike_stays}
-use Rattle.ark_held.proofs.Lists.{not_some, some_same}
-use Rattle.ark_held.proofs.Finding.{found}
-use Rattle.ark_own.specs.Keys.{both_keys, card_key, some_key}
+use Rattle.ark_own.specs.Keys.{both_keys, card_key, net_key, some_key}
+use Rattle.ark_own.specs.Sides.{side_of}
 use Rattle.ark_own.proofs.Looked as looked
-use Rattle.ark_own.proofs.Looked.{Looked, looked_both, each_key}
+use Rattle.ark_own.proofs.Looked.{Looked, looked_both}
 use Rattle.ark_own.proofs.OfCards as cards
 use Rattle.ark_own.proofs.OfCards.{HasCard, found_card}
+use Rattle.ark_own.proofs.OfNets.{found_net, net_looked}
 use Rattle.ark_own.proofs.Transferring.{card_looked}
-
--- No application has a network card so far.
-module _ (y : Beyond) (app : App) where
-  no_net : (l : List ℕ) (c : Capability) (o : Object) → IsObjectOf (around y app) l c o → as_vnic o ≡ None
-  no_net l c (Objects.vnic z) f = absurd (not_some None f.net refl f.kept)
-  no_net l c (Objects.raw z) f = refl
-  no_net l c (Objects.log z) f = refl
-  no_net l c (Objects.vsic z) f = refl
-  no_net l c (Objects.filter z w) f = refl
-  no_net l c (Objects.door z) f = refl
-  no_net l c (Objects.rate z w) f = refl
-  no_net l c (Objects.buffer z) f = refl
-  no_net l c (Objects.socket z) f = refl
-
-  no_net_by : (l : List ℕ) (h : Held) (c : Option Capability) (o : Option Held) → o ≡ Some h → AtLabel (around y app) l c o → as_vnic h.object ≡ None
-  no_net_by l h (Some c) (Some g) is m = ap (λ (z : Held). as_vnic z.object) (sym (some_same (Some g) g h refl is)) ∙ no_net l c g.object m.object
-  no_net_by l h None None is m = absurd (not_some None h refl is)
-  no_net_by l h None (Some g) is m = absurd m
-  no_net_by l h (Some c) None is m = absurd m
-
-  pub no_net_at : Holds (around y app) → (l : List ℕ) (h : Held) → at y.machine l ≡ Some h → as_vnic h.object ≡ None
-  no_net_at holds l h is = no_net_by l h (value_at app.labels l) (at y.machine l) is (found (around y app) l app.labels y.machine.held holds.held)
-
--- A storage card has no queue of frames.
-module _ (y : Beyond) (app : App) (v : List ℕ) (holds : Holds (around y app)) (ls : List (List ℕ)) (lacks : Bool) where
-  abbrev lacks_side : Side → Bool
-  lacks_side q = not (has_side y.machine v q) || lacks
-
-  no_net_card : is_some (vnic_at y.machine v) ≡ false
-  no_net_card = by (at y.machine v) refl
-    where
-      by : (o : Option Held) → at y.machine v ≡ o → is_some (vnic_at y.machine v) ≡ false
-      by None is = rw is refl
-      by (Some h) is = let net = no_net_at y app holds v h is in rw (is, net) refl
-
-  io_side : (b : Bool) → (is_none (vsic_at y.machine v) || lacks) ≡ b → lacks_side side.Io ≡ b
-  io_side b is = by (vsic_at y.machine v) is
-    where
-      by : {A : Type 0} (o : Option A) → (is_none o || lacks) ≡ b → (not (is_some o) || lacks) ≡ b
-      by (Some z) is = is
-      by None is = is
-
-  other_side : (q : Side) → (q ≡ side.Io → ⊥) → lacks_side q ≡ true
-  other_side side.Io not_io = absurd (not_io refl)
-  other_side side.Rx not_io = rw no_net_card refl
-  other_side side.Tx not_io = rw no_net_card refl
-
-  side_refused : (A : Type 0) (q : Side) (e : Refusal) → Looked {A = A} y.machine ls (is_none (vsic_at y.machine v) || lacks) (Err e) → Looked {A = A} y.machine ls (lacks_side q) (Err e)
-  side_refused A q (r.NoGrant k) x = x
-  side_refused A side.Io r.WrongKind x = (x.0, io_side true x.1)
-  side_refused A side.Rx r.WrongKind x = (x.0, rw no_net_card refl)
-  side_refused A side.Tx r.WrongKind x = (x.0, rw no_net_card refl)
-  side_refused A q _ x = absurd x
 
 -- What is told of a label that is given, if one is, by what is told of a label.
 
@@ -114,10 +60,10 @@ module _ (F : List ℕ → Result ℕ Refusal → Type 0) where
   given_looked m lacks none_lacks one None (Err e) f = absurd f
   given_looked m lacks none_lacks one (Some l) (Ok None) f = absurd f
 
--- A word that names a card and what is given for one side of it. `lacks` says that what is given is of another kind, and `set` is what
--- the word does.
-module _ (t : Told) (app : App) (v : List ℕ) (d : Option (List ℕ)) (q : Side) (given : Result (Option ℕ) Refusal) (lacks : Machine → Bool) (set : Machine → Machine)
-    (its_looked : (y : Beyond) → Holds (around y app) → Looked y.machine (given_label d) (lacks y.machine) given) where
+-- A word that names a card and what is given for one side of it. The card is looked for as one that has this side; `lacks` says that
+-- what is given is of another kind, and `set` is what the word does.
+module _ (t : Told) (app : App) (v : List ℕ) (d : Option (List ℕ)) (q : Side) (card : Result ℕ Refusal) (given : Result (Option ℕ) Refusal) (lacks : Machine → Bool) (set : Machine → Machine)
+    (card_looked : (y : Beyond) → Holds (around y app) → Looked y.machine (v ∷ []) (not (has_side y.machine v q)) card) (its_looked : (y : Beyond) → Holds (around y app) → Looked y.machine (given_label d) (lacks y.machine) given) where
   abbrev its_labels : List (List ℕ)
   its_labels = v ∷ given_label d
 
@@ -139,42 +85,42 @@ module _ (t : Told) (app : App) (v : List ℕ) (d : Option (List ℕ)) (q : Side
   abbrev row_is : (m : Machine) (g : Given) → row m g ≡ row m g
   row_is m g = refl
 
-  -- as the look-up of a storage card tells it
-  abbrev told : Result (ℕ × Option ℕ) Refusal
-  told = both_keys (card_key app.labels v) given
-
-  both_looked : (res : Result (ℕ × Option ℕ) Refusal) → res ≡ told → (y : Beyond) → Holds (around y app) → Looked y.machine its_labels (is_none (vsic_at y.machine v) || lacks y.machine) res
+  both_looked : (res : Result (ℕ × Option ℕ) Refusal) → res ≡ both_keys card given → (y : Beyond) → Holds (around y app) → Looked y.machine its_labels (other y.machine) res
   both_looked res is y h =
-      subst (λ (z : Result (ℕ × Option ℕ) Refusal). Looked y.machine its_labels (is_none (vsic_at y.machine v) || lacks y.machine) z) (sym is)
-      (looked_both y.machine (v ∷ []) (given_label d) _ _ _ _ (card_looked (around y app) v _ (found_card (around y app) v h _ refl)) (its_looked y h))
+      subst (λ (z : Result (ℕ × Option ℕ) Refusal). Looked y.machine its_labels (other y.machine) z) (sym is)
+      (looked_both y.machine (v ∷ []) (given_label d) _ _ _ _ (card_looked y h) (its_looked y h))
 
-  refused : (e : Refusal) → ((y : Beyond) → Holds (around y app) → Looked {A = ℕ × Option ℕ} y.machine its_labels (other y.machine) (Err e)) → Acts t app app row [] (said.Refused e) []
-  refused = looked.not_found t app its_labels other never never never never row rest row_is (ℕ × Option ℕ)
+  pub no_keys : (e : Refusal) → Err e ≡ both_keys card given → Acts t app app row [] (said.Refused e) []
+  no_keys e is = looked.not_found t app its_labels other never never never never row rest row_is (ℕ × Option ℕ) e (both_looked (Err e) is)
 
-  pub no_keys : (e : Refusal) → Err e ≡ told → Acts t app app row [] (said.Refused e) []
-  no_keys e is = refused e (λ y h. side_refused y app v h its_labels (lacks y.machine) (ℕ × Option ℕ) q e (both_looked (Err e) is y h))
+  -- what was found is there
+  pub never_there : (e : Refusal) → ((y : Beyond) → Holds (around y app) → ⊥) → Acts t app app row [] (said.Refused e) []
+  never_there = looked.never_there t app its_labels other never never never never row rest row_is
 
-  module _ (key : ℕ) (its : Option ℕ) (keys : Ok (key, its) ≡ told) where
-    pub no_frames : (q ≡ side.Io → ⊥) → Acts t app app row [] (said.Refused r.WrongKind) []
-    no_frames not_io = refused r.WrongKind (λ y h. ((both_looked (Ok (key, its)) keys y h).0, other_side y app v h its_labels (lacks y.machine) q not_io))
+  -- nothing refuses it
+  pub done : (key : ℕ) (its : Option ℕ) → Ok (key, its) ≡ both_keys card given → (y : Beyond) (g : Given) → Holds (around y app) → row y.machine g ≡ says (set y.machine) said.Ok
+  done key its keys y g h = looked.done t app its_labels other never never never never row rest row_is (both_looked (Ok (key, its)) keys) (λ y h. refl) (λ y h. refl) (λ y h. refl) y g h refl
 
-    -- what was found is there
-    pub never_there : (e : Refusal) → ((y : Beyond) → Holds (around y app) → ⊥) → Acts t app app row [] (said.Refused e) []
-    never_there = looked.never_there t app its_labels other never never never never row rest row_is
+none_not : {A : Type 0} (o : Option A) → is_none o ≡ not (is_some o)
+none_not (Some z) = refl
+none_not None = refl
 
-    pub no_card_there : (e : Refusal) → slot app.devices.cards key ≡ None → Acts t app app row [] (said.Refused e) []
-    no_card_there e gone = never_there e (λ y h. cards.never_gone app v key (each_key key its (card_key app.labels v) given keys).0 y h gone)
+-- a storage card's side
+pub card_side : (app : App) (v : List ℕ) (y : Beyond) → Holds (around y app) → Looked y.machine (v ∷ []) (not (has_side y.machine v side.Io)) (card_key app.labels v)
+card_side app v y h = subst (λ (b : Bool). Looked y.machine (v ∷ []) b (card_key app.labels v)) (none_not (vsic_at y.machine v)) (card_looked (around y app) v _ (found_card (around y app) v h _ refl))
 
-    -- nothing refuses it
-    pub done : q ≡ side.Io → (y : Beyond) (g : Given) → Holds (around y app) → row y.machine g ≡ says (set y.machine) said.Ok
-    done io y g h = looked.done t app its_labels other never never never never row rest row_is
-        (λ y h. let both = both_looked (Ok (key, its)) keys y h in (both.0, subst (λ (z : Side). (not (has_side y.machine v z) || lacks y.machine) ≡ false) (sym io) (io_side y app v h its_labels (lacks y.machine) false both.1)))
-        (λ y h. refl) (λ y h. refl) (λ y h. refl) y g h refl
+-- and a network card's
+pub net_side : (app : App) (v : List ℕ) (at : Direction) (y : Beyond) → Holds (around y app) → Looked y.machine (v ∷ []) (not (has_side y.machine v (side_of at))) (net_key app.labels v)
+net_side app v at y h = by at (subst (λ (b : Bool). Looked y.machine (v ∷ []) b (net_key app.labels v)) (none_not (vnic_at y.machine v)) (net_looked (around y app) v _ (found_net (around y app) v h _ refl)))
+  where
+    by : (z : Direction) → Looked y.machine (v ∷ []) (not (is_some (vnic_at y.machine v))) (net_key app.labels v) → Looked y.machine (v ∷ []) (not (has_side y.machine v (side_of z))) (net_key app.labels v)
+    by direction.Rx f = f
+    by direction.Tx f = f
 
 -- A storage card with this pace and this door, where all else of it stays.
 module _ (app app1 : App) (v : List ℕ) (key : ℕ) (is : Ok key ≡ card_key app.labels v) (one : StorageCard) (here : slot app.devices.cards key ≡ Some one) (pace : Option Pace) (rate : ℕ) (door : Option ℕ)
     (changes : Changes app.devices.cards app1.devices.cards key (Some (record (repaced pace rate one) { door = door })))
-    (labels : app1.labels ≡ app.labels) (doors : app1.devices.doors ≡ app.devices.doors) (rates : app1.devices.rates ≡ app.devices.rates) (store : app1.store ≡ app.store) (areas : app1.areas ≡ app.areas)
+    (labels : app1.labels ≡ app.labels) (doors : app1.devices.doors ≡ app.devices.doors) (rates : app1.devices.rates ≡ app.devices.rates) (nets : app1.devices.nets ≡ app.devices.nets) (store : app1.store ≡ app.store) (areas : app1.areas ≡ app.areas)
     (y : Beyond) (h : Holds (around y app)) (c : HasCard (around y app) v key) (its_pace : Option Paced) (its_door : Option (List ℕ)) where
   abbrev one1 : StorageCard
   one1 = record (repaced pace rate one) { door = door }
@@ -186,15 +132,15 @@ module _ (app app1 : App) (v : List ℕ) (key : ℕ) (is : Ok key ≡ card_key a
   alike = record { uses = λ k. refl; opens = λ k. refl; sockets = λ k. refl; covers = λ j. refl }
 
   abbrev after : Around
-  after = cards.now app app1 v key is one one1 here changes (alike_stays one one1 refl refl refl) labels doors rates store areas y h c its_vsic alike
+  after = cards.now app app1 v key is one one1 here changes (alike_stays one one1 refl refl refl) labels doors rates nets store areas y h c its_vsic alike
 
   pub set_holds : (Keeps (but v) any_label any_piece (around y app) after → Both (IsPaced after) (kept_card one1).pace its_pace) → (Keeps (but v) any_label any_piece (around y app) after → Both (IsWatched after) door its_door) → Holds after
   set_holds paced watched =
-      let keeps = cards.card_keeps app app1 v key is one one1 here changes (alike_stays one one1 refl refl refl) labels doors rates store areas y h c its_vsic alike in
-      cards.card_altered app app1 v key is one one1 here changes (alike_stays one one1 refl refl refl) labels doors rates store areas y h c its_vsic alike (record {
+      let keeps = cards.card_keeps app app1 v key is one one1 here changes (alike_stays one one1 refl refl refl) labels doors rates nets store areas y h c its_vsic alike in
+      cards.card_altered app app1 v key is one one1 here changes (alike_stays one one1 refl refl refl) labels doors rates nets store areas y h c its_vsic alike (record {
         its_kind = c.fits.its_kind;
         card = kept_card one1;
-        kept = cards.kept_now app app1 v key is one one1 here changes (alike_stays one one1 refl refl refl) labels doors rates store areas y h c its_vsic alike;
+        kept = cards.kept_now app app1 v key is one one1 here changes (alike_stays one one1 refl refl refl) labels doors rates nets store areas y h c its_vsic alike;
         size = cards.size_now app v key is one here y c;
         posted = cards.posted_now app v key is one here y c after keeps;
         unreaped = cards.unreaped_now app v key is one here y c after keeps;
@@ -202,5 +148,5 @@ module _ (app app1 : App) (v : List ℕ) (key : ℕ) (is : Ok key ≡ card_key a
         bound = cards.bound_now app v key is one here y c after keeps;
         pace = paced keeps;
         door = watched keeps;
-        log = cards.opens_now app v key is one here y c ∙ sym (cards.card_opens app app1 v key is one one1 here changes (alike_stays one one1 refl refl refl) labels doors rates store areas y h c its_vsic alike);
+        log = cards.opens_now app v key is one here y c ∙ sym (cards.card_opens app app1 v key is one one1 here changes (alike_stays one one1 refl refl refl) labels doors rates nets store areas y h c its_vsic alike);
       })

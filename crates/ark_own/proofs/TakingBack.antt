@@ -27,6 +27,7 @@ use Rattle.ark_held.specs.Kept.{BufferKept, CardKept}
 use Rattle.ark_held.specs.Stored.{ChangesRight, kept_of, place_kept}
 use Rattle.ark_held.specs.Rings.{kept_card, card_kept, with_reaped}
 use Rattle.ark_held.specs.Pacing.{rate_kept}
+use Rattle.ark_held.specs.Nets.{net_kept}
 use Rattle.ark_held.specs.Around.{Around, Names, Each}
 use Rattle.ark_held.specs.Cards.{HasBuffer, IsCard, IsEnded}
 use Rattle.ark_held.specs.Held.{AreDistinctLabels, Holds, has_key}
@@ -34,6 +35,7 @@ use Rattle.ark_held.specs.Beyond.{Beyond, around, tables_of}
 use Rattle.ark_held.specs.Does.{Acts}
 use Rattle.ark_held.specs.declared.allowance.Allowance.{Allowance}
 use Rattle.ark_held.specs.declared.app.App.{App}
+use Rattle.ark_held.specs.declared.nets.Nets.{Nets}
 use Rattle.ark_held.specs.declared.store.Store.{Store}
 use Rattle.ark_held.specs.declared.buffer.Buffer as kept
 use Rattle.ark_held.specs.declared.card.StorageCard.{StorageCard}
@@ -68,10 +70,10 @@ place_of (p ∷ ps) l c is = by_test (λ t. bytes_eq l p.0 ≡ t → cond t (Som
 
 module _ (x : Around) (h : Holds x) (b : List ℕ) (key : ℕ) (n : Names x b cap_kind.Buf key) where
   -- the label of a buffer's key is the one that names it
-  named_by : IsLabelOf x.labels key b
+  pub named_by : IsLabelOf x.labels key b
   named_by = let p = place_of x.labels b n.cap n.there in record { place = p.0; cap = n.cap; there = p.1; its_kind = n.its_kind; its_key = n.its_key }
 
-  one_label : (l : List ℕ) → IsLabelOf x.labels key l → l ≡ b
+  pub one_label : (l : List ℕ) → IsLabelOf x.labels key l → l ≡ b
   one_label l is =
       let at_l : value_at x.labels l ≡ Some is.cap = value_here x.labels is.place (l, is.cap) h.apart is.there in
       h.own.keys l b is.cap n.cap at_l n.there (is.its_kind ∙ sym n.its_kind) (ap has_key is.its_kind) (is.its_key ∙ sym n.its_key)
@@ -150,7 +152,7 @@ module _ (t : Told) (app : App) (v : List ℕ) (key : ℕ) (is : Ok key ≡ card
   each_ended y c = subst (λ (k : CardKept). Each (IsEnded (around y app) k.log) k.ring.unreaped c.vsic.queue.unreaped) (entry_same app v key is one here y c) c.fits.unreaped
 
   -- No completion.
-  module _ (app1 : App) (cards : Changes app.devices.cards app1.devices.cards key (Some (with_reaped one))) (labels : app1.labels ≡ app.labels) (doors : app1.devices.doors ≡ app.devices.doors) (rates : app1.devices.rates ≡ app.devices.rates) (areas : app1.areas ≡ app.areas) (name : app1.name ≡ app.name) (store : app1.store ≡ app.store)
+  module _ (app1 : App) (cards : Changes app.devices.cards app1.devices.cards key (Some (with_reaped one))) (labels : app1.labels ≡ app.labels) (doors : app1.devices.doors ≡ app.devices.doors) (rates : app1.devices.rates ≡ app.devices.rates) (nets : app1.devices.nets ≡ app.devices.nets) (areas : app1.areas ≡ app.areas) (name : app1.name ≡ app.name) (store : app1.store ≡ app.store)
       (none : slice_get one.vsic.ring.unreaped 0 ≡ None) where
     none_here : {X : Type 0} (xs : List X) → slice_get xs 0 ≡ None → xs ≡ []
     none_here [] e = refl
@@ -174,7 +176,8 @@ module _ (t : Told) (app : App) (v : List ℕ) (key : ℕ) (is : Ok key ≡ card
         (subst (λ (es : AreaList). Holds (record (around y app1) { labels = app.labels; areas = es })) (sym areas)
         (subst (λ (s : Store). Holds (record (around y app1) { labels = app.labels; areas = app.areas; tables = tables_of s app1.devices })) (sym store)
         (subst (λ (ds : List (Option Counts)). Holds (record (around y app) { tables = record (tables_of app.store app1.devices) { doors = λ k. slot ds k } })) (sym doors)
-        (subst (λ (rs : List (Option Allowance)). Holds (record (around y app) { tables = record (tables_of app.store app1.devices) { doors = λ k. slot app.devices.doors k; rates = rate_kept rs } })) (sym rates) h))))
+        (subst (λ (rs : List (Option Allowance)). Holds (record (around y app) { tables = record (tables_of app.store app1.devices) { doors = λ k. slot app.devices.doors k; rates = rate_kept rs } })) (sym rates)
+        (subst (λ (ns : Nets). Holds (record (around y app) { tables = record (tables_of app.store app1.devices) { doors = λ k. slot app.devices.doors k; rates = rate_kept app.devices.rates; nets = net_kept ns.cards } })) (sym nets) h)))))
 
     same_holds : (y : Beyond) → Holds (around y app) → HasCard (around y app) v key → Holds (around y app1)
     same_holds y h c =
@@ -204,23 +207,23 @@ module _ (t : Told) (app : App) (v : List ℕ) (key : ℕ) (is : Ok key ≡ card
     never_unnamed app1 reply right some none = never t app app1 row reply [] (λ y h.
         let f = of_transfer y (its app v key is y h) right some in none f.t.buffer (named_by (around y app) h f.t.buffer ended.tag f.buffer.named))
 
-    module _ (app1 : App) (cards : Changes app.devices.cards app1.devices.cards key (Some (with_reaped one))) (labels : app1.labels ≡ app.labels) (doors : app1.devices.doors ≡ app.devices.doors) (rates : app1.devices.rates ≡ app.devices.rates) (areas : app1.areas ≡ app.areas) (name : app1.name ≡ app.name) where
+    module _ (app1 : App) (cards : Changes app.devices.cards app1.devices.cards key (Some (with_reaped one))) (labels : app1.labels ≡ app.labels) (doors : app1.devices.doors ≡ app.devices.doors) (rates : app1.devices.rates ≡ app.devices.rates) (nets : app1.devices.nets ≡ app.devices.nets) (areas : app1.areas ≡ app.areas) (name : app1.name ≡ app.name) where
       -- A sync.
       module _ (store : app1.store ≡ app.store) (y : Beyond) (h : Holds (around y app)) (c : HasCard (around y app) v key) (o : Oldest (around y app) one.log ended one.vsic.ring.unreaped c.vsic.queue.unreaped) (jobs : c.vsic.queue.unreaped ≡ (flush, o.outcome) ∷ o.others) where
         abbrev after : Around
-        after = now app app1 v key is one (with_reaped one) here cards (shut_stays one (with_reaped one) free) labels doors rates store areas y h c (less o.others c.vsic) (alike c.vsic o.outcome o.others jobs)
+        after = now app app1 v key is one (with_reaped one) here cards (shut_stays one (with_reaped one) free) labels doors rates nets store areas y h c (less o.others c.vsic) (alike c.vsic o.outcome o.others jobs)
 
         fits : IsCard after v c.cap (less o.others c.vsic)
         fits =
             let like = alike c.vsic o.outcome o.others jobs in
-            let keeps = card_keeps app app1 v key is one (with_reaped one) here cards (shut_stays one (with_reaped one) free) labels doors rates store areas y h c (less o.others c.vsic) like in
+            let keeps = card_keeps app app1 v key is one (with_reaped one) here cards (shut_stays one (with_reaped one) free) labels doors rates nets store areas y h c (less o.others c.vsic) like in
             let all : Each (IsEnded after one.log) one.vsic.ring.unreaped c.vsic.queue.unreaped = unreaped_now app v key is one here y c after keeps in
             let split : Each (IsEnded after one.log) (ended ∷ o.rest) ((flush, o.outcome) ∷ o.others) =
             subst (λ (zs : List (Job × Outcome)). Each (IsEnded after one.log) (ended ∷ o.rest) zs) jobs (subst (λ (zs : List Completion). Each (IsEnded after one.log) zs c.vsic.queue.unreaped) o.first all) in
             record {
               its_kind = c.fits.its_kind;
               card = kept_card (with_reaped one);
-              kept = kept_now app app1 v key is one (with_reaped one) here cards (shut_stays one (with_reaped one) free) labels doors rates store areas y h c (less o.others c.vsic) like;
+              kept = kept_now app app1 v key is one (with_reaped one) here cards (shut_stays one (with_reaped one) free) labels doors rates nets store areas y h c (less o.others c.vsic) like;
               size = size_now app v key is one here y c;
               posted = posted_now app v key is one here y c after keeps;
               unreaped = subst (λ (zs : List Completion). Each (IsEnded after one.log) (drop 1 zs) o.others) (sym o.first) split.1;
@@ -228,11 +231,11 @@ module _ (t : Told) (app : App) (v : List ℕ) (key : ℕ) (is : Ok key ≡ card
               bound = bound_now app v key is one here y c after keeps;
               pace = pace_now app v key is one here y c after keeps;
               door = door_now app v key is one here y c after keeps;
-              log = opens_now app v key is one here y c ∙ sym (card_opens app app1 v key is one (with_reaped one) here cards (shut_stays one (with_reaped one) free) labels doors rates store areas y h c (less o.others c.vsic) like);
+              log = opens_now app v key is one here y c ∙ sym (card_opens app app1 v key is one (with_reaped one) here cards (shut_stays one (with_reaped one) free) labels doors rates nets store areas y h c (less o.others c.vsic) like);
             }
 
         held : Holds after
-        held = card_altered app app1 v key is one (with_reaped one) here cards (shut_stays one (with_reaped one) free) labels doors rates store areas y h c (less o.others c.vsic) (alike c.vsic o.outcome o.others jobs) fits
+        held = card_altered app app1 v key is one (with_reaped one) here cards (shut_stays one (with_reaped one) free) labels doors rates nets store areas y h c (less o.others c.vsic) (alike c.vsic o.outcome o.others jobs) fits
 
       pub flushed : app1.store ≡ app.store → ended.buf ≡ None → Acts t app app1 row [] (said.Flushed ended.outcome) []
       flushed store none = comes t app app1 row (said.Flushed ended.outcome) [] areas name (λ y g sited h.
@@ -294,7 +297,7 @@ module _ (t : Told) (app : App) (v : List ℕ) (key : ℕ) (is : Ok key ≡ card
               (subst (λ i. Changes app.store.buffers app1.store.buffers i (Some (record the_lent.0 { buf = Some right }))) (sym n.its_key) (restored the_lent.0 the_lent.1 the_lent.2 the_lent.0 the_lent.1))
 
           holds_then : Holds (around (record y { machine = with_object y.machine v (Objects.vsic (less o.others c.vsic)) }) app1)
-          holds_then = back.reaped y app app1 v f.t.buffer h both f.t refl one here_then (none_of one.log free) the_lent.0 was_then ended o.rest o.first o.outcome o.others jobs cards_then buffers_then region labels doors rates areas
+          holds_then = back.reaped y app app1 v f.t.buffer h both f.t refl one here_then (none_of one.log free) the_lent.0 was_then ended o.rest o.first o.outcome o.others jobs cards_then buffers_then region labels doors rates nets areas
 
           said_is : said_of ended.job label ended.outcome ≡ reaped (transfer f.t) o.outcome
           said_is = ap (λ l. said_of ended.job l ended.outcome) same_label ∙ ap (λ z. said_of ended.job f.t.buffer z) f.outcome ∙ ap (λ j. said_of j f.t.buffer o.outcome) f.does ∙ by f.t.put

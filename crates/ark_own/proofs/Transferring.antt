@@ -206,7 +206,7 @@ module _ (put : Bool) (v s b : List ℕ) (off count : ℕ) (t : Told) (app : App
               -- posted
               module _ (room : members one.vsic.ring < one.vsic.ring.size) (app1 : App) (d : Descriptor) (job : d.job ≡ job_of put) (grant : d.grant ≡ area.grant) (first : d.first ≡ off) (long : d.count ≡ count) (wrap : d.wrap ≡ 0) (from : d.from ≡ 0) (tag : d.tag ≡ key) (buf : d.buf ≡ lent.buf)
                   (cards_now : Changes app.devices.cards app1.devices.cards card (Some (with_posted d one))) (buffers_now : Changes app.store.buffers app1.store.buffers key (Some (record lent { buf = None })))
-                  (region : app1.store.region ≡ app.store.region) (labels : app1.labels ≡ app.labels) (doors : app1.devices.doors ≡ app.devices.doors) (rates : app1.devices.rates ≡ app.devices.rates) (areas : app1.areas ≡ app.areas) (name : app1.name ≡ app.name) where
+                  (region : app1.store.region ≡ app.store.region) (labels : app1.labels ≡ app.labels) (doors : app1.devices.doors ≡ app.devices.doors) (rates : app1.devices.rates ≡ app.devices.rates) (nets : app1.devices.nets ≡ app.devices.nets) (areas : app1.areas ≡ app.areas) (name : app1.name ≡ app.name) where
                 module _ (y : Beyond) (h : Holds (around y app)) where
                   abbrev x : Around
                   x = around y app
@@ -230,7 +230,7 @@ module _ (put : Bool) (v s b : List ℕ) (off count : ℕ) (t : Told) (app : App
                   buffers_then = subst (λ i. Changes app.store.buffers app1.store.buffers i (Some (record lent { buf = None }))) (sym (its_buffer y h).key_is) buffers_now
 
                   abbrev after : Around
-                  after = then y app app1 v b h both (its_transfer put v s b off count y.machine) refl one here_card (none_of one.log free) lent here_buffer right d cards_then buffers_then region labels doors rates areas
+                  after = then y app app1 v b h both (its_transfer put v s b off count y.machine) refl one here_card (none_of one.log free) lent here_buffer right d cards_then buffers_then region labels doors rates nets areas
 
                   entry : both.buffer_fits.entry ≡ kept_of lent
                   entry = buffers.entry_same app b key two.1 lent was y (its_buffer y h)
@@ -278,7 +278,7 @@ module _ (put : Bool) (v s b : List ℕ) (off count : ℕ) (t : Told) (app : App
                       }
 
                   now_holds : Holds after
-                  now_holds = posted y app app1 v b h both (its_transfer put v s b off count y.machine) refl one here_card (none_of one.log free) lent here_buffer right d cards_then buffers_then region labels doors rates areas its_job
+                  now_holds = posted y app app1 v b h both (its_transfer put v s b off count y.machine) refl one here_card (none_of one.log free) lent here_buffer right d cards_then buffers_then region labels doors rates nets areas its_job
 
                 pub post_done : Acts t app app1 (row put v s b off count) [] said.Ok []
                 post_done = comes t app app1 (row put v s b off count) said.Ok [] areas name (λ y g sited h.

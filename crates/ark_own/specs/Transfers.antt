@@ -17,6 +17,10 @@ job_of put = if put then vic.Write else vic.Read
 abbrev pub transfer : Job → Blocks → ℕ → Option Piece → Descriptor
 transfer job blocks buffer right = record { job = job; grant = blocks.area; first = blocks.first; count = blocks.count; wrap = 0; from = 0; len = 0; tag = buffer; buf = right }
 
+-- a descriptor that receives into the buffer of a key
+abbrev pub receiving : ℕ → Option Piece → Descriptor
+receiving buffer right = record { job = vic.Receive; grant = 0; first = 0; count = 0; wrap = 0; from = 0; len = 0; tag = buffer; buf = right }
+
 abbrev pub said_of : Job → List ℕ → Outcome → Said
 said_of vic.Write buffer o = said.Put buffer o
 said_of _ buffer o = said.Got buffer o

@@ -14,11 +14,11 @@ use ark_vic::{Descriptor, Job};
 use ark_vsic::Vsic;
 use std::alloc::Global;
 
-// The most cards of an application, of both kinds together.
-const CARDS: usize = 8;
+/// The most cards of an application, of both kinds together.
+pub const CARDS: usize = 8;
 
-// How many cards there are under these labels.
-fn count_cards(labels: &CapTable) -> usize
+/// How many cards there are under these labels.
+pub fn count_cards(labels: &CapTable) -> usize
     requires { length labels.now ≤ 64 }
     ensures { result ≡ length (card_labels labels.now) }
 {

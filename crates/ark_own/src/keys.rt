@@ -1,5 +1,5 @@
 ghost use Rattle.std.specs.Prelude.{◌≡◌, ℕ, IfSome, IfNone, List};
-ghost use Rattle.ark_own.specs.Keys.{IsLabelOf, both_keys, buffer_key, cap_at, card_key, door_given, door_key, rate_given, rate_key, raw_area};
+ghost use Rattle.ark_own.specs.Keys.{IsLabelOf, both_keys, buffer_key, cap_at, card_key, door_given, door_key, net_key, rate_given, rate_key, raw_area};
 
 use ark_base::{Kind, Label, Refusal};
 use ark_caps::{CapKind, CapTable, Capability};
@@ -76,6 +76,19 @@ pub fn key_of_card(app: &App, label: &Label) -> Result<u32, Refusal>
     }
 }
 
+/// The key of the network card under a label.
+pub fn key_of_net(app: &App, label: &Label) -> Result<u32, Refusal>
+    ensures key { result ≡ net_key app.now.labels label.now }
+{
+    let Some(cap) = app.labels.get(label) else {
+        return Err(Refusal::NoGrant(*label));
+    };
+    match cap.kind {
+        CapKind::Vnic => Ok(cap.key),
+        _ => Err(Refusal::WrongKind),
+    }
+}
+
 // The key of the door that is named, if one is.
 fn key_of_given(app: &App, door: &Option<Label>) -> Result<Option<u32>, Refusal>
     ensures key { result ≡ door_given app.now.labels door.now }
@@ -99,6 +112,23 @@ pub fn keys_to_watch(
         (door_given app.now.labels door.now) }
 {
     match (key_of_card(app, card), key_of_given(app, door)) {
+        (Ok(card), Ok(door)) => Ok((card, door)),
+        (Err(Refusal::WrongKind), Err(other)) => Err(other),
+        (Err(refusal), _) => Err(refusal),
+        (Ok(_), Err(refusal)) => Err(refusal),
+    }
+}
+
+/// The same of a network card.
+pub fn net_keys_to_watch(
+    app: &App,
+    card: &Label,
+    door: &Option<Label>,
+) -> Result<(u32, Option<u32>), Refusal>
+    ensures keys { result ≡ both_keys (net_key app.now.labels card.now)
+        (door_given app.now.labels door.now) }
+{
+    match (key_of_net(app, card), key_of_given(app, door)) {
         (Ok(card), Ok(door)) => Ok((card, door)),
         (Err(Refusal::WrongKind), Err(other)) => Err(other),
         (Err(refusal), _) => Err(refusal),
@@ -144,6 +174,37 @@ pub fn keys_to_pace(
 {
     match (key_of_card(app, card), key_of_given_rate(app, rate)) {
         (Ok(card), Ok(rate)) => Ok((card, rate)),
+        (Err(Refusal::WrongKind), Err(other)) => Err(other),
+        (Err(refusal), _) => Err(refusal),
+        (Ok(_), Err(refusal)) => Err(refusal),
+    }
+}
+
+/// The same of a network card.
+pub fn net_keys_to_pace(
+    app: &App,
+    card: &Label,
+    rate: &Option<Label>,
+) -> Result<(u32, Option<u32>), Refusal>
+    ensures keys { result ≡ both_keys (net_key app.now.labels card.now)
+        (rate_given app.now.labels rate.now) }
+{
+    match (key_of_net(app, card), key_of_given_rate(app, rate)) {
+        (Ok(card), Ok(rate)) => Ok((card, rate)),
+        (Err(Refusal::WrongKind), Err(other)) => Err(other),
+        (Err(refusal), _) => Err(refusal),
+        (Ok(_), Err(refusal)) => Err(refusal),
+    }
+}
+
+/// The keys of a network card and of a buffer. That a label is not there comes before that one is of
+/// another kind.
+pub fn keys_to_receive(app: &App, card: &Label, buffer: &Label) -> Result<(u32, u32), Refusal>
+    ensures keys { result ≡ both_keys (net_key app.now.labels card.now)
+        (buffer_key app.now.labels buffer.now) }
+{
+    match (key_of_net(app, card), key_of_buffer(app, buffer)) {
+        (Ok(card), Ok(buffer)) => Ok((card, buffer)),
         (Err(Refusal::WrongKind), Err(other)) => Err(other),
         (Err(refusal), _) => Err(refusal),
         (Ok(_), Err(refusal)) => Err(refusal),

@@ -1,12 +1,15 @@
 ghost use Rattle.std.specs.Prelude.{◌≡◌, false, []};
 ghost use Rattle.ark_media.specs.Calls.{Told};
 ghost use Rattle.ark_script.specs.Text.{IsSaid, wants_memory};
+ghost use Rattle.ark_script.specs.declared.step.Side.TheVariants as side;
 ghost use Rattle.ark_machine.specs.Rates as rates;
 ghost use Rattle.ark_held.specs.Does.{Acts, ActsAt, Grants};
 
 use crate::keys::{key_of_door, keys_to_pace, keys_to_watch};
+use crate::net_sides::{pace_net, watch_net};
 use ark_base::{Label, Refusal};
 use ark_caps::{CapKind, Capability, LABELS};
+use ark_filters::Direction;
 use ark_held::{Allowance, App};
 use ark_script::{Said, Side};
 use ark_vic::{Door, Rate};
@@ -56,10 +59,10 @@ pub fn look(app: &mut App, label: &Label) -> Said
     Said::Rings(counts.rx, counts.tx, counts.io)
 }
 
-/// The word `watch`.
-pub fn watch(app: &mut App, label: &Label, door: &Option<Label>, side: Side) -> Said
+// The word `watch`, of a storage card.
+fn watch_card(app: &mut App, label: &Label, door: &Option<Label>) -> Said
     ensures acts { (t : Told) →
-        Acts t app.old app.new (λ m g. rates.watch m label.now door.now side g) [] result [] }
+        Acts t app.old app.new (λ m g. rates.watch m label.now door.now side.Io g) [] result [] }
     ensures areas { app.new.areas ≡ app.old.areas }
     ensures said { IsSaid result }
     ensures enough { wants_memory result ≡ false }
@@ -68,16 +71,27 @@ pub fn watch(app: &mut App, label: &Label, door: &Option<Label>, side: Side) -> 
         Err(refusal) => return Said::Refused(refusal),
         Ok(keys) => keys,
     };
-    // A storage card has no queue of frames.
-    let Side::Io = side else {
-        return Said::Refused(Refusal::WrongKind);
-    };
     // A card's label has its card.
     if app.devices.cards.at(card).is_none() {
         return Said::Refused(Refusal::WrongKind);
     }
     app.devices.watch(card, door);
     Said::Ok
+}
+
+/// The word `watch`.
+pub fn watch(app: &mut App, label: &Label, door: &Option<Label>, side: Side) -> Said
+    ensures acts { (t : Told) →
+        Acts t app.old app.new (λ m g. rates.watch m label.now door.now side g) [] result [] }
+    ensures areas { app.new.areas ≡ app.old.areas }
+    ensures said { IsSaid result }
+    ensures enough { wants_memory result ≡ false }
+{
+    match side {
+        Side::Rx => watch_net(app, label, door, Direction::Rx),
+        Side::Tx => watch_net(app, label, door, Direction::Tx),
+        Side::Io => watch_card(app, label, door),
+    }
 }
 
 /// The word `rate`.
@@ -106,10 +120,10 @@ pub fn rate(app: &mut App, label: &Label, per_tick: u64, burst: u64, grant: u64)
     }
 }
 
-/// The word `pace` at tick `now`.
-pub fn pace(app: &mut App, label: &Label, rate: &Option<Label>, side: Side, now: u64) -> Said
+// The word `pace` at tick `now`, of a storage card.
+fn pace_card(app: &mut App, label: &Label, rate: &Option<Label>, now: u64) -> Said
     ensures acts { (t : Told) → ActsAt now t app.old app.new
-        (λ m g. rates.pace m label.now rate.now side g) [] result [] }
+        (λ m g. rates.pace m label.now rate.now side.Io g) [] result [] }
     ensures areas { app.new.areas ≡ app.old.areas }
     ensures said { IsSaid result }
     ensures enough { wants_memory result ≡ false }
@@ -117,10 +131,6 @@ pub fn pace(app: &mut App, label: &Label, rate: &Option<Label>, side: Side, now:
     let (card, given) = match keys_to_pace(app, label, rate) {
         Err(refusal) => return Said::Refused(refusal),
         Ok(keys) => keys,
-    };
-    // A storage card has no queue of frames.
-    let Side::Io = side else {
-        return Said::Refused(Refusal::WrongKind);
     };
     // A card's label has its card.
     if app.devices.cards.at(card).is_none() {
@@ -137,4 +147,19 @@ pub fn pace(app: &mut App, label: &Label, rate: &Option<Label>, side: Side, now:
     let pace = Rate::new(allowance.per_tick, allowance.burst, now);
     app.devices.pace(card, key, pace);
     Said::Ok
+}
+
+/// The word `pace` at tick `now`.
+pub fn pace(app: &mut App, label: &Label, rate: &Option<Label>, side: Side, now: u64) -> Said
+    ensures acts { (t : Told) → ActsAt now t app.old app.new
+        (λ m g. rates.pace m label.now rate.now side g) [] result [] }
+    ensures areas { app.new.areas ≡ app.old.areas }
+    ensures said { IsSaid result }
+    ensures enough { wants_memory result ≡ false }
+{
+    match side {
+        Side::Rx => pace_net(app, label, rate, Direction::Rx, now),
+        Side::Tx => pace_net(app, label, rate, Direction::Tx, now),
+        Side::Io => pace_card(app, label, rate, now),
+    }
 }

@@ -9,13 +9,14 @@ use super::Host;
 use super::apps::place_of;
 use ark_base::{AppName, Label, Refusal};
 use ark_media::Disk;
-use ark_own::drop_device;
+use ark_own::{drop_device, drop_net};
 use ark_script::Said;
 
-// What is held under a label, by the place of its application: an area with its grant and its slot, or what that application alone
-// knows of.
+// What is held under a label, by the place of its application: an area with its grant and its slot, a network card, or what else that
+// application alone knows of.
 enum HeldAs {
     Area(usize, u64, u16),
+    Net(usize),
     Device(usize),
 }
 
@@ -33,6 +34,9 @@ impl Host {
             return Err(Refusal::NoApplication);
         };
         let app = &self.apps[place];
+        if app.has_net(label) {
+            return Ok(HeldAs::Net(place));
+        }
         if !app.shares(label) {
             return Ok(HeldAs::Device(place));
         }
@@ -109,6 +113,11 @@ impl Host {
             Err(refusal) => Said::Refused(refusal),
             Ok(HeldAs::Area(place, grant, index)) => {
                 self.drop_area(name, label, place, grant, index, disk)
+            }
+            Ok(HeldAs::Net(place)) => {
+                let said = drop_net(&mut self.apps[place], label);
+                self.grants += 1;
+                said
             }
             Ok(HeldAs::Device(place)) => {
                 let said = drop_device(&mut self.apps[place], label);

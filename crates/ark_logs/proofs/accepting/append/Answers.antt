@@ -28,7 +28,7 @@ returns-in-Ok-append-clause-acts c = λ t.
     let few = c.requires.short in
     of.append_done t c.args.app.now c.args.label.now c.args.kind (spelled digits) c.in-Ok.at c.in-Ok.ensures.found (omega (arith, half, few)) c.append.new.self c.in-Ok-append.number
     (subst (λ (p : List ℕ). OfLogAt c.args.app.now.devices.cards c.in-Ok.at.key (λ one v. HasAppended c.args.app.now.devices.cards c.append.new.self.devices.cards c.in-Ok.at.key one v p c.args.app.now.store.region c.append.new.self.store.region c.in-Ok-append.number)) payload e.accepted)
-    e.length e.buffers e.labels e.areas e.doors e.rates e.name
+    e.length e.buffers e.labels e.areas e.doors e.rates e.nets e.name
 
 pub returns-in-Err-append-clause-acts : goal.returns-in-Err-append-clause-acts
 returns-in-Err-append-clause-acts c = λ t.

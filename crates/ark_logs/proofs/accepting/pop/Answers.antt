@@ -17,7 +17,7 @@ pop-requires c = record { there = of.open_of_at c.args.app.now c.args.label.now 
 pub returns-in-Ok-pop-clause-acts : goal.returns-in-Ok-pop-clause-acts
 returns-in-Ok-pop-clause-acts c = λ t.
     let e = c.in-Ok-pop.ensures in
-    of.pop_done t c.args.app.now c.args.label.now c.in-Ok.at c.in-Ok.ensures.found c.pop.new.self c.in-Ok-pop.number e.accepted e.length e.buffers e.labels e.areas e.doors e.rates e.name
+    of.pop_done t c.args.app.now c.args.label.now c.in-Ok.at c.in-Ok.ensures.found c.pop.new.self c.in-Ok-pop.number e.accepted e.length e.buffers e.labels e.areas e.doors e.rates e.nets e.name
 
 pub returns-in-Err-pop-clause-acts : goal.returns-in-Err-pop-clause-acts
 returns-in-Err-pop-clause-acts c = λ t.

@@ -18,7 +18,7 @@ trim-requires c = record { there = of.open_of_at c.args.app.now c.args.label.now
 pub returns-in-Ok-trim-clause-acts : goal.returns-in-Ok-trim-clause-acts
 returns-in-Ok-trim-clause-acts c = λ t.
     let e = c.in-Ok-trim.ensures in
-    of.trim_done t c.args.app.now c.args.label.now c.args.n c.in-Ok.at c.in-Ok.ensures.found c.trim.new.self e.accepted (ap (λ (z : Store). z.region) e.store) (ap (λ (z : Store). z.buffers) e.store) e.labels e.areas e.doors e.rates e.name
+    of.trim_done t c.args.app.now c.args.label.now c.args.n c.in-Ok.at c.in-Ok.ensures.found c.trim.new.self e.accepted (ap (λ (z : Store). z.region) e.store) (ap (λ (z : Store). z.buffers) e.store) e.labels e.areas e.doors e.rates e.nets e.name
 
 pub returns-in-Err-trim-clause-acts : goal.returns-in-Err-trim-clause-acts
 returns-in-Err-trim-clause-acts c = λ t.

@@ -17,7 +17,7 @@ close_log-requires c = record { there = open_there_at c.args.app.now.labels c.ar
 pub returns-in-Ok-close_log-clause-acts : goal.returns-in-Ok-close_log-clause-acts
 returns-in-Ok-close_log-clause-acts c = λ t.
     let e = c.in-Ok-close_log.ensures in
-    of.close_done t c.args.app.now c.args.label.now c.in-Ok.at c.in-Ok.ensures.found c.close_log.new.self e.closed e.length e.buffers e.labels e.areas e.doors e.rates e.name
+    of.close_done t c.args.app.now c.args.label.now c.in-Ok.at c.in-Ok.ensures.found c.close_log.new.self e.closed e.length e.buffers e.labels e.areas e.doors e.rates e.nets e.name
 
 pub returns-in-Err-close_log-clause-acts : goal.returns-in-Err-close_log-clause-acts
 returns-in-Err-close_log-clause-acts c = λ t.

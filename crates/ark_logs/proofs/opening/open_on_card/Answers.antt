@@ -7,6 +7,7 @@ use Rattle.ark_held.specs.declared.store.Store.{Store}
 use Rattle.ark_held.proofs.Bindings.{bound_same, some_in}
 use Rattle.ark_logs.specs.Opening.{IsLoaded}
 use Rattle.ark_logs.proofs.Taken.{all_in, changes_twice, loaded_lies, new_buffer}
+use Rattle.ark_held.specs.declared.nets.Nets.{Nets}
 use Rattle.ark_logs.proofs.opening.open_on_card.Goals as goal
 
 pub invariant_of-app : goal.invariant_of-app
@@ -30,10 +31,11 @@ invariant_of-app-in-Ok g c =
     let cards = c.open.ensures.held in
     let doors = ap held c.open.ensures.doors in
     let rates = ap held c.open.ensures.rates in
+    let nets = ap (λ (n : Nets). held n.cards) c.open.ensures.nets in
     let there : is_some (at app.devices.cards c.args.key) ≡ true = search rules in
     let one = some_in (at app.devices.cards c.args.key) there in
     record {
-      room = omega (arith, labelled, cards, doors, rates);
+      room = omega (arith, labelled, cards, doors, rates, nets);
       memory = c.open.ensures.frames ∙ app.memory ∙ sym (ap (λ (z : List Bool). length z) c.load.ensures.kept ∙ c.take.ensures.frames);
       bound = bound_same app.areas app.devices.cards c.open.new.self.cards c.args.key app.bound one.0 one.1 _ (c.open.ensures.changes one.0 one.1) refl;
     }
@@ -57,7 +59,7 @@ returns-in-Err-clause-went g c =
           sized = c.give.ensures.frames ∙ ap (λ (z : List Bool). length z) c.load.ensures.kept ∙ c.take.ensures.frames;
           others = λ p apart. ap (λ (z : List ℕ). bytes_of (record c.give.new.self { bytes = z }) p) c.give.ensures.bytes ∙ c.load.ensures.others p apart ∙ took.others p apart;
         },
-        record { labels = refl; areas = refl; buffers = refl; doors = refl; rates = refl; name = refl },
+        record { labels = refl; areas = refl; buffers = refl; doors = refl; rates = refl; nets = refl; name = refl },
         refl,
       );
     }
@@ -89,6 +91,7 @@ returns-in-Ok-clause-went g c =
           buffers = ap (λ (s : Store). s.buffers) store;
           doors = c.bind.ensures.doors ∙ c.open.ensures.doors;
           rates = c.bind.ensures.rates ∙ c.open.ensures.rates;
+          nets = c.bind.ensures.nets ∙ c.open.ensures.nets;
           name = c.bind.ensures.name;
         };
       };

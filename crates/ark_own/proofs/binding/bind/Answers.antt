@@ -24,4 +24,4 @@ pub returns-clause-acts : goal.returns-clause-acts
 returns-clause-acts c = λ t.
     let here : at c.args.app.now.devices.cards c.in-Ok.keys.0 ≡ Some c.in-Some.one.now = search rules in
     of.bind_done t c.args.app.now _ c.args.card.now c.args.area.now c.in-Ok.keys.0 c.in-Ok.keys.1 c.in-Ok.ensures.keys c.in-Some.one.now here (search rules)
-    c.bind.ensures.labels c.bind.ensures.doors c.bind.ensures.rates c.bind.ensures.store c.bind.ensures.areas c.bind.ensures.name (c.bind.ensures.changes c.in-Some.one.now here)
+    c.bind.ensures.labels c.bind.ensures.doors c.bind.ensures.rates c.bind.ensures.nets c.bind.ensures.store c.bind.ensures.areas c.bind.ensures.name (c.bind.ensures.changes c.in-Some.one.now here)

@@ -18,4 +18,4 @@ pub returns-clause-acts : goal.returns-clause-acts
 returns-clause-acts c = λ t.
     let here : at c.args.app.now.devices.cards c.in-Ok.keys.0 ≡ Some c.in-Some.one.now = search rules in
     of.unbind_done t c.args.app.now _ c.args.card.now c.args.area.now c.in-Ok.keys.0 c.in-Ok.keys.1 c.in-Ok.ensures.keys c.in-Some.one.now here (search rules)
-    c.unbind.ensures.labels c.unbind.ensures.doors c.unbind.ensures.rates c.unbind.ensures.store c.unbind.ensures.areas c.unbind.ensures.name (c.unbind.ensures.changes c.in-Some.one.now here)
+    c.unbind.ensures.labels c.unbind.ensures.doors c.unbind.ensures.rates c.unbind.ensures.nets c.unbind.ensures.store c.unbind.ensures.areas c.unbind.ensures.name (c.unbind.ensures.changes c.in-Some.one.now here)

@@ -29,7 +29,7 @@ post-requires c = record { room = record { one = c.in-Some.card.now; there = sea
 pub returns-clause-acts : goal.returns-clause-acts
 returns-clause-acts c = λ t.
     let under : members c.in-Some.card.now.vsic.ring < c.in-Some.card.now.vsic.ring.size = search rules in
-    flush_done t c.args.app.now _ c.args.label.now c.in-Ok.key c.in-Ok.ensures.key c.in-Some.card.now (search rules) (search rules) under _ refl refl (c.post.ensures.changes c.in-Some.card.now (search rules)) refl c.post.ensures.doors c.post.ensures.rates refl refl refl
+    flush_done t c.args.app.now _ c.args.label.now c.in-Ok.key c.in-Ok.ensures.key c.in-Some.card.now (search rules) (search rules) under _ refl refl (c.post.ensures.changes c.in-Some.card.now (search rules)) refl c.post.ensures.doors c.post.ensures.rates c.post.ensures.nets refl refl refl
 
 pub invariant_of-app-clause-bound : goal.invariant_of-app-clause-bound
 invariant_of-app-clause-bound c =

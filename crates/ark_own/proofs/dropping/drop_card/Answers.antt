@@ -28,4 +28,4 @@ returns-clause-acts c = λ t.
     let unreaped = ap (λ (q : Queue). length q.unreaped) c.ring-2.ensures in
     card_done t c.args.app.now c.remove_card.new.self c.args.label.now c.args.cap c.requires.labelled c.requires.card c.in-Some.card.now (search rules)
     (not_busy c.in-Some.card.now (search rules) (omega (arith, posted, unreaped, c.posted.ensures, c.if-posted-gt0.false, c.unreaped.ensures, c.if-unreaped-gt0.false)))
-    c.remove_card.ensures.labels c.remove_card.ensures.cards c.remove_card.ensures.doors c.remove_card.ensures.rates c.remove_card.ensures.areas c.remove_card.ensures.name c.remove_card.ensures.store
+    c.remove_card.ensures.labels c.remove_card.ensures.cards c.remove_card.ensures.doors c.remove_card.ensures.rates c.remove_card.ensures.nets c.remove_card.ensures.areas c.remove_card.ensures.name c.remove_card.ensures.store

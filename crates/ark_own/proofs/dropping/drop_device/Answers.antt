@@ -14,4 +14,4 @@ returns-in-Err-clause-acts c = λ t.
 
 pub returns-in_default-clause-acts : goal.returns-in_default-clause-acts
 returns-in_default-clause-acts c = λ t.
-    other_kind t c.args.app.now c.args.label.now c.in-Ok.cap (cap_found c.args.label.now c.in-Ok.cap (value_at c.args.app.now.labels c.args.label.now) c.in-Ok.ensures.cap) c.requires.other c.in_default.not-Vsic c.in_default.not-Door c.in_default.not-Rate
+    other_kind t c.args.app.now c.args.label.now c.in-Ok.cap (cap_found c.args.label.now c.in-Ok.cap (value_at c.args.app.now.labels c.args.label.now) c.in-Ok.ensures.cap) c.requires.other c.in_default.not-Vsic c.in_default.not-Door c.in_default.not-Rate c.requires.no_net

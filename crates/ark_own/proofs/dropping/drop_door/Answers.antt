@@ -11,4 +11,4 @@ returns-then-watches-clause-acts c = λ t. door_busy t c.args.app.now c.args.app
 pub returns-clause-acts : goal.returns-clause-acts
 returns-clause-acts c = λ t.
     door_done t c.args.app.now c.remove_door.new.self c.args.label.now c.args.cap c.requires.labelled c.requires.door (sym c.watches.ensures ∙ c.if-watches.false)
-    c.remove_door.ensures.labels c.remove_door.ensures.doors c.remove_door.ensures.cards c.remove_door.ensures.rates c.remove_door.ensures.areas c.remove_door.ensures.name c.remove_door.ensures.store
+    c.remove_door.ensures.labels c.remove_door.ensures.doors c.remove_door.ensures.cards c.remove_door.ensures.rates c.remove_door.ensures.nets c.remove_door.ensures.areas c.remove_door.ensures.name c.remove_door.ensures.store

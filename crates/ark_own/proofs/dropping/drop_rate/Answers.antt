@@ -11,4 +11,4 @@ returns-then-paces-clause-acts c = λ t. rate_busy t c.args.app.now c.args.app.n
 pub returns-clause-acts : goal.returns-clause-acts
 returns-clause-acts c = λ t.
     rate_done t c.args.app.now c.remove_rate.new.self c.args.label.now c.args.cap c.requires.labelled c.requires.rate (sym c.paces.ensures ∙ c.if-paces.false)
-    c.remove_rate.ensures.labels c.remove_rate.ensures.rates c.remove_rate.ensures.cards c.remove_rate.ensures.doors c.remove_rate.ensures.areas c.remove_rate.ensures.name c.remove_rate.ensures.store
+    c.remove_rate.ensures.labels c.remove_rate.ensures.rates c.remove_rate.ensures.cards c.remove_rate.ensures.doors c.remove_rate.ensures.nets c.remove_rate.ensures.areas c.remove_rate.ensures.name c.remove_rate.ensures.store

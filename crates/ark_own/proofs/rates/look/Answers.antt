@@ -10,7 +10,7 @@ pub returns-in_default-clause-acts : goal.returns-in_default-clause-acts
 returns-in_default-clause-acts c = λ t. no_door_there t c.args.app.now c.args.label.now c.in-Ok.key c.in-Ok.ensures.key _ _ (search rules)
 
 pub returns-clause-acts : goal.returns-clause-acts
-returns-clause-acts c = λ t. look_done t c.args.app.now c.args.label.now c.in-Ok.key c.in-Ok.ensures.key _ c.in-Some.counts (search rules) c.in-Some.ensures.anew refl c.look.ensures.cards c.look.ensures.rates refl refl refl
+returns-clause-acts c = λ t. look_done t c.args.app.now c.args.label.now c.in-Ok.key c.in-Ok.ensures.key _ c.in-Some.counts (search rules) c.in-Some.ensures.anew refl c.look.ensures.cards c.look.ensures.rates c.look.ensures.nets refl refl refl
 
 pub invariant_of-app-clause-bound : goal.invariant_of-app-clause-bound
 invariant_of-app-clause-bound c = bound_still c.args.app.now.areas c.args.app.now.devices.cards _ c.look.ensures.cards c.args.app.now.bound

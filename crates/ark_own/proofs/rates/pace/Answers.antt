@@ -1,48 +1,10 @@
-use Rattle.std.proofs.Common.{◌≡◌, ℕ, true, rules, refl, subst}
-use Rattle.std.specs.Prelude.{Option, Result, Ok, is_some}
-use Rattle.ark_base.specs.declared.refusal.Refusal.{Refusal}
-use Rattle.ark_objects.specs.Held.{at}
-use Rattle.ark_held.proofs.Bindings.{bound_same, some_in}
-use Rattle.ark_own.specs.Keys.{both_keys, card_key, rate_given}
-use Rattle.ark_own.proofs.Pacing.{no_keys, no_frames, no_card_there, no_rate_there, unpaced, paced_anew}
 use Rattle.ark_own.proofs.rates.pace.Goals as goal
 
-pub returns-in-Err-clause-acts : goal.returns-in-Err-clause-acts
-returns-in-Err-clause-acts c = λ t grant. no_keys t c.args.app.now c.args.label.now c.args.rate.now c.args.side c.in-Err.refusal c.in-Err.ensures.keys grant c.args.now
+pub returns-in-Rx-clause-acts : goal.returns-in-Rx-clause-acts
+returns-in-Rx-clause-acts c = rw c.in-Rx.is c.pace_net.ensures.acts
 
-pub returns-in_default-clause-acts : goal.returns-in_default-clause-acts
-returns-in_default-clause-acts c = λ t grant. no_frames t c.args.app.now c.args.label.now c.args.rate.now c.args.side c.in-Ok.keys.0 c.in-Ok.keys.1 c.in-Ok.ensures.keys c.in_default.not-Io grant c.args.now
+pub returns-in-Tx-clause-acts : goal.returns-in-Tx-clause-acts
+returns-in-Tx-clause-acts c = rw c.in-Tx.is c.pace_net-in-Tx.ensures.acts
 
-pub returns-then-is_none-clause-acts : goal.returns-then-is_none-clause-acts
-returns-then-is_none-clause-acts c = λ t grant. no_card_there t c.args.app.now c.args.label.now c.args.rate.now c.args.side c.in-Ok.keys.0 c.in-Ok.keys.1 c.in-Ok.ensures.keys _ (search rules) grant c.args.now
-
-pub invariant_of-app-clause-bound : goal.invariant_of-app-clause-bound
-invariant_of-app-clause-bound c =
-    let there : is_some (at c.args.app.now.devices.cards c.in-Ok.keys.0) ≡ true = search rules in
-    let one = some_in (at c.args.app.now.devices.cards c.in-Ok.keys.0) there in
-    bound_same c.args.app.now.areas c.args.app.now.devices.cards _ c.in-Ok.keys.0 c.args.app.now.bound one.0 one.1 _ (c.unpace.ensures.changes one.0 one.1) refl
-
-pub returns-in_default-given-clause-acts : goal.returns-in_default-given-clause-acts
-returns-in_default-given-clause-acts c = λ t.
-    let there : is_some (at c.args.app.now.devices.cards c.in-Ok.keys.0) ≡ true = search rules in
-    let one = some_in (at c.args.app.now.devices.cards c.in-Ok.keys.0) there in
-    let keys = subst (λ (o : Option ℕ). ◌≡◌ {A = Result (ℕ × Option ℕ) Refusal} (Ok (c.in-Ok.keys.0, o)) (both_keys (card_key c.args.app.now.labels c.args.label.now) (rate_given c.args.app.now.labels c.args.rate.now))) c.in_default-given.is c.in-Ok.ensures.keys in
-    rw c.in-Io.is (unpaced c.args.now t c.args.app.now _ c.args.label.now c.args.rate.now c.in-Ok.keys.0 one.0 one.1 refl c.unpace.ensures.doors c.unpace.ensures.rates refl refl refl keys (c.unpace.ensures.changes one.0 one.1))
-
-pub returns-in_default-at-clause-acts : goal.returns-in_default-at-clause-acts
-returns-in_default-at-clause-acts c = λ t grant.
-    no_rate_there t c.args.app.now c.args.label.now c.args.rate.now c.args.side c.in-Ok.keys.0 c.in-Ok.keys.1 c.in-Ok.ensures.keys _ c.in-Some.key c.in-Some.is (search rules) grant c.args.now
-
-pub invariant_of-app-2-clause-bound : goal.invariant_of-app-2-clause-bound
-invariant_of-app-2-clause-bound c =
-    let there : is_some (at c.args.app.now.devices.cards c.in-Ok.keys.0) ≡ true = search rules in
-    let one = some_in (at c.args.app.now.devices.cards c.in-Ok.keys.0) there in
-    bound_same c.args.app.now.areas c.args.app.now.devices.cards _ c.in-Ok.keys.0 c.args.app.now.bound one.0 one.1 _ (c.pace.ensures.changes one.0 one.1) refl
-
-pub returns-clause-acts : goal.returns-clause-acts
-returns-clause-acts c = λ t.
-    let there : is_some (at c.args.app.now.devices.cards c.in-Ok.keys.0) ≡ true = search rules in
-    let one = some_in (at c.args.app.now.devices.cards c.in-Ok.keys.0) there in
-    let keys = subst (λ (o : Option ℕ). ◌≡◌ {A = Result (ℕ × Option ℕ) Refusal} (Ok (c.in-Ok.keys.0, o)) (both_keys (card_key c.args.app.now.labels c.args.label.now) (rate_given c.args.app.now.labels c.args.rate.now))) c.in-Some.is c.in-Ok.ensures.keys in
-    rw c.in-Io.is (paced_anew c.args.now t c.args.app.now _ c.args.label.now c.args.rate.now c.in-Ok.keys.0 one.0 one.1 refl c.pace.ensures.doors c.pace.ensures.rates refl refl refl
-    c.in-Some.key keys c.in-Some-at.allowance.now (search rules) c.new-pace.result c.new-pace.ensures.value c.new-pace.ensures.stands (c.pace.ensures.changes one.0 one.1))
+pub returns-in-Io-clause-acts : goal.returns-in-Io-clause-acts
+returns-in-Io-clause-acts c = rw c.in-Io.is c.pace_card.ensures.acts

@@ -61,7 +61,7 @@ returns-clause-acts c = λ t.
     let was : at app.store.buffers c.in-Ok.keys.1 ≡ Some c.in-Some.lent.now = search rules in
     of.post_done c.args.put c.args.card.now c.args.area.now c.args.buffer.now c.args.off c.args.count t app c.in-Ok.keys.0.0 c.in-Ok.keys.1 c.in-Ok.keys.0.1 c.in-Ok.ensures.keys
     c.in-Some-at.one.now c.in-Some.lent.now there was (search rules) (search rules) (search rules) some (search rules) _ (its_transfer c.job_of.result _ c.in-Ok.keys.1 c.lend-right.result) c.job_of.ensures refl refl refl refl refl refl
-    (c.lend-right.ensures.right ∙ right_found app.store.buffers c.in-Ok.keys.1 c.in-Some.lent.now right.0 was right.1 ∙ sym right.1) (subst (λ (d : Descriptor). Changes app.devices.cards c.post.new.self.cards c.in-Ok.keys.0.0 (Some (with_posted d c.in-Some-at.one.now))) c.transfer.ensures (c.post.ensures.changes c.in-Some-at.one.now there)) (c.lend-right.ensures.changes c.in-Some.lent.now was) c.lend-right.ensures.region refl c.post.ensures.doors c.post.ensures.rates refl refl
+    (c.lend-right.ensures.right ∙ right_found app.store.buffers c.in-Ok.keys.1 c.in-Some.lent.now right.0 was right.1 ∙ sym right.1) (subst (λ (d : Descriptor). Changes app.devices.cards c.post.new.self.cards c.in-Ok.keys.0.0 (Some (with_posted d c.in-Some-at.one.now))) c.transfer.ensures (c.post.ensures.changes c.in-Some-at.one.now there)) (c.lend-right.ensures.changes c.in-Some.lent.now was) c.lend-right.ensures.region refl c.post.ensures.doors c.post.ensures.rates c.post.ensures.nets refl refl
 
 pub invariant_of-app-clause-bound : goal.invariant_of-app-clause-bound
 invariant_of-app-clause-bound c =

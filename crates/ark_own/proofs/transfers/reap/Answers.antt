@@ -18,14 +18,14 @@ returns-then-is_some-clause-acts c = λ t. is_busy t c.args.app.now c.args.label
 pub returns-in_default-reap-clause-acts : goal.returns-in_default-reap-clause-acts
 returns-in_default-reap-clause-acts c = λ t.
     let here : at c.args.app.now.devices.cards c.in-Ok.key ≡ Some c.in-Some.card.now = search rules in
-    none_left t c.args.app.now c.args.label.now c.in-Ok.key c.in-Ok.ensures.key c.in-Some.card.now here (search rules) _ (c.reap.ensures.changes c.in-Some.card.now here) refl c.reap.ensures.doors c.reap.ensures.rates refl refl refl
+    none_left t c.args.app.now c.args.label.now c.in-Ok.key c.in-Ok.ensures.key c.in-Some.card.now here (search rules) _ (c.reap.ensures.changes c.in-Some.card.now here) refl c.reap.ensures.doors c.reap.ensures.rates c.reap.ensures.nets refl refl refl
     (sym (c.reap.ensures.oldest c.in-Some.card.now here) ∙ c.in_default-reap.is)
 
 pub returns-in_default-buf-clause-acts : goal.returns-in_default-buf-clause-acts
 returns-in_default-buf-clause-acts c = λ t.
     let here : at c.args.app.now.devices.cards c.in-Ok.key ≡ Some c.in-Some.card.now = search rules in
     flushed t c.args.app.now c.args.label.now c.in-Ok.key c.in-Ok.ensures.key c.in-Some.card.now here (search rules) c.in-Some-reap.done (sym (c.reap.ensures.oldest c.in-Some.card.now here) ∙ c.in-Some-reap.is)
-    _ (c.reap.ensures.changes c.in-Some.card.now here) refl c.reap.ensures.doors c.reap.ensures.rates refl refl refl c.in_default-buf.is
+    _ (c.reap.ensures.changes c.in-Some.card.now here) refl c.reap.ensures.doors c.reap.ensures.rates c.reap.ensures.nets refl refl refl c.in_default-buf.is
 
 pub returns-in_default-label_of_buffer-clause-acts : goal.returns-in_default-label_of_buffer-clause-acts
 returns-in_default-label_of_buffer-clause-acts c = λ t.
@@ -38,7 +38,7 @@ returns-clause-acts c = λ t.
     let here : at c.args.app.now.devices.cards c.in-Ok.key ≡ Some c.in-Some.card.now = search rules in
     let said = c.said_of.ensures.answer in
     rw said (taken_back t c.args.app.now c.args.label.now c.in-Ok.key c.in-Ok.ensures.key c.in-Some.card.now here (search rules) c.in-Some-reap.done (sym (c.reap.ensures.oldest c.in-Some.card.now here) ∙ c.in-Some-reap.is)
-    _ (c.reap.ensures.changes c.in-Some.card.now here) refl c.reap.ensures.doors c.reap.ensures.rates refl refl c.in-Some-buf.right c.in-Some-buf.is c.in-Some-label_of_buffer.buffer c.in-Some-label_of_buffer.ensures.found c.restore.ensures.region c.restore.ensures.changes)
+    _ (c.reap.ensures.changes c.in-Some.card.now here) refl c.reap.ensures.doors c.reap.ensures.rates c.reap.ensures.nets refl refl c.in-Some-buf.right c.in-Some-buf.is c.in-Some-label_of_buffer.buffer c.in-Some-label_of_buffer.ensures.found c.restore.ensures.region c.restore.ensures.changes)
 
 pub invariant_of-app-clause-bound : goal.invariant_of-app-clause-bound
 invariant_of-app-clause-bound c =

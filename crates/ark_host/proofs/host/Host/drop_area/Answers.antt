@@ -43,7 +43,7 @@ returns-in-Ok-clause-answers g c =
       events = went.events;
       goes_on = went.goes_on;
       does = steps_gone c.args.self.now c.args.name.now c.args.label.now c.args.place c.args.grant c.args.index c.index_mut.result.now c.requires.found (sym c.index_mut.ensures.value) _ (g.D.Disk.told c.remove.new.disk) went.events
-          c.remove_area.new.self (record { labels = c.remove_area.ensures.labels; areas = c.remove_area.ensures.areas; gone = c.remove_area.ensures.gone; cards = c.remove_area.ensures.cards; doors = c.remove_area.ensures.doors; rates = c.remove_area.ensures.rates; name = c.remove_area.ensures.name; region = c.remove_area.ensures.region; buffers = c.remove_area.ensures.buffers }) refl c.in-Ok.ensures.freed refl refl refl
+          c.remove_area.new.self (record { labels = c.remove_area.ensures.labels; areas = c.remove_area.ensures.areas; gone = c.remove_area.ensures.gone; cards = c.remove_area.ensures.cards; doors = c.remove_area.ensures.doors; rates = c.remove_area.ensures.rates; nets = c.remove_area.ensures.nets; name = c.remove_area.ensures.name; region = c.remove_area.ensures.region; buffers = c.remove_area.ensures.buffers }) refl c.in-Ok.ensures.freed refl refl refl
           went.makes refl (stated c.in-Some.slot.now) c.in-Some.slot.now.spans c.in-Some.ensures.slot.1 refl c.give.ensures.given c.free.ensures.ascending;
     }
 
@@ -65,7 +65,7 @@ returns-in-Err-clause-answers g c =
       events = went.events;
       goes_on = went.goes_on;
       does = steps_gone_lost c.args.self.now c.args.name.now c.args.label.now c.args.place c.args.grant c.args.index c.index_mut.result.now c.requires.found (sym c.index_mut.ensures.value) _ (g.D.Disk.told c.remove.new.disk) went.events
-          c.remove_area.new.self (record { labels = c.remove_area.ensures.labels; areas = c.remove_area.ensures.areas; gone = c.remove_area.ensures.gone; cards = c.remove_area.ensures.cards; doors = c.remove_area.ensures.doors; rates = c.remove_area.ensures.rates; name = c.remove_area.ensures.name; region = c.remove_area.ensures.region; buffers = c.remove_area.ensures.buffers }) refl c.in-Err.ensures.freed refl refl refl
+          c.remove_area.new.self (record { labels = c.remove_area.ensures.labels; areas = c.remove_area.ensures.areas; gone = c.remove_area.ensures.gone; cards = c.remove_area.ensures.cards; doors = c.remove_area.ensures.doors; rates = c.remove_area.ensures.rates; nets = c.remove_area.ensures.nets; name = c.remove_area.ensures.name; region = c.remove_area.ensures.region; buffers = c.remove_area.ensures.buffers }) refl c.in-Err.ensures.freed refl refl refl
           went.makes refl;
     }
 
