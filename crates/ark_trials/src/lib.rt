@@ -5,6 +5,8 @@
 #[cfg(test)]
 mod areas;
 #[cfg(test)]
+mod cards;
+#[cfg(test)]
 mod checked;
 #[cfg(test)]
 mod commands;
@@ -18,6 +20,10 @@ mod formatted;
 mod growing;
 #[cfg(test)]
 mod lines;
+#[cfg(test)]
+mod logs;
+#[cfg(test)]
+mod nets;
 #[cfg(test)]
 mod rates;
 #[cfg(test)]

@@ -2,17 +2,17 @@
 //! with the first reply behind them, and each other row a line of the script with its reply, if it has one.
 
 use crate::areas::{BLOCKS, GIVEN_UP, GRANTS, SCATTERED};
+use crate::cards::{BINDINGS, CARDS_AND_DOORS, DEVICES_GIVEN_UP, TRANSFERS};
 use crate::commands::{COMMANDS, OTHER_WORDS};
 use crate::cycles::CYCLES;
 use crate::growing::GROWN;
 use crate::lines::{EMPTY_LINES, LINES};
+use crate::logs::{LOG_COMMANDS, NOT_OPEN, OPENED};
+use crate::nets::{NET_SIDES, NETS};
 use crate::rates::{PACED, RATES};
 use crate::reopened::REOPENED;
 use crate::runs::{Finished, run_on};
-use crate::words::{
-    ADDRESSES, BINDINGS, CARDS_AND_DOORS, DEVICES_GIVEN_UP, EVERY_WORD, FRAMES, LOG_COMMANDS,
-    NOT_OPEN, OPENED, TICKS, TRANSFERS, WORDS_TO_COME,
-};
+use crate::words::{ADDRESSES, EVERY_WORD, FRAMES, TICKS, WORDS_TO_COME};
 use ark_base::Status;
 use std::alloc::Global;
 use std::test::Fail;
@@ -102,6 +102,8 @@ fn answers_as_the_tables_say(rt: HostRuntime) -> Result<(), Fail> {
         DEVICES_GIVEN_UP,
         TRANSFERS,
         BINDINGS,
+        NETS,
+        NET_SIDES,
         NOT_OPEN,
         LOG_COMMANDS,
         OPENED,
