@@ -23,7 +23,7 @@ use Rattle.ark_held.specs.Words.{Labels}
 use Rattle.ark_held.specs.Totals.{bit, total, uses, vsic_uses, open_count}
 use Rattle.ark_held.specs.Kept.{CardKept, PaceKept}
 use Rattle.ark_held.specs.Around.{Around, Each, Both}
-use Rattle.ark_held.specs.Cards.{IsCard, IsJob, IsPhase, IsEnded, IsPaced, IsWatched}
+use Rattle.ark_held.specs.Cards.{HasPhases, IsCard, IsJob, IsPhase, IsEnded, IsPaced, IsWatched}
 use Rattle.ark_held.specs.Held.{IsObjectOf, AllMatch, AreDistinctLabels, Holds}
 use Rattle.ark_held.specs.Keeps.{IsOpenOn, StaysOpen, Keeps, Within, JobWithin, any_label, any_piece}
 use Rattle.ark_held.specs.Ringing.{Sets, Rings}
@@ -32,7 +32,7 @@ use Rattle.ark_held.proofs.Changing.{put_at, none_put}
 use Rattle.ark_held.proofs.Creating.{but}
 use Rattle.ark_held.proofs.Devising.{with_devices, card_keeps, card_set, open_same, door_set}
 use Rattle.ark_held.proofs.Finding.{its_own, stands_at}
-use Rattle.ark_held.proofs.Opens.{none_open, stays_same}
+use Rattle.ark_held.proofs.Opens.{none_open, shut_phases, stays_same}
 use Rattle.ark_held.proofs.Keeping.{job_kept, ended_kept, paced_kept, watched_kept}
 use Rattle.ark_held.proofs.Staying.{within}
 
@@ -46,6 +46,7 @@ pub record StandsFor (x : Around) (v : List ℕ) (k : CardKept) (card : Vsic) : 
   pub pace : Both (IsPaced x) k.pace card.pace
   pub door : Both (IsWatched x) k.door card.door
   pub log : bit (is_some k.log) ≡ open_count x.machine v
+  pub phases : HasPhases k.log card.queue.posted card.queue.unreaped
 
 -- the card under a label, kept and held
 pub record OnCard (x : Around) (v : List ℕ) (c : Capability) (k : CardKept) (card : Vsic) : Type 0 where
@@ -59,7 +60,7 @@ pub record OnCard (x : Around) (v : List ℕ) (c : Capability) (k : CardKept) (c
   pub fits : StandsFor x v k card
 
 stands_for : (x : Around) (v : List ℕ) (c : Capability) (card : Vsic) (f : IsCard x v c card) → StandsFor x v f.card card
-stands_for x v c card f = record { size = f.size; posted = f.posted; unreaped = f.unreaped; moved = f.moved; bound = f.bound; pace = f.pace; door = f.door; log = f.log }
+stands_for x v c card f = record { size = f.size; posted = f.posted; unreaped = f.unreaped; moved = f.moved; bound = f.bound; pace = f.pace; door = f.door; log = f.log; phases = f.phases }
 
 pub on_card : (x : Around) (v : List ℕ) (c : Capability) (k : CardKept) (card : Vsic) (held : Held) → Holds x → value_at x.labels v ≡ Some c → c.kind ≡ cap_kind.Vsic → at x.machine v ≡ Some held → held.object ≡ Objects.vsic card → x.tables.cards c.key ≡ Some k
     → OnCard x v c k card
@@ -148,6 +149,7 @@ module _ (x : Around) (v : List ℕ) (c : Capability) (k : CardKept) (card : Vsi
           pace = paced_kept (but v) any_label any_piece x y keeps now.pace new.pace w.2 fits.pace;
           door = watched_kept (but v) any_label any_piece x y keeps now.door new.door w.3 fits.door;
           log = fits.log ∙ sym (open_same x on.holds v c on.named on.kind on.held on.there card new on.object cards k now on.was sets stays used);
+          phases = fits.phases;
         }
 
     pub card_holds : Holds y
@@ -173,6 +175,7 @@ module _ (x : Around) (v : List ℕ) (c : Capability) (k : CardKept) (card : Vsi
         pace = both;
         door = on.fits.door;
         log = on.fits.log;
+        phases = on.fits.phases;
       })
 
   -- The oldest descriptor has ended.
@@ -218,5 +221,6 @@ module _ (x : Around) (v : List ℕ) (c : Capability) (k : CardKept) (card : Vsi
           pace = both;
           door = on.fits.door;
           log = on.fits.log;
+          phases = shut_phases k.log new.queue.posted new.queue.unreaped none;
         } in
         rung_holds (y new now cards sets opens (uses_same pace) fits) (card_holds new now cards sets opens (uses_same pace) fits) doors k.door card.door (card_watched new now cards sets opens (uses_same pace) fits on.fits.door) rings

@@ -39,7 +39,7 @@ use Rattle.ark_held.proofs.Members.{In}
 use Rattle.ark_held.proofs.Spreading.{spread_same}
 use Rattle.ark_held.proofs.Staying.{within}
 use Rattle.ark_held.proofs.Turning.{turned}
-use Rattle.ark_held.proofs.Opens.{card_logs_by, shut_stays}
+use Rattle.ark_held.proofs.Opens.{shut_phases, card_logs_by, shut_stays}
 
 -- a card and a buffer under their labels
 pub record HasBoth (x : Around) (v b : List ℕ) : Type 0 where
@@ -186,6 +186,7 @@ module _ (r : Beyond) (app app1 : App) (v b : List ℕ) (h : Holds (around r app
           pace = subst (λ (k : CardKept). Both (IsPaced y) k.pace both.vsic.pace) entry_same (paced_kept rest any_label any_piece x y keeps f.card.pace both.vsic.pace inside.2 f.pace);
           door = subst (λ (k : CardKept). Both (IsWatched y) k.door both.vsic.door) entry_same (watched_kept rest any_label any_piece x y keeps f.card.door both.vsic.door inside.3 f.door);
           log = ap (λ (k : CardKept). bit (is_some k.log)) (sym entry_same) ∙ f.log ∙ sym (opens_same v);
+          phases = shut_phases one.log queue.posted queue.unreaped shut;
         }
 
     buffer_now : (z : Buffer) → IsBuffer x b both.cap z → IsBuffer y b both.cap z

@@ -36,7 +36,7 @@ use Rattle.ark_held.specs.Kept.{CardKept}
 use Rattle.ark_held.specs.Rings.{kept_card}
 use Rattle.ark_held.specs.Around.{Around, Each, Both}
 use Rattle.ark_held.specs.Areas.{IsLog, IsOpened}
-use Rattle.ark_held.specs.Cards.{IsCard, IsEnded, IsJob, IsPaced, IsPhaseOf, IsWatched}
+use Rattle.ark_held.specs.Cards.{HasPhases, IsCard, IsEnded, IsJob, IsPaced, IsPhaseOf, IsWatched}
 use Rattle.ark_held.specs.Held.{Holds}
 use Rattle.ark_held.specs.Keeps.{JobWithin, Keeps, Within, any_label}
 use Rattle.ark_held.specs.Beyond.{Beyond, around}
@@ -227,6 +227,7 @@ module _ (r : Beyond) (app : App) (s : List ℕ) (a : OpenAt) (h : Holds (around
           pace = subst (λ (z : CardKept). Both (IsPaced y) z.pace f.both.vsic.pace) f.kept (paced_kept neither any_label (Spares touched) x y keeps_rest k.card.pace f.both.vsic.pace inside.2 k.pace);
           door = subst (λ (z : CardKept). Both (IsWatched y) z.door f.both.vsic.door) f.kept (watched_kept neither any_label (Spares touched) x y keeps_rest k.card.door f.both.vsic.door inside.3 k.door);
           log = one_open;
+          phases = subst (λ (o : Option OpenChain). HasPhases o f.both.vsic.queue.posted f.both.vsic.queue.unreaped) log_was (subst (λ (z : CardKept). HasPhases z.log f.both.vsic.queue.posted f.both.vsic.queue.unreaped) f.kept k.phases);
         }
 
     opened_now : IsOpened y f.both.area.grant f.both.log_fits.slot.blocks log_then (with_one_more f.opened c)

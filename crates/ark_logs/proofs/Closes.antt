@@ -317,6 +317,7 @@ module _ (r : Beyond) (app : App) (s : List ℕ) (a : OpenAt) (f : FoundOpen (ar
           pace = subst (λ (z : CardKept). Both (IsPaced y) z.pace f.both.vsic.pace) f.kept (paced_kept neither any_label (Spares none) x y keeps_rest k.card.pace f.both.vsic.pace inside.2 k.pace);
           door = subst (λ (z : CardKept). Both (IsWatched y) z.door f.both.vsic.door) f.kept (watched_kept neither any_label (Spares none) x y keeps_rest k.card.door f.both.vsic.door inside.3 k.door);
           log = none_open;
+          phases = tt;
         }
 
     log_now : IsLog y s f.both.area log_then
