@@ -15,3 +15,7 @@ pub mod Lines
 pub mod OfCommands
 pub mod Accepts
 pub mod Gives
+pub mod Puts
+pub mod PolledHolds
+pub mod PolledCases
+pub mod PolledRows
