@@ -100,7 +100,7 @@ module _ (j n : ℕ) where
       )
 
   -- of a command, by what it does
-  command_back : (c : Command) (w : Waiting) (room : List (ℕ × ℕ)) (taken : List Bool) → length taken ≡ n → room ≡ map (λ b. (b.start, entry_blocks w.len)) (buffers_by c w) → HasBuffer w → HasEntryBuffer c w.buf → HasNoneOfTrim c w.buf → Lies w.buf
+  pub command_back : (c : Command) (w : Waiting) (room : List (ℕ × ℕ)) (taken : List Bool) → length taken ≡ n → room ≡ map (λ b. (b.start, entry_blocks w.len)) (buffers_by c w) → HasBuffer w → HasEntryBuffer c w.buf → HasNoneOfTrim c w.buf → Lies w.buf
       → count j room ≤ taken_at taken j → IsFreed taken (given_back taken w.buf) room
   command_back (Append k) w room taken long is buffer there none lies most =
       let one : count j room ≡ bit (covers j (w.start, entry_blocks w.len)) + 0 = ap (count j) is in

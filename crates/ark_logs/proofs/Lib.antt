@@ -19,3 +19,5 @@ pub mod Puts
 pub mod PolledHolds
 pub mod PolledCases
 pub mod PolledRows
+pub mod PolledAcks
+pub mod PolledLogs

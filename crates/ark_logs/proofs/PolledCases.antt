@@ -14,7 +14,7 @@ use Rattle.ark_log.specs.declared.polling.Polled.{Polled}
 use Rattle.ark_log.specs.declared.stage.Stage.{Stage}
 use Rattle.ark_log.specs.declared.stage.Stage.TheVariants.{Load, Draft, Mark, Header, Clear, Flush}
 use Rattle.ark_log.specs.Open.{OpenChain}
-use Rattle.ark_log.specs.Polled.{Around as Polling, HasPolled}
+use Rattle.ark_log.specs.Polled.{Around as Polling}
 use Rattle.ark_log.specs.Stages.{posting_of, stage_with}
 use Rattle.ark_log.specs.Stands.{stage_does}
 use Rattle.ark_running.specs.Accepted.{with_opened}
@@ -79,7 +79,7 @@ posted_for v phases done d some way = record {
 }
 
 -- phases of a log stand for what they stood for
-each_phase : (x y : Around) (v : OpenChain) (ds : List Descriptor) (js : List Job) → AllByRecursion IsPhaseJob js → Each (IsJob x (Some v)) ds js → Each (IsJob y (Some v)) ds js
+pub each_phase : (x y : Around) (v : OpenChain) (ds : List Descriptor) (js : List Job) → AllByRecursion IsPhaseJob js → Each (IsJob x (Some v)) ds js → Each (IsJob y (Some v)) ds js
 each_phase x y v [] [] all each = tt
 each_phase x y v (d ∷ ds) (phase p ∷ js) all each = (each.0, each_phase x y v ds js all.1 each.1)
 each_phase x y v (d ∷ ds) (transfer t ∷ js) all each = absurd all.0
@@ -87,7 +87,7 @@ each_phase x y v (d ∷ ds) (flush ∷ js) all each = absurd all.0
 each_phase x y v [] (j ∷ js) all each = absurd each
 each_phase x y v (d ∷ ds) [] all each = absurd each
 
-each_ended : (x y : Around) (v : OpenChain) (us : List Completion) (es : List (Job × Outcome)) → AllByRecursion (λ u. IsPhaseJob u.0) es → Each (IsEnded x (Some v)) us es → Each (IsEnded y (Some v)) us es
+pub each_ended : (x y : Around) (v : OpenChain) (us : List Completion) (es : List (Job × Outcome)) → AllByRecursion (λ u. IsPhaseJob u.0) es → Each (IsEnded x (Some v)) us es → Each (IsEnded y (Some v)) us es
 each_ended x y v [] [] all each = tt
 each_ended x y v (u ∷ us) ((phase p, o) ∷ es) all each = (each.0, each_ended x y v us es all.1 each.1)
 each_ended x y v (u ∷ us) ((transfer t, o) ∷ es) all each = absurd all.0

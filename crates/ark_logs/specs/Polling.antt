@@ -1,0 +1,30 @@
+-- What the word `poll` answers for a poll.
+use Rattle.std.specs.Prelude.{ℕ, List, [], take}
+use Rattle.ark_base.specs.declared.kind.Kind.{Kind}
+use Rattle.ark_base.specs.declared.kind.Kind.TheVariants as kind
+use Rattle.ark_log.specs.declared.command.Command.{Command}
+use Rattle.ark_log.specs.declared.command.Command.TheVariants.{Append, Trim, Pop}
+use Rattle.ark_log.specs.declared.polling.Polled.{Polled}
+use Rattle.ark_log.specs.declared.polling.Polled.TheVariants.{Nothing, Posted, Acked, Fault}
+use Rattle.ark_script.specs.declared.said.Said.{Said}
+use Rattle.ark_script.specs.declared.said.Said.TheVariants as said
+
+-- an acknowledged command of a log or queue
+abbrev pub acked_by : Kind → Command → Said
+acked_by kind.Queue (Append n) = said.AckedPush n
+acked_by k (Append n) = said.AckedAppend n
+acked_by k (Trim n) = said.AckedTrim n
+acked_by k (Pop n) = said.AckedPop n
+
+abbrev pub said_by : Kind → Polled → Said
+said_by k Nothing = said.Nothing
+said_by k Posted = said.Posted
+said_by k (Acked c len) = acked_by k c
+said_by k (Fault o) = said.Failed o
+
+-- of the bytes that a poll may fill it shows those of a payload
+abbrev pub shown_by : Polled → List ℕ → List ℕ
+shown_by (Acked c len) out = take len out
+shown_by Nothing out = []
+shown_by Posted out = []
+shown_by (Fault o) out = []
