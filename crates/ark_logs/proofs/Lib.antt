@@ -21,3 +21,4 @@ pub mod PolledCases
 pub mod PolledRows
 pub mod PolledAcks
 pub mod PolledLogs
+pub mod Polls

@@ -1,13 +1,20 @@
--- What the word `poll` answers for a poll.
-use Rattle.std.specs.Prelude.{ℕ, List, [], take}
+-- What the word `poll` looks at and answers.
+use Rattle.std.specs.Prelude.{ℕ, List, [], take, Option, option_and_then}
+use Rattle.ark_objects.specs.Held.{at}
 use Rattle.ark_base.specs.declared.kind.Kind.{Kind}
 use Rattle.ark_base.specs.declared.kind.Kind.TheVariants as kind
 use Rattle.ark_log.specs.declared.command.Command.{Command}
 use Rattle.ark_log.specs.declared.command.Command.TheVariants.{Append, Trim, Pop}
 use Rattle.ark_log.specs.declared.polling.Polled.{Polled}
 use Rattle.ark_log.specs.declared.polling.Polled.TheVariants.{Nothing, Posted, Acked, Fault}
+use Rattle.ark_log.specs.Open.{OpenChain}
+use Rattle.ark_held.specs.declared.card.StorageCard.{StorageCard}
 use Rattle.ark_script.specs.declared.said.Said.{Said}
 use Rattle.ark_script.specs.declared.said.Said.TheVariants as said
+
+-- the log or queue that is open on the card of a key
+abbrev pub chain_on : List (Option StorageCard) → ℕ → Option OpenChain
+chain_on cards key = option_and_then (λ c. c.log) (at cards key)
 
 -- an acknowledged command of a log or queue
 abbrev pub acked_by : Kind → Command → Said
