@@ -1,8 +1,8 @@
 -- What stays where an open log is given a command.
-use Rattle.std.proofs.Common.{◌≡◌, ℕ, ◌+◌, ◌≤◌, ◌<◌, Bool, List, [], ◌∷◌, ◌++◌, length, set, refl, sym, ◌∙◌, ap, subst, arith}
+use Rattle.std.proofs.Common.{◌≡◌, ℕ, ◌≤◌, ◌<◌, Bool, List, [], ◌∷◌, ◌++◌, length, set, refl, sym, ◌∙◌, ap, subst, arith}
 use Rattle.std.specs.Prelude.{All, Option, Some, None, IfSome, Result, Ok, Err, IfOk, IfErr, OnOk, OnErr}
 use Rattle.std.proofs.lemmas.List.Elements.{All-append, All-cons, All-nil}
-use Rattle.ark_objects.specs.Held.{at, Changes}
+use Rattle.ark_objects.specs.Held.{at}
 use Rattle.ark_region.specs.Frames.{Piece, Space, LiesInRegion}
 use Rattle.ark_entry.specs.Entry.{entry_blocks}
 use Rattle.ark_log.specs.declared.command.Command.TheVariants.{Append, Trim, Pop}

@@ -1,5 +1,5 @@
 -- The device calls that are made for one log: they leave its application as it was, but for that log, and what a sync settles.
-use Rattle.std.proofs.Common.{◌≡◌, ℕ, ◌<◌, Bool, true, false, not, ◌&&◌, ◌||◌, List, [], ◌∷◌, ◌++◌, length, map, refl, sym, ◌∙◌, ap, subst, bytes_eq, Contains}
+use Rattle.std.proofs.Common.{◌≡◌, ℕ, ◌<◌, Bool, true, false, not, ◌&&◌, List, [], ◌∷◌, ◌++◌, length, map, refl, sym, ◌∙◌, ap, subst, bytes_eq, Contains}
 use Rattle.std.specs.Prelude.{Some}
 use Rattle.std.specs.List.{list_any}
 use Rattle.std.proofs.lemmas.Bool.{false≢true}
@@ -14,7 +14,7 @@ use Rattle.ark_machine.specs.Objects
 use Rattle.ark_machine.specs.Objects.{Object, Raw}
 use Rattle.ark_machine.specs.Machine.{Machine, Held, at, object_at, holding, each_object}
 use Rattle.ark_machine.specs.Row.{Ended, settled, synced, synced_by, is_sync}
-use Rattle.ark_machine.specs.Follow.{end_of, ends_of}
+use Rattle.ark_machine.specs.Follow.{ends_of}
 use Rattle.ark_machine.specs.Control.{is_open_on, is_socket_on}
 use Rattle.ark_held.specs.Totals.{bit, total, uses, cover_count}
 use Rattle.ark_held.specs.Around.{Around, slot_at}
@@ -27,7 +27,6 @@ use Rattle.ark_held.specs.Keeps.{SameAt}
 use Rattle.ark_held.specs.declared.app.App.{App}
 use Rattle.ark_held.proofs.Lists.{by_test, same_name, other_name, some_same}
 use Rattle.ark_held.proofs.Besides.{same_beside}
-use Rattle.ark_held.proofs.Covering.{Spares}
 use Rattle.ark_held.proofs.Creating.{but}
 use Rattle.ark_held.proofs.Effects.{at_each, settles_holds, sync_holds, read_holds}
 use Rattle.ark_held.proofs.Finding.{found_there}

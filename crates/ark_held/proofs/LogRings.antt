@@ -1,13 +1,13 @@
 -- The rings of cards, as the logs that are open on them have them.
 use Rattle.std.proofs.Common.{◌≡◌, ℕ, ◌+◌, ◌<◌, Bool, true, List, [], ◌∷◌, ◌++◌, length, refl, sym, ◌∙◌, ap, subst, arith, eqb-true}
-use Rattle.std.specs.Prelude.{◌==◌, ◌&&◌, All, Option, Some, None, IfSome, slice_get, Result, Ok, Err, OnOk, OnErr}
+use Rattle.std.specs.Prelude.{◌==◌, ◌&&◌, Option, Some, None, IfSome, slice_get, Result, Ok, Err, OnOk, OnErr}
 use Rattle.std.proofs.lemmas.Bool.{and_parts}
 use Rattle.std.proofs.lemmas.List.Elements.{All-push}
 use Rattle.ark_base.specs.declared.kind.Outcome.{Outcome}
 use Rattle.ark_entry.specs.Entry.{entry_blocks}
 use Rattle.ark_objects.specs.Held.{at, Changes}
 use Rattle.ark_region.specs.Frames.{Piece, Space}
-use Rattle.ark_vic.specs.Queue.{Queue, completion_of, members}
+use Rattle.ark_vic.specs.Queue.{Queue, completion_of}
 use Rattle.ark_vic.specs.declared.descriptor.Descriptor.{Descriptor}
 use Rattle.ark_vic.specs.declared.descriptor.Completion.{Completion}
 use Rattle.ark_vsic.specs.Card.{head_of}

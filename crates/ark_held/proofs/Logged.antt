@@ -1,16 +1,15 @@
 -- A log and the card on which it is open change together, with bytes and frames of its own: what stays, and what labels stand for then.
-use Rattle.std.proofs.Common.{◌≡◌, ◌⊎◌, inl, inr, ℕ, ◌+◌, ◌<◌, ◌≤◌, Bool, true, false, not, cond, ◌&&◌, List, [], ◌∷◌, length, map, refl, sym, ◌∙◌, ap, subst, arith, bytes_eq, nat_eq}
-use Rattle.std.specs.Prelude.{Option, Some, None, find, is_some, option_map, slice_get, slice_index_or}
+use Rattle.std.proofs.Common.{◌≡◌, ◌⊎◌, inl, inr, ℕ, ◌+◌, ◌≤◌, Bool, true, false, not, cond, ◌&&◌, List, [], ◌∷◌, length, map, refl, sym, ◌∙◌, ap, subst, arith, bytes_eq, nat_eq}
+use Rattle.std.specs.Prelude.{Option, Some, None, find, is_some, option_map, slice_index_or}
 use Rattle.std.specs.Map.{lookup}
 use Rattle.std.proofs.lemmas.Bool.{cases_eq, false≢true, and_parts}
 use Rattle.std.proofs.lemmas.Simd.{map-map}
-use Rattle.ark_base.specs.declared.kind.Outcome.{Outcome}
 use Rattle.ark_media.specs.Journal.{History}
 use Rattle.ark_objects.specs.Held.{at as key_at, Changes}
 use Rattle.ark_caps.specs.Labels.{value_at}
 use Rattle.ark_caps.specs.declared.capability.Capability.{Capability}
 use Rattle.ark_caps.specs.declared.capability.CapKind.TheVariants as cap_kind
-use Rattle.ark_region.specs.Frames.{Piece, Covers, bytes_of}
+use Rattle.ark_region.specs.Frames.{Piece, bytes_of}
 use Rattle.ark_vic.specs.declared.door.Counts.{Counts}
 use Rattle.ark_caladan.specs.Chain.{Log}
 use Rattle.ark_log.specs.Open.{OpenChain}
@@ -29,13 +28,13 @@ use Rattle.ark_held.specs.Around.{Around, slot_at}
 use Rattle.ark_held.specs.Areas.{IsLog}
 use Rattle.ark_held.specs.Cards.{IsCard}
 use Rattle.ark_held.specs.Held.{IsObjectOf, AllMatch, AreDistinctLabels, Matches, Holds, has_key}
-use Rattle.ark_held.specs.Keeps.{Keeps, Within, IsOpenOn, SameAt, StaysOpen, any_label}
+use Rattle.ark_held.specs.Keeps.{Keeps, IsOpenOn, SameAt, StaysOpen, any_label}
 use Rattle.ark_held.specs.Beyond.{Beyond, around}
 use Rattle.ark_held.specs.declared.allowance.Allowance.{Allowance}
 use Rattle.ark_held.specs.declared.app.App.{App}
 use Rattle.ark_held.specs.declared.buffer.Buffer.{Buffer}
 use Rattle.ark_held.specs.declared.card.StorageCard.{StorageCard}
-use Rattle.ark_held.proofs.Lists.{by_test, same_name, other_name, name_other, not_some, some_same, head_apart}
+use Rattle.ark_held.proofs.Lists.{by_test, same_name, other_name, name_other, some_same, head_apart}
 use Rattle.ark_held.proofs.Changing.{put_at}
 use Rattle.ark_held.proofs.Covering.{Spares, within_spares, in_total, two_total, found_in}
 use Rattle.ark_held.proofs.Finding.{found_there, its_own}

@@ -1,17 +1,13 @@
 -- The log that is open on a card, found from the card.
-use Rattle.std.proofs.Common.{◌≡◌, ℕ, ◌<◌, Bool, cond, true, false, List, [], ◌∷◌, length, refl, sym, ◌∙◌, ap, subst, arith, bytes_eq, eqb-true}
+use Rattle.std.proofs.Common.{◌≡◌, ℕ, ◌<◌, Bool, cond, true, false, List, [], ◌∷◌, refl, sym, ◌∙◌, ap, subst, arith, bytes_eq, eqb-true}
 use Rattle.std.specs.Prelude.{◌==◌, Option, Some, None, find, is_some, option_and_then, option_map, unwrap_or}
 use Rattle.std.proofs.lemmas.Bool.Decides.{nat_tests}
 use Rattle.std.proofs.lemmas.Bool.{false≢true}
 use Rattle.ark_caps.specs.Labels.{value_at}
 use Rattle.ark_caps.specs.declared.capability.Capability.{Capability}
-use Rattle.ark_vic.specs.declared.descriptor.Descriptor.{Descriptor}
-use Rattle.ark_vic.specs.declared.descriptor.Completion.{Completion}
-use Rattle.ark_region.specs.Frames.{Space}
 use Rattle.ark_table.specs.Slots.{Slot}
 use Rattle.ark_caladan.specs.Chain.{Log, Opened}
 use Rattle.ark_log.specs.Open.{OpenChain}
-use Rattle.ark_running.specs.Ringed.{IsRingBy}
 use Rattle.ark_machine.specs.Objects
 use Rattle.ark_machine.specs.Objects.{Object, Vsic}
 use Rattle.ark_machine.specs.Machine.{Held, at}

@@ -1,7 +1,5 @@
 use Rattle.std.proofs.Common.{Some, refl, sym}
-use Rattle.std.specs.Prelude.{◌==◌, length}
 use Rattle.std.proofs.Math.Logic.{∥∥₁_map}
-use Rattle.ark_log.specs.declared.command.Waiting.{Waiting}
 use Rattle.ark_held.proofs.Keyed.{changes_set}
 use Rattle.ark_held.specs.LogBuffers.{LiesIn}
 use Rattle.ark_held.proofs.CardLogs.{log_set}
