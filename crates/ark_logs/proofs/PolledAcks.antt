@@ -1,8 +1,7 @@
 -- The oldest command of an open log is acknowledged: its buffer's frames are free, and what labels stand for then.
-use Rattle.std.proofs.Common.{◌≡◌, inl, inr, ℕ, ◌+◌, ◌-◌, ◌*◌, ◌<◌, ◌≤◌, Bool, false, List, [], ◌∷◌, ◌++◌, length, map, drop, refl, sym, ◌∙◌, ap, subst, arith}
-use Rattle.std.specs.Prelude.{All, IfSome, Option, Some, None, flat_map, slice_index_or}
-use Rattle.std.specs.List.{AllByRecursion}
-use Rattle.ark_region.specs.Frames.{LiesInRegion, Piece, Space, frames_of}
+use Rattle.std.proofs.Common.{◌≡◌, ℕ, ◌+◌, ◌-◌, ◌≤◌, Bool, false, List, [], ◌∷◌, length, map, drop, refl, sym, ◌∙◌, ap, subst, arith}
+use Rattle.std.specs.Prelude.{All, IfSome, Option, Some, None, slice_index_or}
+use Rattle.ark_region.specs.Frames.{LiesInRegion, Piece, Space}
 use Rattle.ark_entry.specs.Entry.{entry_blocks}
 use Rattle.ark_vic.specs.Queue.{Queue}
 use Rattle.ark_vic.specs.declared.descriptor.Completion.{Completion}
@@ -17,9 +16,9 @@ use Rattle.ark_log.specs.declared.stage.Stage.{Stage}
 use Rattle.ark_log.specs.Acked.{acknowledged}
 use Rattle.ark_log.specs.Closed as given
 use Rattle.ark_log.specs.Closed.{given_back}
-use Rattle.ark_log.specs.Open.{HasBuffer, OpenChain}
+use Rattle.ark_log.specs.Open.{OpenChain}
 use Rattle.ark_log.specs.Polled.{Around as Polling, EndsWell, GoesOn, HasEnded, IsAcked, ended, reaped, returned_at, stage_of}
-use Rattle.ark_log.specs.Stages.{HasEntryBuffer, oldest, oldest_in}
+use Rattle.ark_log.specs.Stages.{oldest, oldest_in}
 use Rattle.ark_log.proofs.Ended.{ended_lies}
 use Rattle.ark_log.proofs.Lent.{oldest_has}
 use Rattle.ark_log.proofs.Whole.{whole_oldest}
@@ -34,7 +33,7 @@ use Rattle.ark_running.proofs.Polls.{may_ends, trims_are}
 use Rattle.ark_machine.specs.Objects
 use Rattle.ark_machine.specs.Objects.{Object, no_queue, object_frames, opened_frames}
 use Rattle.ark_machine.specs.Machine.{with_object}
-use Rattle.ark_held.specs.Totals.{bit, covers, object_covers, total}
+use Rattle.ark_held.specs.Totals.{bit, covers, object_covers}
 use Rattle.ark_held.specs.Around.{Around, Each}
 use Rattle.ark_held.specs.Cards.{IsEnded, IsJob}
 use Rattle.ark_held.specs.Held.{Holds}

@@ -1,15 +1,13 @@
 -- What labels stand for once a log was polled.
-use Rattle.std.proofs.Common.{◌≡◌, ◌⊎◌, inl, inr, ℕ, zero, suc, ◌+◌, ◌<◌, ◌≤◌, Bool, true, false, List, [], ◌∷◌, ◌++◌, length, map, drop, refl, sym, ◌∙◌, ap, subst, arith, bytes_eq}
-use Rattle.std.specs.Prelude.{Option, Some, None, slice_get, slice_index_or}
+use Rattle.std.proofs.Common.{◌≡◌, inl, inr, ℕ, zero, suc, ◌<◌, ◌≤◌, Bool, true, false, List, [], ◌∷◌, length, refl, sym, ◌∙◌, ap, subst, arith}
+use Rattle.std.specs.Prelude.{Option, Some, slice_get, slice_index_or}
 use Rattle.std.specs.List.{AllByRecursion}
 use Rattle.ark_base.specs.declared.kind.Outcome.{Outcome}
-use Rattle.ark_region.specs.Frames.{Apart, Covers, Piece, Space, bytes_of}
-use Rattle.ark_vic.specs.Queue.{Queue}
+use Rattle.ark_region.specs.Frames.{Apart, Piece}
 use Rattle.ark_vic.specs.declared.descriptor.Completion.{Completion}
 use Rattle.ark_vic.specs.declared.descriptor.Descriptor.{Descriptor}
 use Rattle.ark_caladan.specs.Chain as log
 use Rattle.ark_caladan.specs.Chain.{Log, Opened, entries, phases_of}
-use Rattle.ark_caladan.specs.Open.{Layout}
 use Rattle.ark_log.specs.declared.polling.Polled.{Polled}
 use Rattle.ark_log.specs.declared.stage.Stage.{Stage}
 use Rattle.ark_log.specs.declared.stage.Stage.TheVariants.{Load, Draft, Mark, Header, Clear, Flush}
@@ -27,7 +25,6 @@ use Rattle.ark_machine.specs.Objects
 use Rattle.ark_machine.specs.Objects.{Job, Object, Vsic, no_queue, opened_frames, transfer, flush, phase}
 use Rattle.ark_machine.specs.Machine.{with_object}
 use Rattle.ark_held.specs.Totals.{bit, covers, object_covers, total}
-use Rattle.ark_held.specs.Kept.{CardKept}
 use Rattle.ark_held.specs.Around.{Around, Each}
 use Rattle.ark_held.specs.Cards.{DoesPhase, IsEnded, IsJob, IsPhaseJob, IsPhaseOf}
 use Rattle.ark_held.specs.Held.{Holds}
@@ -40,7 +37,7 @@ use Rattle.ark_held.proofs.Logged.{IsItsFrame, Reaches}
 use Rattle.ark_logs.specs.declared.finding.OpenAt.{OpenAt}
 use Rattle.ark_logs.proofs.Accepts.{own_apart}
 use Rattle.ark_logs.proofs.OfLogs.{FoundOpen}
-use Rattle.ark_logs.proofs.PolledHolds.{goes_on_holds, its_phases, taken_at}
+use Rattle.ark_logs.proofs.PolledHolds.{goes_on_holds, taken_at}
 
 -- what the descriptor of a stage does
 stage_phase : (v : OpenChain) (s : Stage) → DoesPhase (stage_does s).0 (posting_of v s).count (posting_of v s)

@@ -1,6 +1,6 @@
 -- A log and the ring of its card go on together: what labels stand for then.
-use Rattle.std.proofs.Common.{◌≡◌, ◌⊎◌, inl, inr, ℕ, ◌+◌, ◌<◌, ◌≤◌, Bool, true, false, not, ◌&&◌, List, [], ◌∷◌, length, refl, sym, ◌∙◌, ap, subst, arith, bytes_eq, nat_eq}
-use Rattle.std.specs.Prelude.{Option, Some, None, is_some, option_map, slice_get, slice_index_or, unwrap_or}
+use Rattle.std.proofs.Common.{◌≡◌, ℕ, ◌+◌, Bool, true, false, not, ◌&&◌, List, [], ◌∷◌, refl, sym, ◌∙◌, ap, subst, arith, bytes_eq, nat_eq}
+use Rattle.std.specs.Prelude.{Option, Some, is_some, option_map, slice_get, slice_index_or, unwrap_or}
 use Rattle.std.specs.Map.{lookup}
 use Rattle.std.specs.List.{AllByRecursion}
 use Rattle.ark_base.specs.declared.kind.Outcome.{Outcome}

@@ -1,5 +1,5 @@
 -- What one poll of an open log comes to: its row, its answer, and what labels stand for then.
-use Rattle.std.proofs.Common.{◌≡◌, ◌⊎◌, inl, inr, ℕ, ◌+◌, ◌<◌, false, List, [], ◌∷◌, ◌++◌, length, map, drop, refl, sym, ◌∙◌, ap, subst, arith, bytes_eq}
+use Rattle.std.proofs.Common.{◌≡◌, inl, inr, ℕ, ◌+◌, ◌<◌, false, List, [], ◌∷◌, ◌++◌, length, map, drop, refl, sym, ◌∙◌, ap, subst, arith, bytes_eq}
 use Rattle.std.specs.Prelude.{Option, Some, None, is_some, slice_get, slice_index_or, take}
 use Rattle.std.specs.List.{AllByRecursion}
 use Rattle.std.proofs.lemmas.Bool.{false≢true}
@@ -32,7 +32,6 @@ use Rattle.ark_entry.specs.Found.{Entries}
 use Rattle.ark_running.specs.Given.{given_by}
 use Rattle.ark_running.specs.Phases.{phase_by}
 use Rattle.ark_running.specs.Polling.{acknowledging, failing, one_done}
-use Rattle.ark_running.specs.Ringed.{IsRingBy}
 use Rattle.ark_running.specs.Running.{IsRunning}
 use Rattle.ark_running.proofs.Beside.{polled_leaves}
 use Rattle.ark_running.proofs.Begins as begins
@@ -47,7 +46,7 @@ use Rattle.ark_machine.specs.Objects.{Job, Object, Vsic, no_queue, phase, transf
 use Rattle.ark_machine.specs.Machine.{Machine, Held, at, with_object}
 use Rattle.ark_machine.specs.Cards.{posting}
 use Rattle.ark_machine.specs.Polls as row
-use Rattle.ark_machine.specs.Row.{Row, says}
+use Rattle.ark_machine.specs.Row.{says}
 use Rattle.ark_held.specs.Totals.{bit, object_covers}
 use Rattle.ark_held.specs.Kept.{CardKept}
 use Rattle.ark_held.specs.Around.{Around, Each}

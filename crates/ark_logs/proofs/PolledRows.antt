@@ -1,13 +1,13 @@
 -- What the row of `poll` comes to, by what is in the ring.
-use Rattle.std.proofs.Common.{◌≡◌, ℕ, ◌+◌, false, List, [], ◌∷◌, ◌++◌, refl, sym, ◌∙◌, ap, bytes_eq}
-use Rattle.std.specs.Prelude.{Option, Some, None, option_and_then, option_map, unwrap_or}
+use Rattle.std.proofs.Common.{◌≡◌, ℕ, false, List, [], ◌∷◌, refl, ◌∙◌, ap, bytes_eq}
+use Rattle.std.specs.Prelude.{Option, Some, option_map, unwrap_or}
 use Rattle.ark_base.specs.declared.kind.Outcome.{Outcome}
 use Rattle.ark_base.specs.declared.kind.Outcome.TheVariants as outcome
 use Rattle.ark_script.specs.declared.said.Said.TheVariants as said
 use Rattle.ark_caladan.specs.Chain.{Command, Log, Opened, Phase, commands, entries}
 use Rattle.ark_machine.specs.Objects
 use Rattle.ark_machine.specs.Objects.{Job, Object, Vsic, phase}
-use Rattle.ark_machine.specs.Machine.{Machine, Held, at, holding, log_at, vsic_at, with_log, with_object, with_vsic}
+use Rattle.ark_machine.specs.Machine.{Machine, Held, at, holding, log_at, vsic_at, with_object, with_vsic}
 use Rattle.ark_machine.specs.Cards.{posting}
 use Rattle.ark_machine.specs.Logs.{with_opened}
 use Rattle.ark_machine.specs.Polls.{acknowledging, acked, emptied, failing, next_phase, one_done, phase_ended, phases_left, poll_card, poll_log, poll_oldest, poll_opened, polled, popped}

@@ -1,5 +1,5 @@
 -- The row of `poll`.
-use Rattle.std.proofs.Common.{◌≡◌, ℕ, Bool, true, false, not, List, [], ◌∷◌, length, refl, sym, ◌∙◌, ap, subst}
+use Rattle.std.proofs.Common.{◌≡◌, ℕ, true, false, not, List, [], ◌∷◌, length, refl, sym, ◌∙◌, ap}
 use Rattle.std.specs.Prelude.{Option, Some, None, Ok, Err, is_none, option_and_then, option_map}
 use Rattle.ark_base.specs.Conditions.{Conditions, none}
 use Rattle.ark_base.specs.declared.kind.Kind.{Kind}
@@ -10,14 +10,12 @@ use Rattle.ark_script.specs.declared.said.Said.TheVariants as said
 use Rattle.ark_caladan.specs.Chain.{Log, Opened}
 use Rattle.ark_log.specs.declared.polling.Polled.{Polled}
 use Rattle.ark_log.specs.Open.{OpenChain}
-use Rattle.ark_objects.specs.Held.{at as key_at}
 use Rattle.ark_machine.specs.Objects
 use Rattle.ark_machine.specs.Objects.{as_log}
 use Rattle.ark_machine.specs.Machine.{Machine, Held, at, log_at, missing}
 use Rattle.ark_machine.specs.Logs.{has_failed, opened_of}
 use Rattle.ark_machine.specs.Polls as rows
 use Rattle.ark_machine.specs.Row.{Row, Given, answer, says}
-use Rattle.ark_held.specs.Around.{Around}
 use Rattle.ark_held.specs.Held.{Holds}
 use Rattle.ark_held.specs.Closing.{OfLogAt}
 use Rattle.ark_held.specs.Polling.{HasPolledOn}
@@ -31,7 +29,7 @@ use Rattle.ark_logs.specs.Finds.{open_under}
 use Rattle.ark_logs.specs.Polling.{chain_on, said_by, shown_by}
 use Rattle.ark_logs.specs.declared.finding.OpenAt.{OpenAt}
 use Rattle.ark_logs.proofs.OfLogs.{FoundOpen, HasNone, found_open}
-use Rattle.ark_logs.proofs.PolledLogs.{Comes, polled_comes}
+use Rattle.ark_logs.proofs.PolledLogs.{polled_comes}
 
 -- The row, where the log is open.
 

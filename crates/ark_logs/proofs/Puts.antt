@@ -1,5 +1,5 @@
 -- Machines in which the objects at two labels change, in one order and the other.
-use Rattle.std.proofs.Common.{◌≡◌, inl, inr, ℕ, Bool, true, false, cond, List, [], ◌∷◌, map, refl, sym, ◌∙◌, ap, bytes_eq}
+use Rattle.std.proofs.Common.{◌≡◌, inl, inr, ℕ, true, false, cond, List, [], ◌∷◌, map, refl, sym, ◌∙◌, ap, bytes_eq}
 use Rattle.std.specs.Prelude.{Some}
 use Rattle.ark_machine.specs.Objects.{Object}
 use Rattle.ark_machine.specs.Machine.{Machine, Held, at, holding, with_object}
