@@ -3,7 +3,7 @@ ghost use Rattle.ark_objects.specs.Held.{Changes, at, held};
 ghost use Rattle.ark_vic.specs.Bells.{counts_of};
 ghost use Rattle.ark_vsic.specs.Moves.{CanMove};
 ghost use Rattle.ark_held.specs.Bound.{HasRoomToBind, with_bound};
-ghost use Rattle.ark_held.specs.Idle.{AreIdle, IsShut};
+ghost use Rattle.ark_held.specs.Idle.{IsShut};
 ghost use Rattle.ark_held.specs.LogBuffers.{AllLie};
 ghost use Rattle.ark_held.specs.LogRings.{AreLogRings};
 ghost use Rattle.ark_held.specs.Rings.{AreSound, ChangesCard, HasRoomFor, new_card, no_ring, unbound, with_posted, with_reaped};
@@ -25,8 +25,6 @@ pub struct Devices {
     /// The frames of the memory in which the buffers of descriptors lie.
     pub frames: u32,
     pub ghost sound: { ∥ AreSound frames cards ∥₁ },
-    /// So far no word posts a descriptor of an open log.
-    pub ghost idle: { ∥ AreIdle cards ∥₁ },
     /// The buffers of open logs lie in the memory.
     pub ghost lie: { ∥ AllLie frames cards ∥₁ },
     /// In the ring of a card on which a log is open there is the log's descriptor alone, or its completion.
