@@ -12,6 +12,7 @@ use Rattle.ark_vic.specs.declared.descriptor.Completion.{Completion}
 use Rattle.ark_log.specs.declared.command.Command.{Command}
 use Rattle.ark_log.specs.declared.command.Command.TheVariants.{Append, Trim, Pop}
 use Rattle.ark_log.specs.declared.polling.Polled.{Polled}
+use Rattle.ark_log.specs.declared.polling.Polled.TheVariants.{Nothing, Posted, Acked, Fault}
 use Rattle.ark_log.specs.declared.stage.Stage.{Stage}
 use Rattle.ark_log.specs.declared.stage.Stage.TheVariants.{Load, Draft, Mark, Header, Clear, Flush}
 use Rattle.ark_log.specs.Closed.{HasBuffersIn}
@@ -22,7 +23,7 @@ use Rattle.ark_held.specs.Bound.{AreBound}
 use Rattle.ark_held.specs.Closing.{IsOpenAt, OfLogAt}
 use Rattle.ark_held.specs.LogBuffers.{AllLie, LiesIn}
 use Rattle.ark_held.specs.LogRings.{AreLogRings, IsLogRing}
-use Rattle.ark_held.specs.Polling.{HasPolledOn, with_polled}
+use Rattle.ark_held.specs.Polling.{HasPolledOn, IsShortIfAcked, with_polled}
 use Rattle.ark_held.specs.Rings.{AreSound}
 use Rattle.ark_held.specs.Words.{AreaList}
 use Rattle.ark_held.specs.declared.card.StorageCard.{StorageCard}
@@ -32,7 +33,7 @@ use Rattle.ark_held.proofs.Commands.{of_log}
 use Rattle.ark_held.proofs.Keyed.{changes_set}
 use Rattle.ark_held.proofs.Lists.{some_same}
 use Rattle.ark_held.proofs.LogRings.{rings_changed}
-use Rattle.ark_held.proofs.PolledRings.{IsKept, polled_kept, polled_long, polled_size}
+use Rattle.ark_held.proofs.PolledRings.{IsKept, polled_kept, polled_long, polled_short, polled_size}
 use Rattle.ark_held.proofs.Sounder.{both_plain}
 use Rattle.ark_held.proofs.Sounding.{sound_set}
 
@@ -94,6 +95,12 @@ module _ (frames : ℕ) (cards : List (Option StorageCard)) (key : ℕ) (one : S
     pub may_end : (c : Completion) → slice_get one.vsic.ring.unreaped 0 ≡ Some c → MayEnd v taken c.buf
     may_end c first = may_by taken v c.buf (stage_of v) refl (∥∥₁_elim logs (ends_plain taken v c.buf (stage_of v)) (λ all. ends_by taken v c.buf ((its_ring taken size all).unreaped c first).ends))
 
+short_plain : (result : Polled) → IsProp (IsShortIfAcked result)
+short_plain (Acked c len) = le_prop
+short_plain Nothing = λ x y. refl
+short_plain Posted = λ x y. refl
+short_plain (Fault o) = λ x y. refl
+
 -- a poll of the ring that the card has
 pub its_poll : (v : OpenChain) (was ring : Queue) → was ≡ ring → (space : Space) (given : List ℕ) (new : Around) (result : Polled) → HasPolled (record { chain = v; ring = was; space = space; out = given }) new result → HasPolled (record { chain = v; ring = ring; space = space; out = given }) new result
 its_poll v was ring same space given new result polled = subst (λ (q : Queue). HasPolled (record { chain = v; ring = q; space = space; out = given }) new result) same polled
@@ -123,6 +130,11 @@ module _ (frames : ℕ) (before after : List (Option StorageCard)) (key : ℕ) (
       polled_long old_space.taken old new result right (its_ring frames before key one v logs there log old_space.taken size g)
       (subst (λ (o : Option OpenChain). IfSome o (HasBuffersIn old_space.taken)) log (l key one there old_space.taken (sym size))) (s old_space.taken (sym size) key one there) refl polled)) (ℕ_set (length new_space.taken) (length old_space.taken)) (λ e. e)
 
+  pub still_short : frames ≡ length old_space.taken → IsShortIfAcked result
+  still_short size = ∥∥₁_elim (all_of (IsShortIfAcked result) (λ s l g.
+      polled_short old_space.taken old new result right (its_ring frames before key one v logs there log old_space.taken size g)
+      (subst (λ (o : Option OpenChain). IfSome o (HasBuffersIn old_space.taken)) log (l key one there old_space.taken (sym size))) (s old_space.taken (sym size) key one there) polled)) (short_plain result) (λ e. e)
+
   module _ (changes : Changes before after key (Some (with_polled ring w one))) where
     pub still_sound : ∥ AreSound frames after ∥₁
     still_sound = all_of (AreSound frames after) (λ s l g. sound_set frames before after key (with_polled ring w one) changes (λ taken long. (kept taken (sym long) s l g).sound) s)
@@ -139,5 +151,5 @@ module _ (frames : ℕ) (before after : List (Option StorageCard)) (key : ℕ) (
       (record { ring = ring; log = w; right = then; card = changes_set before key one (with_polled ring w one) there; polled = polled })
 
 -- The areas that are bound to the cards stay.
-pub polled_bound : (areas : AreaList) (before after : List (Option StorageCard)) (key : ℕ) → ∥ AreBound areas before ∥₁ → IsOpenAt before key → (old new : Space) (given out : List ℕ) (result : Polled) → OfLogAt before key (λ one v. HasPolledOn before after key one v old new given out result) → ∥ AreBound areas after ∥₁
-polled_bound areas before after key all on old new given out result polled = let its = polled on.one on.chain on.there on.log in bound_same areas before after key all on.one on.there (with_polled its.ring its.log on.one) its.card refl
+pub polled_bound : (areas : AreaList) (before after : List (Option StorageCard)) (key : ℕ) → ∥ AreBound areas before ∥₁ → IsOpenAt before key → (was then : Space) (given out : List ℕ) (result : Polled) → OfLogAt before key (λ one v. HasPolledOn before after key one v was then given out result) → ∥ AreBound areas after ∥₁
+polled_bound areas before after key all on was then given out result polled = let its = polled on.one on.chain on.there on.log in bound_same areas before after key all on.one on.there (with_polled its.ring its.log on.one) its.card refl

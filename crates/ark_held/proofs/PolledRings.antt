@@ -19,15 +19,17 @@ use Rattle.ark_log.specs.Acked.{acknowledged}
 use Rattle.ark_log.specs.Closed as given
 use Rattle.ark_log.specs.Closed.{HasBuffersIn, given_back}
 use Rattle.ark_log.specs.Open.{IsRight, OpenChain}
-use Rattle.ark_log.specs.Polled.{Around, GoesOn, HasPolled, IsAcked, IsPosted, MayEnd, ended, failed_with, reaped, returned_at, stage_of}
+use Rattle.ark_log.specs.Polled.{Around, GoesOn, HasPolled, given_len, IsAcked, IsPosted, MayEnd, ended, failed_with, reaped, returned_at, stage_of}
 use Rattle.ark_log.specs.Stages.{HasEntryBuffer, IsPrepared, IsWhole, oldest, oldest_in, posting_of, stage_with, stages_of}
 use Rattle.ark_log.proofs.Ended.{ended_lies, ended_whole, posted_ends}
+use Rattle.ark_log.proofs.Lent.{oldest_has}
 use Rattle.ark_log.proofs.Whole.{whole_acknowledged}
 use Rattle.ark_running.proofs.Acks.{given_long}
 use Rattle.ark_running.proofs.Bounds.{has_entry, its_entry}
 use Rattle.ark_running.proofs.Like.{right_done, right_stage, stage_is}
 use Rattle.ark_running.proofs.Posts.{long_stage, some_blocks}
 use Rattle.ark_held.specs.LogRings.{IsLogRing, IsWithStage}
+use Rattle.ark_held.specs.Polling.{IsShortIfAcked}
 use Rattle.ark_held.specs.Rings.{IsSoundRing}
 use Rattle.ark_held.proofs.Lists.{some_same}
 use Rattle.ark_held.proofs.LogRings.{free_ring}
@@ -157,6 +159,15 @@ module _ (taken : List Bool) where
     goes_kept (Some s) at goes = (posts s old.chain.waiting refl at goes).0
     goes_kept None at goes = acks goes
 
+    goes_short : (s : Option Stage) → GoesOn s old new result → IsShortIfAcked result
+    goes_short (Some s) goes = subst IsShortIfAcked (sym goes.answer) tt
+    goes_short None goes = subst IsShortIfAcked (sym goes.answer) (by (oldest old.chain).command)
+      where
+        by : (c : Command) → given_len c (oldest old.chain).len ≤ 32768
+        by (Append n) = omega arith
+        by (Trim n) = omega arith
+        by (Pop n) = (oldest_has old.chain right some).0
+
     goes_long : taken ≡ old.space.taken → (s : Option Stage) → stage_of old.chain ≡ s → GoesOn s old new result → length new.space.taken ≡ length old.space.taken
     goes_long is (Some s) at goes = ap (λ (t : List Bool). length t) (posts s old.chain.waiting refl at goes).1
     goes_long is None at goes =
@@ -206,6 +217,18 @@ module _ (taken : List Bool) where
           lies = lies_failed old.chain buf right its;
           sound = sound_reaped taken old.ring (reaped old.ring) refl sound;
         })
+    ]
+
+    pub polled_short : HasPolled old new result → IsShortIfAcked result
+    polled_short (inl nothing) = subst IsShortIfAcked (sym nothing.answer) tt
+    polled_short (inr (inl begun)) = goes_short old new result right begun.some (whole_by begun.posted begun.unreaped) lies sound begun.posted begun.unreaped (stage_of old.chain) begun.goes
+    polled_short (inr (inr e)) = elim e.ends [
+      | inl well ↦
+        let its = ring.unreaped e.ending e.first in
+        let buf = e.ending.buf in
+        goes_short (record old { chain = ended old.chain buf; ring = reaped old.ring }) new result (right_ended old.chain buf right its) (some_ended old.chain buf right its)
+        (ended_whole old.chain taken buf its.ends) (ended_lies old.chain taken buf its.ends) (sound_reaped taken old.ring (reaped old.ring) refl sound) e.posted (left e.ending e.first) (stage_of (ended old.chain buf)) well.goes
+      | inr badly ↦ subst IsShortIfAcked (sym badly.answer) tt
     ]
 
     pub polled_long : taken ≡ old.space.taken → HasPolled old new result → length new.space.taken ≡ length old.space.taken

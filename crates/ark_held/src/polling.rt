@@ -2,7 +2,7 @@
 ghost use Rattle.std.specs.Prelude.{◌≡◌, ◌≤◌, length};
 ghost use Rattle.ark_objects.specs.Held.{held};
 ghost use Rattle.ark_held.specs.Closing.{IsOpenAt, OfLogAt};
-ghost use Rattle.ark_held.specs.Polling.{HasPolledOn};
+ghost use Rattle.ark_held.specs.Polling.{HasPolledOn, IsShortIfAcked};
 
 use crate::app::App;
 use crate::devices::Devices;
@@ -18,6 +18,7 @@ impl Devices {
         requires room { 32768 ≤ length out.old }
         ensures polled { OfLogAt self.old.cards key (λ one v. HasPolledOn self.old.cards
             self.new.cards key one v region.old region.new out.old out.new result) }
+        ensures short { IsShortIfAcked result }
         ensures length { length region.new.taken ≡ length region.old.taken }
         ensures held { held self.new.cards ≡ held self.old.cards }
         ensures doors { self.new.doors ≡ self.old.doors }
@@ -44,6 +45,7 @@ impl App {
         ensures polled { OfLogAt self.old.devices.cards key (λ one v. HasPolledOn
             self.old.devices.cards self.new.devices.cards key one v self.old.store.region
             self.new.store.region out.old out.new result) }
+        ensures short { IsShortIfAcked result }
         ensures length { length self.new.store.region.taken ≡ length self.old.store.region.taken }
         ensures buffers { self.new.store.buffers ≡ self.old.store.buffers }
         ensures labels { self.new.labels ≡ self.old.labels }

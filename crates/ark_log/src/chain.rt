@@ -99,6 +99,13 @@ impl Chain {
         self.waiting.len() as u32
     }
 
+    /// Whether it is a log or a queue.
+    pub fn kind(&self) -> Kind
+        ensures { result ≡ self.now.kind }
+    {
+        self.kind
+    }
+
     /// The grant of its area.
     pub fn grant(&self) -> u64
         ensures { result ≡ self.now.grant }

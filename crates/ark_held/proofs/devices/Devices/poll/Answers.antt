@@ -4,7 +4,7 @@ use Rattle.std.specs.Prelude.{Some, slice_get}
 use Rattle.ark_held.specs.Polling.{with_polled}
 use Rattle.ark_held.proofs.CardLogs.{lies_at}
 use Rattle.ark_held.proofs.Keyed.{changes_set}
-use Rattle.ark_held.proofs.PolledCards.{has_room, is_alone, is_whole, its_poll, may_end, polled_on, still_lie, still_logs, still_long, still_sound}
+use Rattle.ark_held.proofs.PolledCards.{has_room, is_alone, is_whole, its_poll, may_end, polled_on, still_lie, still_logs, still_long, still_short, still_sound}
 use Rattle.ark_held.proofs.devices.Devices.poll.Goals as goal
 
 pub poll-polled-requires : goal.poll-polled-requires
@@ -45,3 +45,9 @@ returns-clause-polled c =
     let app = c.args.self.now in
     polled_on app.frames app.cards app.cards c.args.key c.at_mut-card.result.now c.in-Some.chain _ _ _ _ _ _ _ app.sound app.lie app.logs (sym c.at_mut-card.ensures.value) c.in-Some.is c.is_right.ensures
     (its_poll c.in-Some.chain c.ring_mut.result.now c.at_mut-card.result.now.vsic.ring c.ring_mut.ensures.value c.args.region.now c.args.out.now _ c.poll-polled.result c.poll-polled.ensures) c.is_right-2.ensures
+
+pub returns-clause-short : goal.returns-clause-short
+returns-clause-short c =
+    let app = c.args.self.now in
+    still_short app.frames app.cards app.cards c.args.key c.at_mut-card.result.now c.in-Some.chain _ _ _ _ _ _ _ app.sound app.lie app.logs (sym c.at_mut-card.ensures.value) c.in-Some.is c.is_right.ensures
+    (its_poll c.in-Some.chain c.ring_mut.result.now c.at_mut-card.result.now.vsic.ring c.ring_mut.ensures.value c.args.region.now c.args.out.now _ c.poll-polled.result c.poll-polled.ensures) c.requires.size
