@@ -55,14 +55,15 @@ use Rattle.ark_held.proofs.Without.{one_fewer, without_none}
 use Rattle.ark_held.proofs.Dropped.{IsClosed, dropped, synced_given_up, synced_at}
 use Rattle.ark_held.specs.declared.app.App.{App}
 use Rattle.ark_host.specs.declared.host.Host.{Host}
-use Rattle.ark_host.specs.Tabled.{table_of, LeavesObject, TableStands, StandsBeside, slot_count}
+use Rattle.ark_plane.specs.Tables.{table_of, slot_count}
+use Rattle.ark_host.specs.Tabled.{LeavesObject, TableStands, StandsBeside}
 use Rattle.ark_machine.specs.Told.{own_slots}
 use Rattle.ark_host.specs.Stored.{stored_slots}
 use Rattle.ark_host.proofs.Storing.{own_set}
-use Rattle.ark_host.proofs.Tabling.{area_there}
+use Rattle.ark_plane.proofs.Tabling.{area_there}
 use Rattle.ark_host.specs.Stands.{Stands, RowDone, IsHeld, MayGo, AreNamed, AtApp, around, app_of, area_count, drop_row}
-use Rattle.ark_host.proofs.Machines.{by_test}
-use Rattle.ark_host.proofs.Lists.{first_found}
+use Rattle.ark_plane.proofs.Tests.{by_test}
+use Rattle.ark_plane.proofs.Lists.{first_found}
 use Rattle.ark_host.proofs.Standing.{slot_names, slot_based, slot_data}
 use Rattle.ark_host.proofs.Setting.{with_set, set_apps, set_now, set_here}
 use Rattle.ark_host.proofs.Apps.{held_there}
@@ -70,8 +71,8 @@ use Rattle.ark_host.proofs.Granted.{synced_made, synced_now}
 use Rattle.ark_host.proofs.Staying.{left_stays}
 use Rattle.ark_host.proofs.Placing.{names_set, set_at}
 use Rattle.ark_host.proofs.Planned.{ended_sync, made_fault, made_sync, made_beside, writes_at, syncs_at, step}
-use Rattle.ark_host.proofs.Removed.{fits, stayed, rest_agrees, front_agrees, front_table, rest_table, counted_front, name_gone, name_stays}
-use Rattle.ark_host.proofs.Given.{given_free}
+use Rattle.ark_plane.proofs.Removed.{fits, stayed, rest_agrees, front_agrees, front_table, rest_table, counted_front, name_gone, name_stays}
+use Rattle.ark_plane.proofs.Given.{given_free}
 use Rattle.ark_host.proofs.Dropping.{HoldsArea, under_as, done_row, fault_row, drop_begins}
 use Rattle.ark_caps.specs.declared.capability.Capability.{Capability}
 

@@ -37,7 +37,7 @@ use Rattle.ark_held.specs.Words.{slot_under}
 use Rattle.ark_held.proofs.Members.{contains_in}
 use Rattle.ark_held.specs.declared.app.App.{App}
 use Rattle.ark_host.specs.declared.host.Host.{Host}
-use Rattle.ark_host.specs.Tabled.{table_of}
+use Rattle.ark_plane.specs.Tables.{table_of}
 use Rattle.ark_host.specs.Stands.{Stands, Stood, Steps, RowDone, LineDone, IsHeld, IsHeldBack, IsEarly, IsItsOwn, MayGo, drop_row}
 use Rattle.ark_host.proofs.Standing.{refused, same_apps, slot_fits}
 use Rattle.ark_host.proofs.Apps.{not_made, held_there}
@@ -47,7 +47,7 @@ use Rattle.ark_held.proofs.Unbound.{LosesArea}
 use Rattle.ark_host.proofs.Contents.{logs_open}
 use Rattle.ark_host.proofs.Recovering.{removed_fronts}
 use Rattle.ark_host.proofs.Stepping.{early_enough}
-use Rattle.ark_host.proofs.Tabling.{area_there}
+use Rattle.ark_plane.proofs.Tabling.{area_there}
 use Rattle.ark_host.proofs.Dropping.{HoldsArea, Under, HeldBack, under_as, drop_unmade, drop_missing, drop_failed, drop_busy}
 use Rattle.ark_host.proofs.Dropped.{slot, slot_held, agree, begins, goes, beside, drop_lost, drop_done}
 

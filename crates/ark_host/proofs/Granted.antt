@@ -61,16 +61,17 @@ use Rattle.ark_held.proofs.Granted.{IsNewArea, granted, slot_other}
 use Rattle.ark_held.proofs.Doing.{same_tables}
 use Rattle.ark_held.specs.declared.app.App.{App}
 use Rattle.ark_host.specs.declared.host.Host.{Host}
-use Rattle.ark_host.specs.Tabled.{table_of, TableStands, StandsBeside, slot_count}
+use Rattle.ark_plane.specs.Tables.{table_of, slot_count}
+use Rattle.ark_host.specs.Tabled.{TableStands, StandsBeside}
 use Rattle.ark_host.specs.Stored.{stored_slots}
 use Rattle.ark_host.specs.Stands.{Stands, RowDone, IsHeld, IsAdmitted, AreNamed, around, app_of, area_count, vsa_row}
-use Rattle.ark_host.proofs.Machines.{bytes_eq-same, by_test}
+use Rattle.ark_plane.proofs.Tests.{bytes_eq-same, by_test}
 use Rattle.ark_held.proofs.Members.{in_contains}
-use Rattle.ark_host.proofs.Lists.{first_found}
-use Rattle.ark_host.proofs.Sharing.{has}
-use Rattle.ark_host.proofs.Freeing.{free_after}
+use Rattle.ark_plane.proofs.Lists.{first_found}
+use Rattle.ark_plane.proofs.Sharing.{has}
+use Rattle.ark_plane.proofs.Freeing.{free_after}
 use Rattle.ark_host.proofs.Storing.{own_set}
-use Rattle.ark_host.proofs.Tabling.{free_at, slot_there, table_more, table_size, owned_counted, count_more}
+use Rattle.ark_plane.proofs.Tabling.{free_at, slot_there, table_more, table_size, owned_counted, count_more}
 use Rattle.ark_host.proofs.Standing.{slot_names, slot_based, slot_data}
 use Rattle.ark_host.proofs.Setting.{with_set, set_apps, set_now, set_here}
 use Rattle.ark_host.proofs.Apps.{held_there}

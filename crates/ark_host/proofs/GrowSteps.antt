@@ -40,7 +40,7 @@ use Rattle.ark_host.specs.declared.host.Host.{Host}
 use Rattle.ark_host.specs.declared.host.grow.Growth.{Growth}
 use Rattle.ark_host.specs.Stands.{Stands, Stood, RowDone, LineDone, Steps, IsHeld, IsEarly, around}
 use Rattle.ark_host.specs.Growing.{grow_row, IsGrowRefused, MayGrow}
-use Rattle.ark_host.proofs.Machines.{by_test}
+use Rattle.ark_plane.proofs.Tests.{by_test}
 use Rattle.ark_host.proofs.Standing.{refused, same_apps, slot_fits}
 use Rattle.ark_host.proofs.Apps.{not_made, held_there}
 use Rattle.ark_host.proofs.Lifting.{quiet_steps}

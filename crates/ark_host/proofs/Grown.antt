@@ -61,17 +61,18 @@ use Rattle.ark_held.specs.declared.areas.Area.{Area as Kept}
 use Rattle.ark_own.proofs.OfGrants.{IsGrantOf}
 use Rattle.ark_host.specs.declared.host.Host.{Host}
 use Rattle.ark_host.specs.declared.host.grow.Growth.{Growth}
-use Rattle.ark_host.specs.Tabled.{table_of, with_longer, TableStands, StandsBeside, slot_count}
+use Rattle.ark_plane.specs.Tables.{table_of, with_longer, slot_count}
+use Rattle.ark_host.specs.Tabled.{TableStands, StandsBeside}
 use Rattle.ark_host.specs.Stored.{stored_slots}
 use Rattle.ark_host.specs.Stands.{Stands, RowDone, IsHeld, AreNamed, around, app_of, area_count}
 use Rattle.ark_host.specs.Growing.{grow_row, MayGrow}
-use Rattle.ark_host.proofs.Machines.{by_test}
-use Rattle.ark_host.proofs.Lists.{first_found}
-use Rattle.ark_host.proofs.Sharing.{has, one_slot}
-use Rattle.ark_host.proofs.Freeing.{free_without}
+use Rattle.ark_plane.proofs.Tests.{by_test}
+use Rattle.ark_plane.proofs.Lists.{first_found}
+use Rattle.ark_plane.proofs.Sharing.{has, one_slot}
+use Rattle.ark_plane.proofs.Freeing.{free_without}
 use Rattle.ark_host.proofs.Storing.{own_set}
-use Rattle.ark_host.proofs.Tabling.{slot_there, area_there, table_size, fit_in}
-use Rattle.ark_host.proofs.Lengthened.{longer, its_longer, one_index, in_map, of_map, area_longer, find_longer, count_longer, granted_longer}
+use Rattle.ark_plane.proofs.Tabling.{slot_there, area_there, table_size, fit_in}
+use Rattle.ark_plane.proofs.Lengthened.{longer, its_longer, one_index, in_map, of_map, area_longer, find_longer, count_longer, granted_longer}
 use Rattle.ark_host.proofs.Standing.{slot_names, slot_based, slot_data, slot_fits}
 use Rattle.ark_host.proofs.Setting.{with_set, set_apps, set_now, set_here}
 use Rattle.ark_host.proofs.Fronts.{its_own, some_slot}

@@ -11,11 +11,12 @@ use Rattle.ark_held.specs.Words.{AreaList, added_to, with_area, without_area, wi
 use Rattle.ark_held.specs.declared.app.App.{App}
 use Rattle.ark_held.specs.declared.areas.Area.{Area}
 use Rattle.ark_own.proofs.OfGrants.{below_grant}
-use Rattle.ark_host.specs.Inside.{IsInside, IsShared}
-use Rattle.ark_host.specs.Tabled.{table_of}
-use Rattle.ark_host.proofs.Shared.{fresh_shared, failed_shared}
+use Rattle.ark_plane.specs.Shared.{IsShared}
+use Rattle.ark_host.specs.Inside.{IsInside}
+use Rattle.ark_plane.specs.Tables.{table_of}
+use Rattle.ark_plane.proofs.Shared.{fresh_shared, failed_shared}
 use Rattle.ark_host.specs.declared.host.Host.{Host}
-use Rattle.ark_host.proofs.Machines.{by_test}
+use Rattle.ark_plane.proofs.Tests.{by_test}
 
 module _ (size : ℕ) where
   abbrev Below : List ℕ → Type 0
@@ -148,3 +149,14 @@ module _ (size : ℕ) where
       let areas : AreasInside size app.areas = subst (λ (x : App). AreasInside size x.areas) at (All-get_or (λ x. AreasInside size x.areas) host.apps.items place app lt inside.2) in
       subst (λ (xs : List ℕ). Below xs) (sym joined)
       (All-append (λ n. n < size) a.spans more (below_grant size app.labels app.areas l (g, a) areas found) (subst (λ (xs : List ℕ). Below xs) (sym is) (All-take (λ n. n < size) blocks host.free inside.3)))
+
+-- Of a host that was loaded, all that is granted and free lies on the device.
+pub loaded_inside : (size : ℕ) (apps : List App) (free : List ℕ) (table : Table) → 130 ≤ size → size ≤ 1048576 → apps ≡ [] → IsUnused size table free → IsShared size table free false
+    → (130 ≤ size) × (size ≤ 1048576) × All (λ app. AreasInside size app.areas) apps × All (λ n. n < size) free × IsShared size table free false
+loaded_inside size apps free table low high none is inside = (
+  low,
+  high,
+  subst (λ (xs : List App). All (λ app. AreasInside size app.areas) xs) (sym none) (λ k d lt. absurd (omega (arith, lt))),
+  λ k d lt. (let r = contains_range 129 (size - 129) (get_or free k d) ((is (get_or free k d)).0 (k, lt, get_or_default free k (get_or free k d) d lt)).0 in omega (arith, r, low)),
+  inside,
+)

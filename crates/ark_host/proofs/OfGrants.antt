@@ -18,11 +18,11 @@ use Rattle.ark_held.specs.declared.app.App.{App}
 use Rattle.ark_held.specs.declared.areas.Area.{Area as Kept}
 use Rattle.ark_own.proofs.OfGrants.{IsGrantOf, Lacks, finds_grant}
 use Rattle.ark_host.specs.declared.host.Host.{Host}
-use Rattle.ark_host.specs.Tabled.{table_of}
+use Rattle.ark_plane.specs.Tables.{table_of}
 use Rattle.ark_host.specs.Stands.{Stands, IsHeld, around}
-use Rattle.ark_host.proofs.Machines.{by_test}
-use Rattle.ark_host.proofs.Tabling.{area_there}
-use Rattle.ark_host.proofs.Sharing.{has}
+use Rattle.ark_plane.proofs.Tests.{by_test}
+use Rattle.ark_plane.proofs.Tabling.{area_there}
+use Rattle.ark_plane.proofs.Sharing.{has}
 use Rattle.ark_host.proofs.Standing.{slot_names}
 use Rattle.ark_host.proofs.Fronts.{its_own}
 

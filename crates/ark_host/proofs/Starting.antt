@@ -42,14 +42,15 @@ use Rattle.ark_held.proofs.Lists.{same_name, name_same}
 use Rattle.ark_held.proofs.Members.{In, contains_in}
 use Rattle.ark_held.specs.declared.app.App.{App}
 use Rattle.ark_host.specs.declared.host.Host.{Host}
-use Rattle.ark_host.specs.Tabled.{table_of, slot_count}
+use Rattle.ark_plane.specs.Tables.{table_of, slot_count}
 use Rattle.ark_host.specs.Stored.{IsStoredArea, AllStored, HoldsStored, stored_slots}
 use Rattle.ark_host.specs.Stands.{IsUnmade, AtApp, app_of, area_count}
-use Rattle.ark_host.specs.Loaded.{as_found, IsUnused, StandsLoaded, IsLoaded}
-use Rattle.ark_host.proofs.Machines.{by_test}
-use Rattle.ark_host.proofs.Lists.{find_in, in_select}
-use Rattle.ark_host.proofs.Entries.{table_again, free_same}
-use Rattle.ark_host.proofs.Tabling.{none_some, same_some, of_table, fit_in, owned_counted}
+use Rattle.ark_plane.specs.Loading.{IsUnused}
+use Rattle.ark_host.specs.Loaded.{as_found, StandsLoaded, IsLoaded}
+use Rattle.ark_plane.proofs.Tests.{by_test}
+use Rattle.ark_plane.proofs.Lists.{find_in, in_select}
+use Rattle.ark_plane.proofs.Entries.{table_again, free_same}
+use Rattle.ark_plane.proofs.Tabling.{none_some, same_some, of_table, fit_in, owned_counted}
 
 -- Reads change nothing.
 

@@ -6,7 +6,7 @@ use Rattle.ark_table.specs.Stated.{stated}
 use Rattle.ark_host.proofs.GivingUp.{steps_back, back_gone, back_zero, steps_gone, steps_gone_lost}
 use Rattle.ark_host.proofs.InDevice.{gone_inside, given_below}
 use Rattle.ark_host.proofs.Placing.{app_there}
-use Rattle.ark_host.proofs.Shared.{used_high, give_room, give_taken, spans_inside, lost_shared, given_shared}
+use Rattle.ark_plane.proofs.Shared.{used_high, give_room, give_taken, spans_inside, lost_shared, given_shared}
 use Rattle.ark_host.proofs.host.Host.drop_area.Goals as goal
 
 pub returns-in_default-clause-answers : goal.returns-in_default-clause-answers

@@ -4,7 +4,7 @@ use Rattle.std.specs.Prelude.{bytes_eq}
 use Rattle.ark_host.proofs.Placing.{app_there}
 use Rattle.ark_host.proofs.GrowSteps.{grow_refused, lost_steps, done_steps}
 use Rattle.ark_host.proofs.InDevice.{grown_inside, taken_inside, grant_inside}
-use Rattle.ark_host.proofs.Shared.{grown_shared}
+use Rattle.ark_plane.proofs.Shared.{grown_shared}
 use Rattle.ark_host.proofs.host.Host.grow.Goals as goal
 
 pub returns-in-Err-clause-answers : goal.returns-in-Err-clause-answers

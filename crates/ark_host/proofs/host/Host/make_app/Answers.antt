@@ -5,7 +5,7 @@ use Rattle.ark_held.specs.declared.app.App.{App}
 use Rattle.ark_host.specs.Given.{HasGiven}
 use Rattle.ark_host.proofs.Apps.{app_taken, app_limited, app_lacking, app_made}
 use Rattle.ark_host.proofs.InDevice.{app_inside}
-use Rattle.ark_host.proofs.LoadedShared.{shared_inside}
+use Rattle.ark_plane.proofs.LoadedShared.{shared_inside}
 use Rattle.ark_host.proofs.host.Host.make_app.Goals as goal
 
 pub returns-then-is_some-clause-turned : goal.returns-then-is_some-clause-turned

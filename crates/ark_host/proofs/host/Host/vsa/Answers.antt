@@ -13,7 +13,7 @@ use Rattle.ark_host.proofs.Placing.{app_there}
 use Rattle.ark_host.proofs.Stepping.{steps_refused, refused_scattered, steps_lost, steps_granted, granting_of}
 use Rattle.ark_host.proofs.Granting.{few_from}
 use Rattle.ark_host.proofs.InDevice.{granted_inside, taken_inside}
-use Rattle.ark_host.proofs.Shared.{granted_shared}
+use Rattle.ark_plane.proofs.Shared.{granted_shared}
 use Rattle.ark_host.proofs.host.Host.vsa.Goals as goal
 
 pub overflow_cast-blocks : goal.overflow_cast-blocks

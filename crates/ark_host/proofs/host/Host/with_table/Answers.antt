@@ -1,5 +1,5 @@
 use Rattle.std.proofs.Common.{refl}
-use Rattle.ark_host.proofs.Loading.{loaded_inside}
+use Rattle.ark_plane.proofs.Unused.{loaded_inside}
 use Rattle.ark_host.proofs.Starting.{loaded_stands}
 use Rattle.ark_host.proofs.host.Host.with_table.Goals as goal
 

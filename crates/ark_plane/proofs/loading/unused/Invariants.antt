@@ -1,6 +1,6 @@
 use Rattle.std.proofs.Common.{take}
-use Rattle.ark_host.specs.Loaded.{IsUnused, AreApartOn}
-use Rattle.ark_host.proofs.host.loading.unused.Given as goal
+use Rattle.ark_plane.specs.Loading.{IsUnused, AreApartOn}
+use Rattle.ark_plane.proofs.loading.unused.Given as goal
 
 abbrev pub invariant-loop-place : goal.invariant-loop-place
 invariant-loop-place l = record {

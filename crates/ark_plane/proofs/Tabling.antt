@@ -14,7 +14,7 @@ use Rattle.ark_machine.specs.Plane.{free_slot_from}
 use Rattle.ark_machine.specs.Grants.{has_index, SlotFits, SlotsFit, SlotsApart, SlotsAgree}
 use Rattle.ark_held.specs.Totals.{bit}
 use Rattle.ark_held.proofs.Members.{In, contains_in, in_contains}
-use Rattle.ark_host.specs.Tabled.{table_of, slot_count}
+use Rattle.ark_plane.specs.Tables.{table_of, slot_count}
 
 pub same_some : {X : Type 0} (x y : X) → Some x ≡ Some y → x ≡ y
 same_some x y e = ap (λ o. unwrap_or o x) e

@@ -14,10 +14,10 @@ use Rattle.ark_machine.specs.Grants.{has_block, has_index, SlotFits, SlotsFit, S
 use Rattle.ark_machine.proofs.Grants.{or_false}
 use Rattle.ark_held.specs.Totals.{bit}
 use Rattle.ark_held.proofs.Members.{In, get_has}
-use Rattle.ark_host.specs.Tabled.{table_of, slot_count}
-use Rattle.ark_host.proofs.Machines.{by_test}
-use Rattle.ark_host.proofs.Freeing.{eq_same}
-use Rattle.ark_host.proofs.Tabling.{low, has_in, set_swap}
+use Rattle.ark_plane.specs.Tables.{table_of, slot_count}
+use Rattle.ark_plane.proofs.Tests.{by_test}
+use Rattle.ark_plane.proofs.Freeing.{eq_same}
+use Rattle.ark_plane.proofs.Tabling.{low, has_in, set_swap}
 
 -- two slots of one index are the same
 pub one_index : (slots : List Slot) (t u : Slot) → SlotsApart slots → In slots t → In slots u → t.index ≡ u.index → t ≡ u

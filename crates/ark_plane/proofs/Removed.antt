@@ -13,12 +13,12 @@ use Rattle.ark_machine.specs.Grants.{has_block, has_index, SlotFits, SlotsFit, S
 use Rattle.ark_machine.proofs.Grants.{dropped_apart}
 use Rattle.ark_held.specs.Totals.{bit}
 use Rattle.ark_held.proofs.Members.{In, contains_in, in_contains}
-use Rattle.ark_host.specs.Inside.{slots_on}
-use Rattle.ark_host.specs.Tabled.{table_of, slot_count}
-use Rattle.ark_host.proofs.Machines.{by_test}
-use Rattle.ark_host.proofs.Lists.{in_select}
-use Rattle.ark_host.proofs.Sharing.{same_slot}
-use Rattle.ark_host.proofs.Tabling.{has_in, fit_in, free_at, table_size, set_swap}
+use Rattle.ark_plane.specs.Shared.{slots_on}
+use Rattle.ark_plane.specs.Tables.{table_of, slot_count}
+use Rattle.ark_plane.proofs.Tests.{by_test}
+use Rattle.ark_plane.proofs.Lists.{in_select}
+use Rattle.ark_plane.proofs.Sharing.{same_slot}
+use Rattle.ark_plane.proofs.Tabling.{has_in, fit_in, free_at, table_size, set_swap}
 
 -- Tests of lists.
 

@@ -16,12 +16,12 @@ use Rattle.ark_machine.specs.Plane.{is_granted, max_runs}
 use Rattle.ark_machine.specs.Grants.{has_block, has_index, SlotsFit, SlotsApart, SlotsAgree}
 use Rattle.ark_machine.proofs.Grants.{or_both}
 use Rattle.ark_held.proofs.Members.{contains_in}
-use Rattle.ark_host.specs.Inside.{IsShared, TableInside}
-use Rattle.ark_host.specs.Loaded.{IsUnused, TakesEntry, IsSpelled, SpellsEntry, AreApartOn}
-use Rattle.ark_host.proofs.Machines.{by_test}
-use Rattle.ark_host.proofs.Tabling.{none_some, same_some, of_table, slot_there, fit_in}
-use Rattle.ark_host.proofs.Loading.{front_entry, entry_front, entry}
-use Rattle.ark_host.proofs.Entries.{block_in, table_again, free_same}
+use Rattle.ark_plane.specs.Shared.{IsShared, TableInside}
+use Rattle.ark_plane.specs.Loading.{IsUnused, TakesEntry, IsSpelled, SpellsEntry, AreApartOn}
+use Rattle.ark_plane.proofs.Tests.{by_test}
+use Rattle.ark_plane.proofs.Tabling.{none_some, same_some, of_table, slot_there, fit_in}
+use Rattle.ark_plane.proofs.Unused.{front_entry, entry_front, entry}
+use Rattle.ark_plane.proofs.Entries.{block_in, table_again, free_same}
 
 -- One entry more.
 

@@ -11,12 +11,12 @@ use Rattle.ark_machine.specs.Plane.{is_granted, free_blocks}
 use Rattle.ark_machine.specs.Granting.{without_slot}
 use Rattle.ark_machine.specs.Grants.{has_block, SlotsAgree}
 use Rattle.ark_held.proofs.Members.{In, contains_in, in_contains}
-use Rattle.ark_host.specs.Inside.{slots_on}
-use Rattle.ark_host.proofs.Machines.{by_test}
-use Rattle.ark_host.proofs.Lists.{any_in, in_select}
-use Rattle.ark_host.proofs.Sharing.{has}
-use Rattle.ark_host.proofs.Freeing.{Rises, rising}
-use Rattle.ark_host.proofs.Removed.{any_found, in_selected, fits, not_granted, granted_front, stayed}
+use Rattle.ark_plane.specs.Shared.{slots_on}
+use Rattle.ark_plane.proofs.Tests.{by_test}
+use Rattle.ark_plane.proofs.Lists.{any_in, in_select}
+use Rattle.ark_plane.proofs.Sharing.{has}
+use Rattle.ark_plane.proofs.Freeing.{Rises, rising}
+use Rattle.ark_plane.proofs.Removed.{any_found, in_selected, fits, not_granted, granted_front, stayed}
 
 -- Lists that rise are the same where their members are.
 

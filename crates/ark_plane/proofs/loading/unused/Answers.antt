@@ -1,10 +1,10 @@
 use Rattle.std.proofs.Common.{rules, ◌≡◌, ◌+◌, ◌∙◌, ℕ, List, ap, sym, subst, arith, take, length}
 use Rattle.std.proofs.Math.Seq.{take-length}
 use Rattle.ark_table.specs.Standing.{Table}
-use Rattle.ark_host.specs.Loaded.{IsUnused, AreApartOn}
-use Rattle.ark_host.proofs.Loading.{unused_first, entry_unused, entry_misfit}
-use Rattle.ark_host.proofs.LoadedShared.{apart_first, entry_apart, loaded_shared}
-use Rattle.ark_host.proofs.host.loading.unused.Goals as goal
+use Rattle.ark_plane.specs.Loading.{IsUnused, AreApartOn}
+use Rattle.ark_plane.proofs.Unused.{unused_first, entry_unused, entry_misfit}
+use Rattle.ark_plane.proofs.LoadedShared.{apart_first, entry_apart, loaded_shared}
+use Rattle.ark_plane.proofs.loading.unused.Goals as goal
 
 pub loop-place-init : goal.loop-place-init
 loop-place-init c = record {

@@ -18,14 +18,12 @@ use Rattle.ark_table.specs.Standing.{Table, slot_in}
 use Rattle.ark_table.proofs.Tables.{table_is_read}
 use Rattle.ark_table.proofs.Front.{same_fault}
 use Rattle.ark_laws.proofs.Stored.{stored_apart}
-use Rattle.ark_held.specs.Inside.{AreasInside}
-use Rattle.ark_held.specs.declared.app.App.{App}
 use Rattle.ark_machine.specs.Grants.{SlotsAgree}
 use Rattle.ark_held.proofs.Members.{in_contains}
-use Rattle.ark_host.specs.Inside.{IsShared}
-use Rattle.ark_host.specs.Loaded.{IsOutside, IsUnused, TakesEntry, SpellsEntry, HasLost, FailsEntry, IsMisfit}
-use Rattle.ark_host.proofs.Tabling.{none_some, in_table, fit_in}
-use Rattle.ark_host.proofs.Sharing.{one_slot}
+use Rattle.ark_plane.specs.Shared.{IsShared}
+use Rattle.ark_plane.specs.Loading.{IsOutside, IsUnused, TakesEntry, SpellsEntry, HasLost, FailsEntry, IsMisfit}
+use Rattle.ark_plane.proofs.Tabling.{none_some, in_table, fit_in}
+use Rattle.ark_plane.proofs.Sharing.{one_slot}
 
 pub front_entry : (n : ℕ) (table : Table) (i : ℕ) (a : Area) → area_at (take n table) i ≡ Some a → (i < n) × (area_at table i ≡ Some a)
 front_entry zero table i a is = absurd (none_some a is)
@@ -138,17 +136,6 @@ module _ (size : ℕ) (table : Table) (k : ℕ) where
       by : (o : Option Area) → slot_in table (k + 1) ≡ o → HasLost o free → SlotsAgree size (slots_in 1 table) → ⊥
       by None at lost agree = lost
       by (Some a) at lost agree = lost (all_free size table k a (entry (Some a) at) free is agree)
-
--- Of a host that was loaded, all that is granted and free lies on the device.
-pub loaded_inside : (size : ℕ) (apps : List App) (free : List ℕ) (table : Table) → 130 ≤ size → size ≤ 1048576 → apps ≡ [] → IsUnused size table free → IsShared size table free false
-    → (130 ≤ size) × (size ≤ 1048576) × All (λ app. AreasInside size app.areas) apps × All (λ n. n < size) free × IsShared size table free false
-loaded_inside size apps free table low high none is inside = (
-  low,
-  high,
-  subst (λ (xs : List App). All (λ app. AreasInside size app.areas) xs) (sym none) (λ k d lt. absurd (omega (arith, lt))),
-  λ k d lt. (let r = contains_range 129 (size - 129) (get_or free k d) ((is (get_or free k d)).0 (k, lt, get_or_default free k (get_or free k d) d lt)).0 in omega (arith, r, low)),
-  inside,
-)
 
 -- a table that an image has fits the device
 pub no_misfit : {T : Type 0} (image : List (List ℕ)) (table : Table) (size bad : ℕ) (r : Result T LoadFault) → HasTable table image → length image ≡ size → IfErr r (λ e. IsMisfit size table e) → r ≡ Err (fault.Damaged bad) → ⊥

@@ -4,9 +4,9 @@ use Rattle.ark_media.proofs.Stopping.{length-current}
 use Rattle.ark_table.specs.declared.fault.LoadFault.{LoadFault}
 use Rattle.ark_table.specs.declared.fault.LoadFault.TheVariants.{Damaged}
 use Rattle.ark_table.proofs.Front.{not_device, too_small, too_large, same_fault, same_bad}
-use Rattle.ark_host.proofs.Loading.{no_misfit}
+use Rattle.ark_plane.proofs.Unused.{no_misfit}
 use Rattle.ark_host.proofs.Starting.{all_loaded}
-use Rattle.ark_host.proofs.host.Host.load.Goals as goal
+use Rattle.ark_plane.proofs.plane.Plane.load.Goals as goal
 
 pub returns-then-blocks-lt130-clause-damaged : goal.returns-then-blocks-lt130-clause-damaged
 returns-then-blocks-lt130-clause-damaged g c bad same h told =
@@ -14,11 +14,11 @@ returns-then-blocks-lt130-clause-damaged g c bad same h told =
     let long : length image ≡ c.blocks-blocks.result = length-current h.base h.journal ∙ g.met.D.Disk.size_is c.args.disk.now h told ∙ sym c.blocks-blocks.ensures in
     not_device image (⊎_elim (λ low. too_small image (omega (arith, low, long))) (λ high. too_large image (omega (arith, high.1, long))) c.then-blocks-lt130.either) ∙ ap (λ (b : ℕ). Err b) (same_bad 0 bad same)
 
-pub returns-in-Ok-clause-loaded : goal.returns-in-Ok-clause-loaded
-returns-in-Ok-clause-loaded g c =
+pub returns-in-Ok-clause-free : goal.returns-in-Ok-clause-free
+returns-in-Ok-clause-free g c =
     let w = c.in-Ok.ensures.went.went in
     let same = (g.met.D.Disk.goes_told c.args.disk.now c.load.new.disk w.events w.goes_on).blocks in
-    all_loaded (g.D.Disk.told c.load.new.disk) c.with_table.result c.blocks-blocks.result c.in-Ok.table (same ∙ sym c.blocks-blocks.ensures) (λ h told. g.met.D.Disk.size_is c.load.new.disk h told) c.in-Ok.ensures.table c.with_table.ensures.stands
+    loaded_on (g.D.Disk.told c.load.new.disk) c.with_table.result c.blocks-blocks.result c.in-Ok.table (same ∙ sym c.blocks-blocks.ensures) c.with_table.ensures.table c.with_table.ensures.free
 
 pub returns-in-Ok-clause-damaged : goal.returns-in-Ok-clause-damaged
 returns-in-Ok-clause-damaged g c bad same h told =

@@ -9,7 +9,7 @@ use Rattle.std.proofs.lemmas.Option.{slice_get_past}
 use Rattle.std.proofs.lemmas.List.Quantifiers.{position-Some}
 use Rattle.std.proofs.lemmas.List.Folds.{find_at}
 use Rattle.ark_held.proofs.Members.{In}
-use Rattle.ark_host.proofs.Machines.{by_test}
+use Rattle.ark_plane.proofs.Tests.{by_test}
 
 module _ {X : Type 0} (p : X → Bool) where
   pub find_in : (xs : List X) (t : X) → find p xs ≡ Some t → In xs t × (p t ≡ true)

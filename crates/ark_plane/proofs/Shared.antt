@@ -18,16 +18,16 @@ use Rattle.ark_machine.specs.Granting.{new_slot, with_more, without_slot}
 use Rattle.ark_machine.specs.Grants.{GrantsApart, has_index}
 use Rattle.ark_machine.proofs.Grants.{new_fits, makes_apart, grows_apart, free_index}
 use Rattle.ark_held.proofs.Members.{contains_in, in_contains}
-use Rattle.ark_host.specs.Inside.{slots_on, IsShared}
-use Rattle.ark_host.specs.Tabled.{table_of, with_longer}
-use Rattle.ark_host.proofs.Freeing.{free_after, free_without}
-use Rattle.ark_host.proofs.Machines.{by_test}
-use Rattle.ark_host.proofs.Lengthened.{longer, one_index, of_map, granted_longer, table_longer}
-use Rattle.ark_host.proofs.Tabling.{fit_in, free_index_at, slots_room, used_index_at, least_slot, table_more, slot_there}
-use Rattle.ark_host.proofs.Removed.{rest_agrees, rest_table, stayed}
-use Rattle.ark_host.proofs.Complement.{few_free}
-use Rattle.ark_host.proofs.Given.{not_free, given_free}
-use Rattle.ark_host.proofs.Standing.{free_none}
+use Rattle.ark_plane.specs.Shared.{slots_on, IsShared}
+use Rattle.ark_plane.specs.Tables.{table_of, with_longer}
+use Rattle.ark_plane.proofs.Freeing.{free_after, free_without}
+use Rattle.ark_plane.proofs.Tests.{by_test}
+use Rattle.ark_plane.proofs.Lengthened.{longer, one_index, of_map, granted_longer, table_longer}
+use Rattle.ark_plane.proofs.Tabling.{fit_in, free_index_at, slots_room, used_index_at, least_slot, table_more, slot_there}
+use Rattle.ark_plane.proofs.Removed.{rest_agrees, rest_table, stayed}
+use Rattle.ark_plane.proofs.Complement.{few_free}
+use Rattle.ark_plane.proofs.Given.{not_free, given_free}
+use Rattle.ark_plane.proofs.Freeing.{free_none}
 
 -- nothing is granted
 pub fresh_shared : (size : ℕ) (table : Table) (free : List ℕ) (failed : Bool) → table ≡ table_of [] → free ≡ free_at_first size → IsShared size table free failed

@@ -1,8 +1,8 @@
 use Rattle.std.proofs.Common.{sym, ◌∙◌, ◌≤◌, subst}
 use Rattle.std.proofs.lemmas.Bool.{false≢true}
 use Rattle.ark_table.specs.Standing.{slot_in}
-use Rattle.ark_host.proofs.Loading.{taken_some, lost_some, spelled_some}
-use Rattle.ark_host.proofs.host.loading.take_entry.Goals as goal
+use Rattle.ark_plane.proofs.Unused.{taken_some, lost_some, spelled_some}
+use Rattle.ark_plane.proofs.loading.take_entry.Goals as goal
 
 pub returns-then-take_exact-clause-taken : goal.returns-then-take_exact-clause-taken
 returns-then-take_exact-clause-taken c =

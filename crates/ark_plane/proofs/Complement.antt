@@ -12,10 +12,10 @@ use Rattle.ark_table.specs.Slots.{Slot}
 use Rattle.ark_machine.specs.Plane.{is_granted, free_blocks, max_runs}
 use Rattle.ark_machine.specs.Grants.{has_block, SlotsAgree}
 use Rattle.ark_held.specs.Totals.{bit}
-use Rattle.ark_host.specs.Inside.{slots_on}
-use Rattle.ark_host.specs.Tabled.{table_of}
-use Rattle.ark_host.proofs.Machines.{by_test}
-use Rattle.ark_host.proofs.Tabling.{slots_counted, slots_most, table_size}
+use Rattle.ark_plane.specs.Shared.{slots_on}
+use Rattle.ark_plane.specs.Tables.{table_of}
+use Rattle.ark_plane.proofs.Tests.{by_test}
+use Rattle.ark_plane.proofs.Tabling.{slots_counted, slots_most, table_size}
 
 -- at how many of the n numbers from s on a test does not hold that holds at the next
 abbrev stops : (ℕ → Bool) → ℕ → ℕ → ℕ

@@ -13,12 +13,12 @@ use Rattle.ark_table.specs.Standing.{Table}
 use Rattle.ark_machine.specs.Plane.{is_granted}
 use Rattle.ark_machine.specs.Grants.{SlotsAgree}
 use Rattle.ark_held.proofs.Members.{In, contains_in, in_contains}
-use Rattle.ark_host.specs.Tabled.{table_of}
-use Rattle.ark_host.specs.Loaded.{IsOutside, IsUnused}
-use Rattle.ark_host.proofs.Machines.{by_test}
-use Rattle.ark_host.proofs.Lists.{any_in, in_select}
-use Rattle.ark_host.proofs.Freeing.{Rises, rising, eq_same}
-use Rattle.ark_host.proofs.Tabling.{none_some, table_size, slot_there, area_there, in_table, of_table}
+use Rattle.ark_plane.specs.Tables.{table_of}
+use Rattle.ark_plane.specs.Loading.{IsOutside, IsUnused}
+use Rattle.ark_plane.proofs.Tests.{by_test}
+use Rattle.ark_plane.proofs.Lists.{any_in, in_select}
+use Rattle.ark_plane.proofs.Freeing.{Rises, rising, eq_same}
+use Rattle.ark_plane.proofs.Tabling.{none_some, table_size, slot_there, area_there, in_table, of_table}
 
 any_found : {X : Type 0} (p : X → Bool) (xs : List X) → list_any p xs ≡ true → (x : X) × In xs x × (p x ≡ true)
 any_found p [] has = absurd (false≢true has)

@@ -7,7 +7,7 @@ use Rattle.std.proofs.lemmas.List.Folds.{list_any-append}
 use Rattle.std.proofs.Math.Bool.{or-false}
 use Rattle.ark_table.specs.Slots.{Slot}
 use Rattle.ark_machine.specs.Plane.{Plane, is_granted, free_blocks}
-use Rattle.ark_host.proofs.Machines.{by_test}
+use Rattle.ark_plane.proofs.Tests.{by_test}
 
 -- in rising order, from a number on
 abbrev pub Rises : ℕ → List ℕ → Type 0
@@ -73,3 +73,8 @@ free_after p t n is = free_without p (p.slots ++ t ∷ []) t.blocks n
 
 pub eq_same : (n : ℕ) → (n == n) ≡ true
 eq_same n = grind (arith, nat_tests)
+
+-- without slots all are free
+pub free_none : (xs : List ℕ) → select (λ n. not (list_any (λ (t : Slot). list_any (λ b. b == n) t.blocks) [])) xs ≡ xs
+free_none [] = refl
+free_none (x ∷ xs) = ap (λ (l : List ℕ). x ∷ l) (free_none xs)

@@ -5,8 +5,8 @@ use Rattle.ark_table.specs.Slots.{Slot}
 use Rattle.ark_machine.specs.Plane.{is_granted}
 use Rattle.ark_machine.specs.Grants.{has_block, SlotsApart}
 use Rattle.ark_held.proofs.Members.{In, contains_in}
-use Rattle.ark_host.proofs.Lists.{any_in}
-use Rattle.ark_host.proofs.Freeing.{eq_same}
+use Rattle.ark_plane.proofs.Lists.{any_in}
+use Rattle.ark_plane.proofs.Freeing.{eq_same}
 
 granted_in : (ss : List Slot) (t : Slot) (n : ℕ) → In ss t → has_block t.blocks n ≡ true → is_granted ss n ≡ true
 granted_in ss t n among has = any_in (λ s. has_block s.blocks n) ss t among has
