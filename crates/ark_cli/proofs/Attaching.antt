@@ -102,7 +102,7 @@ module _ (image : List (List ℕ)) (count : ℕ) (es : List Event) where
     found : (h : History) → t2.history ≡ Some h → StandsLoaded host t2.blocks image es
     found h is = loaded image es (is ∙ ap (λ (x : History). Some x) (begins h is)) (reads_of count ok es made)
 
-    pub loaded_slots : (slots : ℕ) → slots ≡ length (slots_in 1 host.table) → ((h : History) → t3.history ≡ Some h → (j : History) × (t2.history ≡ Some j)) → TellsSlots (old_device image) t3 slots
+    pub loaded_slots : (slots : ℕ) → slots ≡ length (slots_in 1 host.plane.table) → ((h : History) → t3.history ≡ Some h → (j : History) × (t2.history ≡ Some j)) → TellsSlots (old_device image) t3 slots
     loaded_slots slots count before = λ h is.
         let was = before h is in
         let st = found was.0 was.1 in

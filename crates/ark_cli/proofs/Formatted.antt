@@ -9,7 +9,7 @@ use Rattle.ark_table.proofs.Standing as tables
 use Rattle.ark_script.specs.Text.{text}
 use Rattle.ark_script.specs.declared.said.Said.TheVariants.{Ready}
 use Rattle.ark_media.specs.Standing.{after}
-use Rattle.ark_host.specs.Tabled.{table_of}
+use Rattle.ark_plane.specs.Tables.{table_of}
 use Rattle.ark_host.proofs.Staying.{outputs_spare}
 use Rattle.ark_host.proofs.Stood.{after_append}
 

@@ -21,7 +21,7 @@ use Rattle.ark_machine.specs.System.{System, fresh_system}
 use Rattle.ark_laws.proofs.Confining.{confined_of}
 use Rattle.ark_host.specs.declared.host.Host.{Host}
 use Rattle.ark_host.specs.Stands.{Stands, Stood}
-use Rattle.ark_host.specs.Tabled.{table_of}
+use Rattle.ark_plane.specs.Tables.{table_of}
 use Rattle.ark_host.proofs.Stood.{after_append}
 use Rattle.ark_report.specs.Work.{work_blocks}
 use Rattle.ark_report.specs.Counted.{CountedSoFar}

@@ -23,7 +23,7 @@ use Rattle.ark_laws.proofs.Confining.{confined_of}
 use Rattle.ark_held.specs.After.{IsTold}
 use Rattle.ark_host.specs.declared.host.Host.{Host}
 use Rattle.ark_host.specs.Stands.{Stands, Stood}
-use Rattle.ark_host.specs.Tabled.{table_of}
+use Rattle.ark_plane.specs.Tables.{table_of}
 use Rattle.ark_host.proofs.Stood.{after_append}
 use Rattle.ark_cli.proofs.Formatted.{fresh_based, ready_table}
 use Rattle.ark_cli.specs.Line.{within_limit}

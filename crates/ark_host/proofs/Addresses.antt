@@ -20,7 +20,7 @@ use Rattle.ark_host.proofs.Standing.{at_app_kept}
 abbrev given : Plane → Own → Plane
 given p own = record p { own = Some own }
 
-plane_given : (host : Host) (size : ℕ) (p : Plane) (own : Own) → IsPlaneOf host size p → IsPlaneOf (record host { own = Some own }) size (given p own)
+plane_given : (host : Host) (size : ℕ) (p : Plane) (own : Own) → IsPlaneOf host size p → IsPlaneOf (record host { plane = record host.plane { own = Some own } }) size (given p own)
 plane_given host size p own is = record {
   size = is.size;
   own = refl;
@@ -38,17 +38,17 @@ plane_given host size p own is = record {
 
 module _ (s : System) (host : Host) (size : ℕ) (h : History) (own : Own) (st : Stands host size h s) where
   -- they are given once
-  pub given_before : is_some host.own ≡ true → TurnDone host size h (nic_turn s own s.plane.own) (said.Refused r.NameTaken) []
+  pub given_before : is_some host.plane.own ≡ true → TurnDone host size h (nic_turn s own s.plane.own) (said.Refused r.NameTaken) []
   given_before some = by s.plane.own (ap is_some st.plane.own ∙ some)
     where
       by : (o : Option Own) → is_some o ≡ true → TurnDone host size h (nic_turn s own o) (said.Refused r.NameTaken) []
       by None some_now = absurd (false≢true some_now)
       by (Some old) some_now = record { said = refl; bytes = refl; stands = st }
 
-  pub given_now : is_some host.own ≡ false → TurnDone (record host { own = Some own }) size h (nic_turn s own s.plane.own) said.Ok []
+  pub given_now : is_some host.plane.own ≡ false → TurnDone (record host { plane = record host.plane { own = Some own } }) size h (nic_turn s own s.plane.own) said.Ok []
   given_now none = by s.plane.own (ap is_some st.plane.own ∙ none)
     where
-      stands : Stands (record host { own = Some own }) size h (record s { plane = given s.plane own })
+      stands : Stands (record host { plane = record host.plane { own = Some own } }) size h (record s { plane = given s.plane own })
       stands = record {
         plane = plane_given host size s.plane own st.plane;
         based = st.based;
@@ -59,7 +59,7 @@ module _ (s : System) (host : Host) (size : ℕ) (h : History) (own : Own) (st :
         same_now = st.same_now;
       }
 
-      by : (o : Option Own) → is_some o ≡ false → TurnDone (record host { own = Some own }) size h (nic_turn s own o) said.Ok []
+      by : (o : Option Own) → is_some o ≡ false → TurnDone (record host { plane = record host.plane { own = Some own } }) size h (nic_turn s own o) said.Ok []
       by None none_now = record { said = refl; bytes = refl; stands = stands }
       by (Some old) none_now = absurd (false≢true (sym none_now))
 

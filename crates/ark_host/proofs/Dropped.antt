@@ -55,14 +55,15 @@ use Rattle.ark_held.proofs.Without.{one_fewer, without_none}
 use Rattle.ark_held.proofs.Dropped.{IsClosed, dropped, synced_given_up, synced_at}
 use Rattle.ark_held.specs.declared.app.App.{App}
 use Rattle.ark_host.specs.declared.host.Host.{Host}
-use Rattle.ark_host.specs.Tabled.{table_of, LeavesObject, TableStands, StandsBeside, slot_count}
+use Rattle.ark_plane.specs.Tables.{table_of, slot_count}
+use Rattle.ark_host.specs.Tabled.{LeavesObject, TableStands, StandsBeside}
 use Rattle.ark_machine.specs.Told.{own_slots}
 use Rattle.ark_host.specs.Stored.{stored_slots}
 use Rattle.ark_host.proofs.Storing.{own_set}
-use Rattle.ark_host.proofs.Tabling.{area_there}
+use Rattle.ark_plane.proofs.Tabling.{area_there}
 use Rattle.ark_host.specs.Stands.{Stands, RowDone, IsHeld, MayGo, AreNamed, AtApp, around, app_of, area_count, drop_row}
-use Rattle.ark_host.proofs.Machines.{by_test}
-use Rattle.ark_host.proofs.Lists.{first_found}
+use Rattle.ark_plane.proofs.Tests.{by_test}
+use Rattle.ark_plane.proofs.Lists.{first_found}
 use Rattle.ark_host.proofs.Standing.{slot_names, slot_based, slot_data}
 use Rattle.ark_host.proofs.Setting.{with_set, set_apps, set_now, set_here}
 use Rattle.ark_host.proofs.Apps.{held_there}
@@ -70,8 +71,8 @@ use Rattle.ark_host.proofs.Granted.{synced_made, synced_now}
 use Rattle.ark_host.proofs.Staying.{left_stays}
 use Rattle.ark_host.proofs.Placing.{names_set, set_at}
 use Rattle.ark_host.proofs.Planned.{ended_sync, made_fault, made_sync, made_beside, writes_at, syncs_at, step}
-use Rattle.ark_host.proofs.Removed.{fits, stayed, rest_agrees, front_agrees, front_table, rest_table, counted_front, name_gone, name_stays}
-use Rattle.ark_host.proofs.Given.{given_free}
+use Rattle.ark_plane.proofs.Removed.{fits, stayed, rest_agrees, front_agrees, front_table, rest_table, counted_front, name_gone, name_stays}
+use Rattle.ark_plane.proofs.Given.{given_free}
 use Rattle.ark_host.proofs.Dropping.{HoldsArea, under_as, done_row, fault_row, drop_begins}
 use Rattle.ark_caps.specs.declared.capability.Capability.{Capability}
 
@@ -183,7 +184,7 @@ module _ (host : Host) (size : ℕ) (past : History) (s : System) (a l : List �
     one = synced_by (ends_of es) (each_object (lets_go l (serial_at (machine_of s a) l)) (without (machine_of s a) l))
 
     module _ (now : Host) (app1 : App) (loses : LosesArea app app1 l grant)
-        (items : now.apps.items ≡ set host.apps.items place app1) (tables : now.table ≡ with_slot host.table index None) (grants : now.grants ≡ host.grants) (clock : now.clock ≡ host.clock) (addresses : now.own ≡ host.own)
+        (items : now.apps.items ≡ set host.apps.items place app1) (tables : now.plane.table ≡ with_slot host.plane.table index None) (grants : now.grants ≡ host.grants) (clock : now.clock ≡ host.clock) (addresses : now.plane.own ≡ host.plane.own)
         (p : Plane) (slots : p.slots ≡ rest) where
       abbrev later : System
       later = with_set s p a one
@@ -268,7 +269,7 @@ module _ (host : Host) (size : ℕ) (past : History) (s : System) (a l : List �
           let most = st.plane.counted b in
           omega (arith, fewer, counts, most)) refl)
 
-      its_table : now.table ≡ table_of p.slots
+      its_table : now.plane.table ≡ table_of p.slots
       its_table =
           tables
           ∙ ap (λ (t : Table). with_slot t index None) st.plane.table
@@ -322,8 +323,8 @@ module _ (host : Host) (size : ℕ) (past : History) (s : System) (a l : List �
     -- A call failed: the slot is held no more, the table has failed, and a stop decides whether the slot is there.
 
     module _ (now : Host) (app1 : App) (loses : LosesArea app app1 l grant)
-        (items : now.apps.items ≡ set host.apps.items place app1) (tables : now.table ≡ with_slot host.table index None) (grants : now.grants ≡ host.grants) (clock : now.clock ≡ host.clock) (addresses : now.own ≡ host.own) where
-      module _ (failed : now.failed ≡ true) (bad : well ≡ false) where
+        (items : now.apps.items ≡ set host.apps.items place app1) (tables : now.plane.table ≡ with_slot host.plane.table index None) (grants : now.grants ≡ host.grants) (clock : now.clock ≡ host.clock) (addresses : now.plane.own ≡ host.plane.own) where
+      module _ (failed : now.plane.failed ≡ true) (bad : well ≡ false) where
         abbrev lost : Plane
         lost = record s.plane { failed = true; unsettled = Some (drops slot (object_at (machine_of s a) l)); slots = rest }
 
@@ -364,12 +365,12 @@ module _ (host : Host) (size : ℕ) (past : History) (s : System) (a l : List �
 
       -- Each call succeeded: its blocks are free.
 
-      module _ (failed : now.failed ≡ host.failed) (good : well ≡ true) (gains : Gains host.free now.free slot.blocks) (rises : IsStrictlyIncreasing now.free) where
+      module _ (failed : now.plane.failed ≡ host.plane.failed) (good : well ≡ true) (gains : Gains host.plane.free now.plane.free slot.blocks) (rises : IsStrictlyIncreasing now.plane.free) where
         abbrev done : Plane
         done = without_label (record s.plane { slots = rest }) a l
 
-        free_now : free_blocks done ≡ now.free
-        free_now = given_free s.plane.size s.plane.slots st.plane.apart slot slot_held host.free now.free (st.plane.free ok.settled) gains rises
+        free_now : free_blocks done ≡ now.plane.free
+        free_now = given_free s.plane.size s.plane.slots st.plane.apart slot slot_held host.plane.free now.plane.free (st.plane.free ok.settled) gains rises
 
         no_filters : done.filters ≡ []
         no_filters = rw st.plane.filters refl

@@ -20,7 +20,7 @@ use Rattle.ark_machine.specs.Granting.{change_of}
 use Rattle.ark_machine.specs.System.{System, machine_of, owner, line_turn}
 use Rattle.ark_machine.specs.Recovers.{begun, begun_by, begun_with, is_new, is_new_block}
 use Rattle.ark_machine.specs.Stopped.{begun_in}
-use Rattle.ark_host.proofs.Machines.{by_test}
+use Rattle.ark_plane.proofs.Tests.{by_test}
 
 -- Where the table has failed a line has an early refusal.
 

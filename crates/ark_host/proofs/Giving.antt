@@ -17,7 +17,7 @@ use Rattle.ark_held.proofs.Lists.{le_false}
 use Rattle.ark_held.proofs.Members.{In}
 use Rattle.ark_host.specs.Stored.{stored_labels, stored_areas}
 use Rattle.ark_host.specs.Given.{AreApart, GivesSlot, HasGiven}
-use Rattle.ark_host.proofs.Tabling.{none_some, same_some}
+use Rattle.ark_plane.proofs.Tabling.{none_some, same_some}
 use Rattle.ark_host.proofs.Storing.{label_free, area_free_at}
 
 -- The table's entry of a slot.

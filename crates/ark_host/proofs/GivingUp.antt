@@ -37,7 +37,7 @@ use Rattle.ark_held.specs.Words.{slot_under}
 use Rattle.ark_held.proofs.Members.{contains_in}
 use Rattle.ark_held.specs.declared.app.App.{App}
 use Rattle.ark_host.specs.declared.host.Host.{Host}
-use Rattle.ark_host.specs.Tabled.{table_of}
+use Rattle.ark_plane.specs.Tables.{table_of}
 use Rattle.ark_host.specs.Stands.{Stands, Stood, Steps, RowDone, LineDone, IsHeld, IsHeldBack, IsEarly, IsItsNet, IsItsOwn, MayGo, drop_row}
 use Rattle.ark_host.proofs.Standing.{refused, same_apps, slot_fits}
 use Rattle.ark_host.proofs.Apps.{not_made, held_there}
@@ -47,7 +47,7 @@ use Rattle.ark_held.proofs.Unbound.{LosesArea}
 use Rattle.ark_host.proofs.Contents.{logs_open}
 use Rattle.ark_host.proofs.Recovering.{removed_fronts}
 use Rattle.ark_host.proofs.Stepping.{early_enough}
-use Rattle.ark_host.proofs.Tabling.{area_there}
+use Rattle.ark_plane.proofs.Tabling.{area_there}
 use Rattle.ark_host.proofs.Dropping.{HoldsArea, Under, HeldBack, under_as, drop_unmade, drop_missing, drop_failed, drop_busy}
 use Rattle.ark_host.proofs.Dropped.{slot, slot_held, agree, begins, goes, beside, drop_lost, drop_done}
 
@@ -64,7 +64,7 @@ early_plane _ p m a l early = refl
 -- Refusals.
 
 module _ (host : Host) (a l : List ℕ) where
-  pub steps_back : (now : Host) (told : Told) (e : Refusal) → IsHeldBack host a l e → IsEarly e → now.apps.items ≡ host.apps.items → now.free ≡ host.free → now.table ≡ host.table → now.failed ≡ host.failed → now.grants ≡ host.grants → now.clock ≡ host.clock → now.own ≡ host.own
+  pub steps_back : (now : Host) (told : Told) (e : Refusal) → IsHeldBack host a l e → IsEarly e → now.apps.items ≡ host.apps.items → now.plane.free ≡ host.plane.free → now.plane.table ≡ host.plane.table → now.plane.failed ≡ host.plane.failed → now.grants ≡ host.grants → now.clock ≡ host.clock → now.plane.own ≡ host.plane.own
       → Steps host now told (Ok (w.drop a l)) [] (said.Refused e) []
   steps_back now told e is early apps free table failed grants clock addresses =
       quiet_steps host now told (Ok (w.drop a l)) (said.Refused e) (said.Refused e) [] refl refl
@@ -86,14 +86,14 @@ module _ (host : Host) (a l : List ℕ) where
         by r.WrongKind made m = absurd (false≢true (sym m ∙ shared))
         by _ made m = absurd m
 
-    pub back_failed : (grant index : ℕ) → Ok (grant, index) ≡ slot_under app.labels app.areas l → host.failed ≡ true → IsHeldBack host a l r.TableFailed
+    pub back_failed : (grant index : ℕ) → Ok (grant, index) ≡ slot_under app.labels app.areas l → host.plane.failed ≡ true → IsHeldBack host a l r.TableFailed
     back_failed grant index is bad size past s st =
         let h = held_there s host size past a st place app at there in
         let f : HoldsArea past s a l app grant index = under_as host size past s a l app st h (Ok (grant, index)) is in
         drop_failed s a l h.holds.made f.held f.t f.there f.area f.named (st.plane.failed ∙ bad)
 
     -- its log is open on a card
-    pub back_busy : (grant index : ℕ) → Ok (grant, index) ≡ slot_under app.labels app.areas l → host.failed ≡ false → (o : Option Capability) → is_some o ≡ true → o ≡ option_map (λ p. p.1) (opened_on app.devices.cards grant app.labels)
+    pub back_busy : (grant index : ℕ) → Ok (grant, index) ≡ slot_under app.labels app.areas l → host.plane.failed ≡ false → (o : Option Capability) → is_some o ≡ true → o ≡ option_map (λ p. p.1) (opened_on app.devices.cards grant app.labels)
         → IsHeldBack host a l r.Busy
     back_busy grant index is well o some found size past s st =
         let h = held_there s host size past a st place app at there in
@@ -108,7 +108,7 @@ module _ (host : Host) (a l : List ℕ) where
 
 module _ (host : Host) (a l : List ℕ) (place grant index : ℕ) (app : App) (ok : MayGo host a l place grant index) (there : get_or host.apps.items place app ≡ app) where
   -- the slot is the one of the table, with its blocks
-  its_area : (size : ℕ) (past : History) (s : System) (st : Stands host size past s) → slot_in host.table index ≡ Some (area_of (slot host size past s a l place grant index app st ok there))
+  its_area : (size : ℕ) (past : History) (s : System) (st : Stands host size past s) → slot_in host.plane.table index ≡ Some (area_of (slot host size past s a l place grant index app st ok there))
   its_area size past s st =
       let h = held_there s host size past a st place app ok.place there in
       let f : HoldsArea past s a l app grant index = under_as host size past s a l app st h (Ok (grant, index)) (sym (ok.area app there)) in
@@ -117,7 +117,7 @@ module _ (host : Host) (a l : List ℕ) (place grant index : ℕ) (app : App) (o
       ∙ area_there s.plane.size s.plane.slots st.plane.apart.fit st.plane.apart.apart f.t (contains_in s.plane.slots f.t (slot_held host size past s a l place grant index app st ok there))
 
   -- so there is one
-  pub back_gone : (e : Refusal) → slot_in host.table index ≡ None → IsHeldBack host a l e
+  pub back_gone : (e : Refusal) → slot_in host.plane.table index ≡ None → IsHeldBack host a l e
   back_gone e none size past s st = absurd (false≢true (ap is_some (sym none ∙ its_area size past s st)))
 
   pub back_zero : (e : Refusal) → index ≡ 0 → IsHeldBack host a l e
@@ -128,7 +128,7 @@ module _ (host : Host) (a l : List ℕ) (place grant index : ℕ) (app : App) (o
       absurd (omega (arith, low, f.index, zero))
 
   module _ (now : Host) (told : Told) (es : List Event) (app1 : App) (loses : LosesArea app app1 l grant)
-      (items : now.apps.items ≡ set host.apps.items place app1) (tables : now.table ≡ with_slot host.table index None) (grants : now.grants ≡ host.grants) (clock : now.clock ≡ host.clock) (addresses : now.own ≡ host.own) where
+      (items : now.apps.items ≡ set host.apps.items place app1) (tables : now.plane.table ≡ with_slot host.plane.table index None) (grants : now.grants ≡ host.grants) (clock : now.clock ≡ host.clock) (addresses : now.plane.own ≡ host.plane.own) where
     fronts : (well : Bool) → Made (remove_calls index) well es → (s : System) (h : History) → Stood host told h es s → AtEachFront h.base h.journal s (Some (Ok (w.drop a l))) es
     fronts well made s h stood =
         removed_fronts host told.blocks h s stood.stands (Some (Ok (w.drop a l))) (slot host told.blocks h s a l place grant index app stood.stands ok there) (object_at (machine_of s a) l) well es
@@ -137,7 +137,7 @@ module _ (host : Host) (a l : List ℕ) (place grant index : ℕ) (app : App) (o
         (goes host told.blocks h s a l place grant index app stood.stands ok there well es made)
         (logs_open host told.blocks h s stood.stands es (λ u held. beside host told.blocks h s a l place grant index app stood.stands ok there well es made u held))
 
-    pub steps_gone_lost : Made (remove_calls index) false es → now.failed ≡ true → Steps host now told (Ok (w.drop a l)) es (said.Refused r.DeviceFault) []
+    pub steps_gone_lost : Made (remove_calls index) false es → now.plane.failed ≡ true → Steps host now told (Ok (w.drop a l)) es (said.Refused r.DeviceFault) []
     steps_gone_lost made failed = record {
       devices = makes_devices (remove_calls index) false es made;
       answered = λ s h stood. drop_answered now told.blocks (after h es) s a l es (said.Refused r.DeviceFault) [] refl
@@ -145,13 +145,13 @@ module _ (host : Host) (a l : List ℕ) (place grant index : ℕ) (app : App) (o
       fronts = fronts false made;
     }
 
-    pub steps_gone : Made (remove_calls index) true es → now.failed ≡ host.failed → (area : Area) (spans : List ℕ) → slot_in host.table index ≡ Some area → area.runs ≡ runs_of spans → Gains host.free now.free spans → IsStrictlyIncreasing now.free
+    pub steps_gone : Made (remove_calls index) true es → now.plane.failed ≡ host.plane.failed → (area : Area) (spans : List ℕ) → slot_in host.plane.table index ≡ Some area → area.runs ≡ runs_of spans → Gains host.plane.free now.plane.free spans → IsStrictlyIncreasing now.plane.free
         → Steps host now told (Ok (w.drop a l)) es said.Ok []
     steps_gone made failed area spans used runs gains rises = record {
       devices = makes_devices (remove_calls index) true es made;
       answered = λ s h stood. drop_answered now told.blocks (after h es) s a l es said.Ok [] refl
           (drop_done host told.blocks h s a l place grant index app stood.stands ok there true es made now app1 loses items tables grants clock addresses failed refl
-          (subst (λ (bs : List ℕ). Gains host.free now.free bs) (sym (same_blocks told.blocks h s stood.stands)) gains) rises);
+          (subst (λ (bs : List ℕ). Gains host.plane.free now.plane.free bs) (sym (same_blocks told.blocks h s stood.stands)) gains) rises);
       fronts = fronts true made;
     }
       where
@@ -187,7 +187,7 @@ unshared (Some c) is = by c.kind is
 
 module _ (host : Host) (a l : List ℕ) (place : ℕ) (app : App) (own : IsItsOwn host a l place) (there : get_or host.apps.items place app ≡ app) (now : Host) (told : Told) (app1 : App) (reply : Said) where
   -- it goes, or is refused, as in its application
-  pub steps_own : wants_memory reply ≡ false → now.apps.items ≡ set host.apps.items place app1 → now.free ≡ host.free → now.grants ≡ host.grants + 1 → now.table ≡ host.table → now.failed ≡ host.failed → now.clock ≡ host.clock → now.own ≡ host.own
+  pub steps_own : wants_memory reply ≡ false → now.apps.items ≡ set host.apps.items place app1 → now.plane.free ≡ host.plane.free → now.grants ≡ host.grants + 1 → now.plane.table ≡ host.plane.table → now.plane.failed ≡ host.plane.failed → now.clock ≡ host.clock → now.plane.own ≡ host.plane.own
       → Acts told app app1 (λ m g. control.drop m l g) [] reply [] → Steps host now told (Ok (w.drop a l)) [] reply []
   unfolding step
   steps_own enough items free grants table failed clock addresses acts =
@@ -207,7 +207,7 @@ net_area (Some c) net = by c.kind net
 
 module _ (host : Host) (a l : List ℕ) (place : ℕ) (app : App) (own : IsItsNet host a l place) (there : get_or host.apps.items place app ≡ app) (now : Host) (told : Told) (app1 : App) (reply : Said) where
   -- it goes, or is refused, as in its application
-  pub steps_net : wants_memory reply ≡ false → now.apps.items ≡ set host.apps.items place app1 → now.free ≡ host.free → now.grants ≡ host.grants + 1 → now.table ≡ host.table → now.failed ≡ host.failed → now.clock ≡ host.clock → now.own ≡ host.own
+  pub steps_net : wants_memory reply ≡ false → now.apps.items ≡ set host.apps.items place app1 → now.plane.free ≡ host.plane.free → now.grants ≡ host.grants + 1 → now.plane.table ≡ host.plane.table → now.plane.failed ≡ host.plane.failed → now.clock ≡ host.clock → now.plane.own ≡ host.plane.own
       → GivesUpNet app app1 (λ m g. control.drop m l g) reply → Steps host now told (Ok (w.drop a l)) [] reply []
   unfolding step
   steps_net enough items free grants table failed clock addresses gives =

@@ -61,16 +61,17 @@ use Rattle.ark_held.proofs.Granted.{IsNewArea, granted, slot_other}
 use Rattle.ark_held.proofs.Doing.{same_tables}
 use Rattle.ark_held.specs.declared.app.App.{App}
 use Rattle.ark_host.specs.declared.host.Host.{Host}
-use Rattle.ark_host.specs.Tabled.{table_of, TableStands, StandsBeside, slot_count}
+use Rattle.ark_plane.specs.Tables.{table_of, slot_count}
+use Rattle.ark_host.specs.Tabled.{TableStands, StandsBeside}
 use Rattle.ark_host.specs.Stored.{stored_slots}
 use Rattle.ark_host.specs.Stands.{Stands, RowDone, IsHeld, IsAdmitted, AreNamed, around, app_of, area_count, vsa_row}
-use Rattle.ark_host.proofs.Machines.{bytes_eq-same, by_test}
+use Rattle.ark_plane.proofs.Tests.{bytes_eq-same, by_test}
 use Rattle.ark_held.proofs.Members.{in_contains}
-use Rattle.ark_host.proofs.Lists.{first_found}
-use Rattle.ark_host.proofs.Sharing.{has}
-use Rattle.ark_host.proofs.Freeing.{free_after}
+use Rattle.ark_plane.proofs.Lists.{first_found}
+use Rattle.ark_plane.proofs.Sharing.{has}
+use Rattle.ark_plane.proofs.Freeing.{free_after}
 use Rattle.ark_host.proofs.Storing.{own_set}
-use Rattle.ark_host.proofs.Tabling.{free_at, slot_there, table_more, table_size, owned_counted, count_more}
+use Rattle.ark_plane.proofs.Tabling.{free_at, slot_there, table_more, table_size, owned_counted, count_more}
 use Rattle.ark_host.proofs.Standing.{slot_names, slot_based, slot_data}
 use Rattle.ark_host.proofs.Setting.{with_set, set_apps, set_now, set_here}
 use Rattle.ark_host.proofs.Apps.{held_there}
@@ -116,7 +117,7 @@ synced_now true m = refl
 synced_now false m = refl
 
 module _ (host : Host) (size : ℕ) (past : History) (s : System) (a l : List ℕ) (n : ℕ) (k : Kind) (i place : ℕ) (app : App) (st : Stands host size past s) (small : size < 2 ^ 32) (some : fewest_blocks k ≤ n) (app_name : is_name a ≡ true) (label_name : is_name l ≡ true)
-    (ok : IsAdmitted host a l n place i) (there : get_or host.apps.items place app ≡ app) (compact : length (runs_of (take n host.free)) ≤ max_runs) (spans : List ℕ) (taken : spans ≡ take n host.free) where
+    (ok : IsAdmitted host a l n place i) (there : get_or host.apps.items place app ≡ app) (compact : length (runs_of (take n host.plane.free)) ≤ max_runs) (spans : List ℕ) (taken : spans ≡ take n host.plane.free) where
   abbrev line : Line
   line = w.vsa a l n k
 
@@ -139,7 +140,7 @@ module _ (host : Host) (size : ℕ) (past : History) (s : System) (a l : List �
   slot_blocks = ap (λ (f : List ℕ). take n f) (st.plane.free ok.settled) ∙ sym taken
 
   count : length slot.blocks ≡ n
-  count = ap (λ (f : List ℕ). length (take n f)) (st.plane.free ok.settled) ∙ length-take n host.free ∙ (let space = ok.space in grind (arith, nat_tests))
+  count = ap (λ (f : List ℕ). length (take n f)) (st.plane.free ok.settled) ∙ length-take n host.plane.free ∙ (let space = ok.space in grind (arith, nat_tests))
 
   pub has_some : 1 ≤ length slot.blocks
   has_some = omega (arith, some, count, some_fewest k)
@@ -265,7 +266,7 @@ module _ (host : Host) (size : ℕ) (past : History) (s : System) (a l : List �
 
     -- A call failed: the table has failed from now on, and a stop decides whether the slot is there.
 
-    module _ (now : Host) (items : now.apps.items ≡ host.apps.items) (kept : now.table ≡ host.table) (failed : now.failed ≡ true) (grants : now.grants ≡ host.grants) (clock : now.clock ≡ host.clock) (addresses : now.own ≡ host.own) (bad : well ≡ false) where
+    module _ (now : Host) (items : now.apps.items ≡ host.apps.items) (kept : now.plane.table ≡ host.plane.table) (failed : now.plane.failed ≡ true) (grants : now.grants ≡ host.grants) (clock : now.clock ≡ host.clock) (addresses : now.plane.own ≡ host.plane.own) (bad : well ≡ false) where
       abbrev lost : Plane
       lost = record s.plane { failed = true; unsettled = Some (makes slot) }
 
@@ -377,8 +378,8 @@ module _ (host : Host) (size : ℕ) (past : History) (s : System) (a l : List �
       new_one kind.Queue its = (its, (λ e. cc (e)), sym count, two_blocks (subst (λ (y : Kind). 2 ≤ fewest_blocks y) (sym its) (omega arith)), refl, zeros_listed (after past es) slot.blocks kind.Queue n has_some zero_now zero_left, zeros_full)
 
       module _ (now : Host) (app1 : App) (labels : app1.labels ≡ app.labels ++ (l, new_area_cap host.grants) ∷ []) (held : app1.areas ≡ with_area app.areas host.grants (record { kind = k; slot = i; spans = spans })) (region : app1.store.region ≡ app.store.region) (buffers : app1.store.buffers ≡ app.store.buffers) (devices : app1.devices ≡ app.devices) (name : app1.name ≡ app.name)
-          (items : now.apps.items ≡ set host.apps.items place app1) (free : now.free ≡ drop n host.free) (tables : now.table ≡ with_slot host.table i (Some (record { app = a; label = l; kind = k; runs = runs_of spans }))) (failed : now.failed ≡ host.failed)
-          (grants : now.grants ≡ host.grants + 1) (clock : now.clock ≡ host.clock) (addresses : now.own ≡ host.own) where
+          (items : now.apps.items ≡ set host.apps.items place app1) (free : now.plane.free ≡ drop n host.plane.free) (tables : now.plane.table ≡ with_slot host.plane.table i (Some (record { app = a; label = l; kind = k; runs = runs_of spans }))) (failed : now.plane.failed ≡ host.plane.failed)
+          (grants : now.grants ≡ host.grants + 1) (clock : now.clock ≡ host.clock) (addresses : now.plane.own ≡ host.plane.own) where
         abbrev plane : Plane
         plane = record s.plane { slots = s.plane.slots ++ slot ∷ [] }
 
@@ -444,7 +445,7 @@ module _ (host : Host) (size : ℕ) (past : History) (s : System) (a l : List �
             ap (λ (t : Table). own_slots b (slots_in 1 t)) more_slots
             ∙ own_set b (table_of s.plane.slots) 1 (slot.index - 1) (Some (area_of slot)) (ap (λ (o : Option Area). is_of b o) free_entry) apart
 
-        its_table : now.table ≡ table_of plane.slots
+        its_table : now.plane.table ≡ table_of plane.slots
         its_table =
             tables
             ∙ ap (λ (t : Table). with_slot t i (Some (record { app = a; label = l; kind = k; runs = runs_of spans }))) st.plane.table

@@ -43,41 +43,41 @@ module _ (host : Host) (size : ℕ) (past : History) (s : System) (a l : List �
     grow_kind d there other = rw (made, there, other) refl
 
     module _ (d : Held) (raw : Raw) (there : at (machine_of s a) l ≡ Some d) (object : d.object ≡ Objects.raw raw) where
-      pub grow_failed : host.failed ≡ true → Says r.TableFailed
+      pub grow_failed : host.plane.failed ≡ true → Says r.TableFailed
       unfolding answer
       grow_failed bad = let failed : s.plane.failed ≡ true = st.plane.failed ∙ bad in rw (made, there, object, failed) refl
 
-      module _ (no : host.failed ≡ false) where
-        free : free_blocks s.plane ≡ host.free
+      module _ (no : host.plane.failed ≡ false) where
+        free : free_blocks s.plane ≡ host.plane.free
         free = st.plane.free no
 
         settled : s.plane.failed ≡ false
         settled = st.plane.failed ∙ no
 
-        pub grow_no_space : length host.free < n → Says r.NoSpace
+        pub grow_no_space : length host.plane.free < n → Says r.NoSpace
         unfolding answer
         grow_no_space less =
             let failed : s.plane.failed ≡ false = settled in
-            let space : nat_lt (length (free_blocks s.plane)) n ≡ true = ap (λ (f : List ℕ). nat_lt (length f) n) free ∙ lt_true (length host.free) n less in
+            let space : nat_lt (length (free_blocks s.plane)) n ≡ true = ap (λ (f : List ℕ). nat_lt (length f) n) free ∙ lt_true (length host.plane.free) n less in
             rw (made, there, object, failed, space) refl
 
-        module _ (enough : n ≤ length host.free) where
+        module _ (enough : n ≤ length host.plane.free) where
           spaced : nat_lt (length (free_blocks s.plane)) n ≡ false
-          spaced = ap (λ (f : List ℕ). nat_lt (length f) n) free ∙ lt_false (length host.free) n enough
+          spaced = ap (λ (f : List ℕ). nat_lt (length f) n) free ∙ lt_false (length host.plane.free) n enough
 
           module _ (t : Slot) (placed : slot_of s.plane a l ≡ Some t) where
-            pub grow_scattered : max_runs < length (runs_of (t.blocks ++ take n host.free)) → Says r.Scattered
+            pub grow_scattered : max_runs < length (runs_of (t.blocks ++ take n host.plane.free)) → Says r.Scattered
             unfolding answer
             grow_scattered many =
                 let failed : s.plane.failed ≡ false = settled in
                 let space : nat_lt (length (free_blocks s.plane)) n ≡ false = spaced in
                 let runs : nat_lt max_runs (length (runs_of (t.blocks ++ take n (free_blocks s.plane)))) ≡ true =
-                ap (λ (f : List ℕ). nat_lt max_runs (length (runs_of (t.blocks ++ take n f)))) free ∙ lt_true max_runs (length (runs_of (t.blocks ++ take n host.free))) many in
+                ap (λ (f : List ℕ). nat_lt max_runs (length (runs_of (t.blocks ++ take n f)))) free ∙ lt_true max_runs (length (runs_of (t.blocks ++ take n host.plane.free))) many in
                 rw (made, there, object, failed, space, placed, runs) refl
 
-            module _ (compact : length (runs_of (t.blocks ++ take n host.free)) ≤ max_runs) where
+            module _ (compact : length (runs_of (t.blocks ++ take n host.plane.free)) ≤ max_runs) where
               few : nat_lt max_runs (length (runs_of (t.blocks ++ take n (free_blocks s.plane)))) ≡ false
-              few = ap (λ (f : List ℕ). nat_lt max_runs (length (runs_of (t.blocks ++ take n f)))) free ∙ lt_false max_runs (length (runs_of (t.blocks ++ take n host.free))) compact
+              few = ap (λ (f : List ℕ). nat_lt max_runs (length (runs_of (t.blocks ++ take n f)))) free ∙ lt_false max_runs (length (runs_of (t.blocks ++ take n host.plane.free))) compact
 
               -- the row where each call succeeded
               pub grown_row : (es : List Event) (reply : Said) → has_fault (ends_of es) ≡ false

@@ -36,11 +36,12 @@ use Rattle.ark_held.specs.declared.app.App.{App}
 use Rattle.ark_held.specs.declared.areas.Area.{Area as Kept}
 use Rattle.ark_held.proofs.Lists.{some_same}
 use Rattle.ark_own.proofs.OfGrants.{IsGrantOf, Lacks}
+use Rattle.ark_plane.specs.Room.{HasNoRoom}
 use Rattle.ark_host.specs.declared.host.Host.{Host}
 use Rattle.ark_host.specs.declared.host.grow.Growth.{Growth}
 use Rattle.ark_host.specs.Stands.{Stands, Stood, RowDone, LineDone, Steps, IsHeld, IsEarly, around}
 use Rattle.ark_host.specs.Growing.{grow_row, IsGrowRefused, MayGrow}
-use Rattle.ark_host.proofs.Machines.{by_test}
+use Rattle.ark_plane.proofs.Tests.{by_test}
 use Rattle.ark_host.proofs.Standing.{refused, same_apps, slot_fits}
 use Rattle.ark_host.proofs.Apps.{not_made, held_there}
 use Rattle.ark_host.proofs.Lifting.{quiet_steps}
@@ -106,7 +107,7 @@ too_many : (k : ℕ) → (k ≤ 16 → ⊥) → 16 < k
 too_many k more = by_test (nat_le k 16) (λ b. nat_le k 16 ≡ b → 16 < k) (λ yes q. absurd (more (grind (arith, nat_tests, q)))) (λ other q. grind (arith, nat_tests, q)) refl
 
 module _ (host : Host) (a l : List ℕ) (n : ℕ) where
-  pub grow_refused : (now : Host) (told : Told) (e : Refusal) → IsGrowRefused host a l n e → IsEarly e → now.apps.items ≡ host.apps.items → now.free ≡ host.free → now.table ≡ host.table → now.failed ≡ host.failed → now.grants ≡ host.grants → now.clock ≡ host.clock → now.own ≡ host.own
+  pub grow_refused : (now : Host) (told : Told) (e : Refusal) → IsGrowRefused host a l n e → IsEarly e → now.apps.items ≡ host.apps.items → now.plane.free ≡ host.plane.free → now.plane.table ≡ host.plane.table → now.plane.failed ≡ host.plane.failed → now.grants ≡ host.grants → now.clock ≡ host.clock → now.plane.own ≡ host.plane.own
       → Steps host now told (Ok (w.grow a l n)) [] (said.Refused e) []
   grow_refused now told e is early apps free table failed grants clock addresses =
       quiet_steps host now told (Ok (w.grow a l n)) (said.Refused e) (said.Refused e) [] refl refl
@@ -129,57 +130,64 @@ module _ (host : Host) (a l : List ℕ) (n : ℕ) where
         by _ m = absurd m
 
     module _ (grant : ℕ) (kept : Kept) (is : grant_at app.labels app.areas l ≡ Ok (grant, kept)) where
-      pub failed_refused : host.failed ≡ true → IsGrowRefused host a l n r.TableFailed
+      failed_refused : host.plane.failed ≡ true → IsGrowRefused host a l n r.TableFailed
       failed_refused bad size h s st =
           let own = its size h s st in
           let f = granted_at host size h s a l app st own grant kept is in
           grow_failed host size h s a l n st own.holds.made f.area.held f.area.raw f.area.there f.area.object bad
 
-      module _ (fine : host.failed ≡ false) where
-        pub space_refused : length host.free < n → IsGrowRefused host a l n r.NoSpace
+      module _ (fine : host.plane.failed ≡ false) where
+        space_refused : length host.plane.free < n → IsGrowRefused host a l n r.NoSpace
         space_refused less size h s st =
             let own = its size h s st in
             let f = granted_at host size h s a l app st own grant kept is in
             grow_no_space host size h s a l n st own.holds.made f.area.held f.area.raw f.area.there f.area.object fine less
 
-        module _ (enough : n ≤ length host.free) where
+        module _ (enough : n ≤ length host.plane.free) where
           -- the free blocks alone stand in too many runs
-          pub many_refused : max_runs < length (runs_of (take n host.free)) → IsGrowRefused host a l n r.Scattered
+          many_refused : max_runs < length (runs_of (take n host.plane.free)) → IsGrowRefused host a l n r.Scattered
           many_refused many size h s st =
               let own = its size h s st in
               let f = granted_at host size h s a l app st own grant kept is in
-              let more = more_runs f.area.slot.blocks (take n host.free) in
+              let more = more_runs f.area.slot.blocks (take n host.plane.free) in
               grow_scattered host size h s a l n st own.holds.made f.area.held f.area.raw f.area.there f.area.object fine enough f.area.slot f.area.placed (omega (arith, many, more))
 
           -- the table has the slot, whatever stands for the host
-          pub slot_refused : (e : Refusal) → (kept.slot ≡ 0) ⊎ (slot_in host.table kept.slot ≡ None) → IsGrowRefused host a l n e
+          pub slot_refused : (e : Refusal) → (kept.slot ≡ 0) ⊎ (slot_in host.plane.table kept.slot ≡ None) → IsGrowRefused host a l n e
           slot_refused e none size h s st =
               let own = its size h s st in
               let f = granted_at host size h s a l app st own grant kept is in
               let low = (slot_fits host size h s st f.area.slot (held host size h s a l app st own grant kept f).0).index_low in
-              absurd (absent kept.slot (slot_in host.table kept.slot) (area_of f.area.slot) none (in_use host size h s a l app st own grant kept f) (let same = ap (λ (z : Kept). z.slot) f.its_area in omega (arith, low, same)))
+              absurd (absent kept.slot (slot_in host.plane.table kept.slot) (area_of f.area.slot) none (in_use host size h s a l app st own grant kept f) (let same = ap (λ (z : Kept). z.slot) f.its_area in omega (arith, low, same)))
 
           -- its blocks and the free ones stand in too many runs: they share none
-          pub join_refused : (area : Area) → slot_in host.table kept.slot ≡ Some area → (ShareNoBlock (blocks_of area.runs) (take n host.free) × (length (runs_of (blocks_of area.runs ++ take n host.free)) ≤ 16) → ⊥) → IsGrowRefused host a l n r.Scattered
+          pub join_refused : (area : Area) → slot_in host.plane.table kept.slot ≡ Some area → (ShareNoBlock (blocks_of area.runs) (take n host.plane.free) × (length (runs_of (blocks_of area.runs ++ take n host.plane.free)) ≤ 16) → ⊥) → IsGrowRefused host a l n r.Scattered
           join_refused area used apart_and_few size h s st =
               let own = its size h s st in
               let f = granted_at host size h s a l app st own grant kept is in
-              let same : blocks_of area.runs ≡ f.area.slot.blocks = ap (λ (z : Area). blocks_of z.runs) (some_same (slot_in host.table kept.slot) area (area_of f.area.slot) used (in_use host size h s a l app st own grant kept f)) ∙ blocks_of-runs_of f.area.slot.blocks in
+              let same : blocks_of area.runs ≡ f.area.slot.blocks = ap (λ (z : Area). blocks_of z.runs) (some_same (slot_in host.plane.table kept.slot) area (area_of f.area.slot) used (in_use host size h s a l app st own grant kept f)) ∙ blocks_of-runs_of f.area.slot.blocks in
               let apart = apart_free host size h s a l app st own grant kept f n fine in
               grow_scattered host size h s a l n st own.holds.made f.area.held f.area.raw f.area.there f.area.object fine enough f.area.slot f.area.placed
-              (too_many (length (runs_of (f.area.slot.blocks ++ take n host.free)))
-              (λ few. apart_and_few (subst (λ (bs : List ℕ). ShareNoBlock bs (take n host.free)) (sym same) apart, subst (λ (bs : List ℕ). length (runs_of (bs ++ take n host.free)) ≤ 16) (sym same) few)))
+              (too_many (length (runs_of (f.area.slot.blocks ++ take n host.plane.free)))
+              (λ few. apart_and_few (subst (λ (bs : List ℕ). ShareNoBlock bs (take n host.plane.free)) (sym same) apart, subst (λ (bs : List ℕ). length (runs_of (bs ++ take n host.plane.free)) ≤ 16) (sym same) few)))
 
           -- so do those of the area as its application keeps it
-          pub own_refused : (ShareNoBlock kept.spans (take n host.free) × (length (runs_of (kept.spans ++ take n host.free)) ≤ 16) → ⊥) → IsGrowRefused host a l n r.Scattered
+          pub own_refused : (ShareNoBlock kept.spans (take n host.plane.free) × (length (runs_of (kept.spans ++ take n host.plane.free)) ≤ 16) → ⊥) → IsGrowRefused host a l n r.Scattered
           own_refused apart_and_few size h s st =
               let own = its size h s st in
               let f = granted_at host size h s a l app st own grant kept is in
               let same : f.area.slot.blocks ≡ kept.spans = ap (λ (z : Kept). z.spans) f.its_area in
               let apart = apart_free host size h s a l app st own grant kept f n fine in
               grow_scattered host size h s a l n st own.holds.made f.area.held f.area.raw f.area.there f.area.object fine enough f.area.slot f.area.placed
-              (too_many (length (runs_of (f.area.slot.blocks ++ take n host.free)))
-              (λ few. apart_and_few (subst (λ (bs : List ℕ). ShareNoBlock bs (take n host.free)) same apart, subst (λ (bs : List ℕ). length (runs_of (bs ++ take n host.free)) ≤ 16) same few)))
+              (too_many (length (runs_of (f.area.slot.blocks ++ take n host.plane.free)))
+              (λ few. apart_and_few (subst (λ (bs : List ℕ). ShareNoBlock bs (take n host.plane.free)) same apart, subst (λ (bs : List ℕ). length (runs_of (bs ++ take n host.plane.free)) ≤ 16) same few)))
+
+      -- the plane has no room
+      pub room_refused : (e : Refusal) → HasNoRoom host.plane n e → IsGrowRefused host a l n e
+      room_refused r.TableFailed why = failed_refused why
+      room_refused r.NoSpace why = space_refused why.0 why.1
+      room_refused r.Scattered why = many_refused why.0 why.1 why.2
+      room_refused _ why = absurd why
 
 -- The device was called.
 
@@ -208,7 +216,7 @@ module _ (host now : Host) (told : Told) (a l : List ℕ) (n : ℕ) (g : Growth)
         (goes host told.blocks h s a l n g app stood.stands small some ok there own f well es (calls well made))
         (logs_open host told.blocks h s stood.stands es (beside host told.blocks h s a l n g app stood.stands small some ok there own f well es (calls well made)))
 
-  pub lost_steps : plan false → now.apps.items ≡ host.apps.items → now.table ≡ host.table → now.failed ≡ true → now.grants ≡ host.grants → now.clock ≡ host.clock → now.own ≡ host.own → Steps host now told (Ok (w.grow a l n)) es (said.Refused r.DeviceFault) []
+  pub lost_steps : plan false → now.apps.items ≡ host.apps.items → now.plane.table ≡ host.plane.table → now.plane.failed ≡ true → now.grants ≡ host.grants → now.clock ≡ host.clock → now.plane.own ≡ host.plane.own → Steps host now told (Ok (w.grow a l n)) es (said.Refused r.DeviceFault) []
   lost_steps made items kept failed grants clock addresses = record {
     devices = makes_devices _ false es made;
     answered = λ s h stood. grow_answered now told.blocks (after h es) s a l n es (said.Refused r.DeviceFault) [] refl
@@ -217,12 +225,12 @@ module _ (host now : Host) (told : Told) (a l : List ℕ) (n : ℕ) (g : Growth)
   }
 
   pub done_steps : plan true → (app1 : App) → app1.labels ≡ app.labels → app1.areas ≡ with_spans app.areas g.grant g.spans → app1.store.region ≡ app.store.region → app1.store.buffers ≡ app.store.buffers → app1.devices ≡ app.devices → app1.name ≡ app.name
-      → now.apps.items ≡ set host.apps.items g.place app1 → now.free ≡ drop n host.free → now.table ≡ with_slot host.table g.area.slot (Some (grown_area ok.joins.area g.more)) → now.failed ≡ host.failed → now.grants ≡ host.grants → now.clock ≡ host.clock → now.own ≡ host.own
+      → now.apps.items ≡ set host.apps.items g.place app1 → now.plane.free ≡ drop n host.plane.free → now.plane.table ≡ with_slot host.plane.table g.area.slot (Some (grown_area ok.joins.area g.more)) → now.plane.failed ≡ host.plane.failed → now.grants ≡ host.grants → now.clock ≡ host.clock → now.plane.own ≡ host.plane.own
       → Steps host now told (Ok (w.grow a l n)) es said.Ok []
   done_steps made app1 labels areas region buffers devices name items free tables failed grants clock addresses = record {
     devices = makes_devices _ true es made;
     answered = λ s h stood. grow_answered now told.blocks (after h es) s a l n es said.Ok [] refl
         (grow_done host told.blocks h s a l n g app stood.stands small some ok there (own s h stood) (f s h stood) true es (calls s h stood true made) refl now app1 labels areas region buffers devices name items free
-        (tables ∙ ap (λ (z : Area). with_slot host.table g.area.slot (Some (grown_area z g.more))) (same_area s h stood)) failed grants clock addresses);
+        (tables ∙ ap (λ (z : Area). with_slot host.plane.table g.area.slot (Some (grown_area z g.more))) (same_area s h stood)) failed grants clock addresses);
     fronts = λ s h stood. fronts s h stood true made;
   }

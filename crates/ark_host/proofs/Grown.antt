@@ -61,17 +61,18 @@ use Rattle.ark_held.specs.declared.areas.Area.{Area as Kept}
 use Rattle.ark_own.proofs.OfGrants.{IsGrantOf}
 use Rattle.ark_host.specs.declared.host.Host.{Host}
 use Rattle.ark_host.specs.declared.host.grow.Growth.{Growth}
-use Rattle.ark_host.specs.Tabled.{table_of, with_longer, TableStands, StandsBeside, slot_count}
+use Rattle.ark_plane.specs.Tables.{table_of, with_longer, slot_count}
+use Rattle.ark_host.specs.Tabled.{TableStands, StandsBeside}
 use Rattle.ark_host.specs.Stored.{stored_slots}
 use Rattle.ark_host.specs.Stands.{Stands, RowDone, IsHeld, AreNamed, around, app_of, area_count}
 use Rattle.ark_host.specs.Growing.{grow_row, MayGrow}
-use Rattle.ark_host.proofs.Machines.{by_test}
-use Rattle.ark_host.proofs.Lists.{first_found}
-use Rattle.ark_host.proofs.Sharing.{has, one_slot}
-use Rattle.ark_host.proofs.Freeing.{free_without}
+use Rattle.ark_plane.proofs.Tests.{by_test}
+use Rattle.ark_plane.proofs.Lists.{first_found}
+use Rattle.ark_plane.proofs.Sharing.{has, one_slot}
+use Rattle.ark_plane.proofs.Freeing.{free_without}
 use Rattle.ark_host.proofs.Storing.{own_set}
-use Rattle.ark_host.proofs.Tabling.{slot_there, area_there, table_size, fit_in}
-use Rattle.ark_host.proofs.Lengthened.{longer, its_longer, one_index, in_map, of_map, area_longer, find_longer, count_longer, granted_longer}
+use Rattle.ark_plane.proofs.Tabling.{slot_there, area_there, table_size, fit_in}
+use Rattle.ark_plane.proofs.Lengthened.{longer, its_longer, one_index, in_map, of_map, area_longer, find_longer, count_longer, granted_longer}
 use Rattle.ark_host.proofs.Standing.{slot_names, slot_based, slot_data, slot_fits}
 use Rattle.ark_host.proofs.Setting.{with_set, set_apps, set_now, set_here}
 use Rattle.ark_host.proofs.Fronts.{its_own, some_slot}
@@ -123,21 +124,21 @@ module _ (host : Host) (size : ℕ) (past : History) (s : System) (a l : List �
   placed : slot_of s.plane a l ≡ Some t
   placed = f.area.placed
 
-  its_use : slot_in host.table g.area.slot ≡ Some (area_of t)
+  its_use : slot_in host.plane.table g.area.slot ≡ Some (area_of t)
   its_use = in_use host size past s a l app st h g.grant g.area f
 
   new_blocks : more ≡ g.more
   new_blocks = ap (λ (bs : List ℕ). take n bs) (st.plane.free ok.settled) ∙ sym ok.more
 
   count : length more ≡ n
-  count = ap (λ (bs : List ℕ). length (take n bs)) (st.plane.free ok.settled) ∙ length-take n host.free ∙ (let space = ok.space in grind (arith, nat_tests))
+  count = ap (λ (bs : List ℕ). length (take n bs)) (st.plane.free ok.settled) ∙ length-take n host.plane.free ∙ (let space = ok.space in grind (arith, nat_tests))
 
   -- its area has few runs with the new blocks
   pub its_area : ok.joins.area ≡ area_of t
-  its_area = some_same (slot_in host.table g.area.slot) ok.joins.area (area_of t) ok.joins.used its_use
+  its_area = some_same (slot_in host.plane.table g.area.slot) ok.joins.area (area_of t) ok.joins.used its_use
 
-  compact : length (runs_of (t.blocks ++ take n host.free)) ≤ max_runs
-  compact = subst (λ (bs : List ℕ). length (runs_of (bs ++ take n host.free)) ≤ max_runs) (ap (λ (z : Area). blocks_of z.runs) its_area ∙ blocks_of-runs_of t.blocks)
+  compact : length (runs_of (t.blocks ++ take n host.plane.free)) ≤ max_runs
+  compact = subst (λ (bs : List ℕ). length (runs_of (bs ++ take n host.plane.free)) ≤ max_runs) (ap (λ (z : Area). blocks_of z.runs) its_area ∙ blocks_of-runs_of t.blocks)
       (subst (λ (bs : List ℕ). length (runs_of (blocks_of ok.joins.area.runs ++ bs)) ≤ max_runs) ok.more ok.joins.few)
 
   -- the change that the line begins
@@ -277,7 +278,7 @@ module _ (host : Host) (size : ℕ) (past : History) (s : System) (a l : List �
 
     -- A call failed: the table has failed from now on, and a stop decides whether the slot has the blocks.
 
-    module _ (now : Host) (items : now.apps.items ≡ host.apps.items) (kept_table : now.table ≡ host.table) (failed : now.failed ≡ true) (grants : now.grants ≡ host.grants) (clock : now.clock ≡ host.clock) (addresses : now.own ≡ host.own) (bad : well ≡ false) where
+    module _ (now : Host) (items : now.apps.items ≡ host.apps.items) (kept_table : now.plane.table ≡ host.plane.table) (failed : now.plane.failed ≡ true) (grants : now.grants ≡ host.grants) (clock : now.clock ≡ host.clock) (addresses : now.plane.own ≡ host.plane.own) (bad : well ≡ false) where
       abbrev lost : Plane
       lost = record s.plane { failed = true; unsettled = Some (grows t more) }
 
@@ -439,8 +440,8 @@ module _ (host : Host) (size : ℕ) (past : History) (s : System) (a l : List �
       }
 
       module _ (now : Host) (app1 : App) (labels : app1.labels ≡ app.labels) (areas_are : app1.areas ≡ with_spans app.areas g.grant g.spans) (region : app1.store.region ≡ app.store.region) (buffers : app1.store.buffers ≡ app.store.buffers) (devices : app1.devices ≡ app.devices) (name : app1.name ≡ app.name)
-          (items : now.apps.items ≡ set host.apps.items g.place app1) (free : now.free ≡ drop n host.free) (tables : now.table ≡ with_slot host.table g.area.slot (Some (grown_area (area_of t) g.more))) (failed : now.failed ≡ host.failed)
-          (grants : now.grants ≡ host.grants) (clock : now.clock ≡ host.clock) (addresses : now.own ≡ host.own) where
+          (items : now.apps.items ≡ set host.apps.items g.place app1) (free : now.plane.free ≡ drop n host.plane.free) (tables : now.plane.table ≡ with_slot host.plane.table g.area.slot (Some (grown_area (area_of t) g.more))) (failed : now.plane.failed ≡ host.plane.failed)
+          (grants : now.grants ≡ host.grants) (clock : now.clock ≡ host.clock) (addresses : now.plane.own ≡ host.plane.own) where
         abbrev one : Machine
         one = synced_by (ends_of es) (with_object (machine_of s a) l (Objects.raw (areas.grown n old_raw)))
 
@@ -501,7 +502,7 @@ module _ (host : Host) (size : ℕ) (past : History) (s : System) (a l : List �
                 by_test (u.index == t.index) (λ c. (u.index == t.index) ≡ c → slot_of plane (cond c (with_more u more) u).app (cond c (with_more u more) u).label ≡ Some (cond c (with_more u more) u))
                 (λ yes e. found ∙ ap (λ c. Some (cond c (with_more u more) u)) e) (λ no e. found ∙ ap (λ c. Some (cond c (with_more u more) u)) e) refl
 
-        its_table : now.table ≡ table_of plane.slots
+        its_table : now.plane.table ≡ table_of plane.slots
         its_table =
             tables ∙ ap (λ (z : Table). with_slot z g.area.slot (Some (grown_area (area_of t) g.more))) st.plane.table
             ∙ ap (λ i. with_slot (table_of s.plane.slots) i (Some (grown_area (area_of t) g.more))) (sym its_slot)

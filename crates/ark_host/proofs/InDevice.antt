@@ -2,20 +2,22 @@
 use Rattle.std.proofs.Common.{◌≡◌, ⊎_elim, ℕ, zero, suc, ◌<◌, ◌≤◌, ◌-◌, Bool, true, false, cond, List, [], ◌∷◌, ◌++◌, length, take, drop, set, get_or, sym, subst, arith, All, Contains}
 use Rattle.std.specs.Prelude.{Option, Some, None, Ok, nat_eq}
 use Rattle.std.specs.Map.{lookup}
+use Rattle.std.proofs.lemmas.List.{get_or_default}
 use Rattle.std.proofs.lemmas.List.Elements.{All-append, All-drop, All-get_or, All-set, All-take, Contains-get_or}
 use Rattle.std.proofs.lemmas.List.FromFn.{length-range_with_len, get_or-range_with_len}
 use Rattle.ark_extents.specs.Free.{free_at_first, Gains}
+use Rattle.ark_extents.proofs.Holding.{contains_range}
 use Rattle.ark_table.specs.Standing.{Table}
 use Rattle.ark_held.specs.Inside.{AreasInside}
 use Rattle.ark_held.specs.Words.{AreaList, added_to, with_area, without_area, with_spans, grant_at}
 use Rattle.ark_held.specs.declared.app.App.{App}
 use Rattle.ark_held.specs.declared.areas.Area.{Area}
 use Rattle.ark_own.proofs.OfGrants.{below_grant}
-use Rattle.ark_host.specs.Inside.{IsInside, IsShared}
-use Rattle.ark_host.specs.Tabled.{table_of}
-use Rattle.ark_host.proofs.Shared.{fresh_shared, failed_shared}
+use Rattle.ark_plane.specs.Loading.{IsUnused}
+use Rattle.ark_plane.specs.Shared.{IsShared}
+use Rattle.ark_host.specs.Inside.{IsInside}
 use Rattle.ark_host.specs.declared.host.Host.{Host}
-use Rattle.ark_host.proofs.Machines.{by_test}
+use Rattle.ark_plane.proofs.Tests.{by_test}
 
 module _ (size : ℕ) where
   abbrev Below : List ℕ → Type 0
@@ -47,13 +49,13 @@ module _ (size : ℕ) where
           first rest (suc k) d lt = rest k d (omega (arith, lt))
 
   -- of a fresh host
-  pub fresh_inside : (apps : List App) (free : List ℕ) → 130 ≤ size → size ≤ 1048576 → apps ≡ [] → free ≡ free_at_first size → (table : Table) (failed : Bool) → table ≡ table_of [] → (130 ≤ size) × (size ≤ 1048576) × AppsInside apps × Below free × IsShared size table free failed
-  fresh_inside apps free low high none all table failed empty = (
+  pub fresh_inside : (apps : List App) (free : List ℕ) → 130 ≤ size → size ≤ 1048576 → apps ≡ [] → free ≡ free_at_first size → (table : Table) (failed : Bool) → IsShared size table free failed → (130 ≤ size) × (size ≤ 1048576) × AppsInside apps × Below free × IsShared size table free failed
+  fresh_inside apps free low high none all table failed shared = (
     low,
     high,
     subst (λ (xs : List App). AppsInside xs) (sym none) (λ k d lt. absurd (omega (arith, lt))),
     subst (λ (xs : List ℕ). Below xs) (sym all) fresh_below,
-    fresh_shared size table free failed empty all,
+    shared,
   )
 
   one_inside : (g : ℕ) (area : Area) → Below area.spans → AreasInside size ((g, area) ∷ [])
@@ -74,29 +76,29 @@ module _ (size : ℕ) where
 
   -- of a host that granted the first of its free blocks
   pub granted_inside : (host : Host) (place : ℕ) (app app1 : App) (g blocks : ℕ) (area : Area) (rest : List ℕ) → place < length host.apps.items → get_or host.apps.items place app ≡ app → app1.areas ≡ with_area app.areas g area
-      → area.spans ≡ take blocks host.free → rest ≡ drop blocks host.free → IsInside size host → (table : Table) (failed : Bool) → IsShared size table rest failed
+      → area.spans ≡ take blocks host.plane.free → rest ≡ drop blocks host.plane.free → IsInside size host → (table : Table) (failed : Bool) → IsShared size table rest failed
       → (130 ≤ size) × (size ≤ 1048576) × AppsInside (set host.apps.items place app1) × Below rest × IsShared size table rest failed
   granted_inside host place app app1 g blocks area rest lt at areas taken left inside table failed shared =
       let old : AreasInside size app.areas = subst (λ (x : App). AreasInside size x.areas) at
       (All-get_or (λ x. AreasInside size x.areas) host.apps.items place app lt inside.2) in
       let new : AreasInside size app1.areas = subst (λ (x : AreaList). AreasInside size x) (sym areas)
-      (with_inside app.areas g area (lookup (nat_eq g) app.areas) old (subst (λ (xs : List ℕ). Below xs) (sym taken) (All-take (λ n. n < size) blocks host.free inside.3))) in (
+      (with_inside app.areas g area (lookup (nat_eq g) app.areas) old (subst (λ (xs : List ℕ). Below xs) (sym taken) (All-take (λ n. n < size) blocks host.plane.free inside.3))) in (
         inside.0,
         inside.1,
         All-set (λ x. AreasInside size x.areas) host.apps.items place app1 new inside.2,
-        subst (λ (xs : List ℕ). Below xs) (sym left) (All-drop (λ n. n < size) blocks host.free inside.3),
+        subst (λ (xs : List ℕ). Below xs) (sym left) (All-drop (λ n. n < size) blocks host.plane.free inside.3),
         shared,
       )
 
   -- of a host that took its free blocks in vain
-  pub taken_inside : (host : Host) (blocks : ℕ) (rest : List ℕ) → rest ≡ drop blocks host.free → IsInside size host → (table : Table) → table ≡ host.table
-      → (130 ≤ size) × (size ≤ 1048576) × AppsInside host.apps.items × Below rest × IsShared size table rest true
-  taken_inside host blocks rest left inside table same = (
+  pub taken_inside : (host : Host) (blocks : ℕ) (rest : List ℕ) → rest ≡ drop blocks host.plane.free → IsInside size host → (table : Table) (failed : Bool) → IsShared size table rest failed
+      → (130 ≤ size) × (size ≤ 1048576) × AppsInside host.apps.items × Below rest × IsShared size table rest failed
+  taken_inside host blocks rest left inside table failed shared = (
     inside.0,
     inside.1,
     inside.2,
-    subst (λ (xs : List ℕ). Below xs) (sym left) (All-drop (λ n. n < size) blocks host.free inside.3),
-    subst (λ (t : Table). IsShared size t rest true) (sym same) (failed_shared size host.table host.free host.failed inside.4 rest),
+    subst (λ (xs : List ℕ). Below xs) (sym left) (All-drop (λ n. n < size) blocks host.plane.free inside.3),
+    shared,
   )
 
   -- of a host that gave an area up
@@ -129,22 +131,33 @@ module _ (size : ℕ) where
       rest_inside y ys all k d lt = all (suc k) d (omega (arith, lt))
 
   pub grown_inside : (host : Host) (place : ℕ) (app app1 : App) (g blocks : ℕ) (spans rest : List ℕ) → place < length host.apps.items → get_or host.apps.items place app ≡ app → app1.areas ≡ with_spans app.areas g spans
-      → Below spans → rest ≡ drop blocks host.free → (now : Table) → IsShared size now rest host.failed → IsInside size host
-      → (130 ≤ size) × (size ≤ 1048576) × AppsInside (set host.apps.items place app1) × Below rest × IsShared size now rest host.failed
-  grown_inside host place app app1 g blocks spans rest lt at areas below left now shared inside =
+      → Below spans → rest ≡ drop blocks host.plane.free → (now : Table) (failed : Bool) → IsShared size now rest failed → IsInside size host
+      → (130 ≤ size) × (size ≤ 1048576) × AppsInside (set host.apps.items place app1) × Below rest × IsShared size now rest failed
+  grown_inside host place app app1 g blocks spans rest lt at areas below left now failed shared inside =
       let old : AreasInside size app.areas = subst (λ (x : App). AreasInside size x.areas) at
       (All-get_or (λ x. AreasInside size x.areas) host.apps.items place app lt inside.2) in
       let new : AreasInside size app1.areas = subst (λ (x : AreaList). AreasInside size x) (sym areas) (spans_inside app.areas g spans old below) in (
         inside.0,
         inside.1,
         All-set (λ x. AreasInside size x.areas) host.apps.items place app1 new inside.2,
-        subst (λ (xs : List ℕ). Below xs) (sym left) (All-drop (λ n. n < size) blocks host.free inside.3),
+        subst (λ (xs : List ℕ). Below xs) (sym left) (All-drop (λ n. n < size) blocks host.plane.free inside.3),
         shared,
       )
 
   pub grant_inside : (host : Host) (place : ℕ) (app : App) (l : List ℕ) (g blocks : ℕ) (a : Area) (spans more : List ℕ) → place < length host.apps.items → get_or host.apps.items place app ≡ app
-      → grant_at app.labels app.areas l ≡ Ok (g, a) → spans ≡ a.spans ++ more → more ≡ take blocks host.free → IsInside size host → Below spans
+      → grant_at app.labels app.areas l ≡ Ok (g, a) → spans ≡ a.spans ++ more → more ≡ take blocks host.plane.free → IsInside size host → Below spans
   grant_inside host place app l g blocks a spans more lt at found joined is inside =
       let areas : AreasInside size app.areas = subst (λ (x : App). AreasInside size x.areas) at (All-get_or (λ x. AreasInside size x.areas) host.apps.items place app lt inside.2) in
       subst (λ (xs : List ℕ). Below xs) (sym joined)
-      (All-append (λ n. n < size) a.spans more (below_grant size app.labels app.areas l (g, a) areas found) (subst (λ (xs : List ℕ). Below xs) (sym is) (All-take (λ n. n < size) blocks host.free inside.3)))
+      (All-append (λ n. n < size) a.spans more (below_grant size app.labels app.areas l (g, a) areas found) (subst (λ (xs : List ℕ). Below xs) (sym is) (All-take (λ n. n < size) blocks host.plane.free inside.3)))
+
+-- Of a host that was loaded, all that is granted and free lies on the device.
+pub loaded_inside : (size : ℕ) (apps : List App) (free : List ℕ) (table : Table) (failed : Bool) → 130 ≤ size → size ≤ 1048576 → apps ≡ [] → IsUnused size table free → IsShared size table free failed
+    → (130 ≤ size) × (size ≤ 1048576) × All (λ app. AreasInside size app.areas) apps × All (λ n. n < size) free × IsShared size table free failed
+loaded_inside size apps free table failed low high none is inside = (
+  low,
+  high,
+  subst (λ (xs : List App). All (λ app. AreasInside size app.areas) xs) (sym none) (λ k d lt. absurd (omega (arith, lt))),
+  λ k d lt. (let r = contains_range 129 (size - 129) (get_or free k d) ((is (get_or free k d)).0 (k, lt, get_or_default free k (get_or free k d) d lt)).0 in omega (arith, r, low)),
+  inside,
+)

@@ -1,5 +1,5 @@
 -- The machines of a system where one is set, and where time goes on.
-use Rattle.std.proofs.Common.{◌≡◌, ℕ, ◌+◌, Bool, true, false, List, [], ◌∷◌, ◌++◌, map, refl, sym, ◌∙◌, ap, if◌then◌else◌, ◌||◌, bytes_eq}
+use Rattle.std.proofs.Common.{◌≡◌, ℕ, ◌+◌, true, false, List, [], ◌∷◌, ◌++◌, map, refl, ◌∙◌, ap, if◌then◌else◌, ◌||◌, bytes_eq}
 use Rattle.std.proofs.lemmas.Slice.Eq.{bytes_eq-Decides}
 use Rattle.std.proofs.lemmas.List.Folds.{list_any-append}
 use Rattle.std.proofs.Math.Bool.{or-false}
@@ -7,21 +7,7 @@ use Rattle.std.specs.List.{list_any}
 use Rattle.ark_machine.specs.Machine.{Machine}
 use Rattle.ark_machine.specs.Step.{ticked}
 use Rattle.ark_machine.specs.System.{listed_machine, set_machine}
-
--- by what a test gives
-pub by_test : (t : Bool) (P : Bool → Type 0) → (t ≡ true → P true) → (t ≡ false → P false) → P t
-by_test true P h k = h refl
-by_test false P h k = k refl
-
-pub bytes_eq-same : (a : List ℕ) → bytes_eq a a ≡ true
-bytes_eq-same a = (bytes_eq-Decides a a).1 refl
-
--- who differs from one differs from what equals it
-pub bytes_eq-other : (a b c : List ℕ) → bytes_eq a b ≡ false → bytes_eq c b ≡ true → bytes_eq c a ≡ false
-bytes_eq-other a b c apart same = by_test (bytes_eq c a) (λ t. t ≡ false)
-    (λ yes. let ab : a ≡ b = sym ((bytes_eq-Decides c a).0 yes) ∙ (bytes_eq-Decides c b).0 same in
-    sym ((bytes_eq-Decides a b).1 ab) ∙ apart)
-    (λ h. refl)
+use Rattle.ark_plane.proofs.Tests.{by_test, bytes_eq-other}
 
 module _ (now : ℕ) where
   -- a machine set to itself

@@ -18,11 +18,11 @@ use Rattle.ark_held.specs.declared.app.App.{App}
 use Rattle.ark_held.specs.declared.areas.Area.{Area as Kept}
 use Rattle.ark_own.proofs.OfGrants.{IsGrantOf, Lacks, finds_grant}
 use Rattle.ark_host.specs.declared.host.Host.{Host}
-use Rattle.ark_host.specs.Tabled.{table_of}
+use Rattle.ark_plane.specs.Tables.{table_of}
 use Rattle.ark_host.specs.Stands.{Stands, IsHeld, around}
-use Rattle.ark_host.proofs.Machines.{by_test}
-use Rattle.ark_host.proofs.Tabling.{area_there}
-use Rattle.ark_host.proofs.Sharing.{has}
+use Rattle.ark_plane.proofs.Tests.{by_test}
+use Rattle.ark_plane.proofs.Tabling.{area_there}
+use Rattle.ark_plane.proofs.Sharing.{has}
 use Rattle.ark_host.proofs.Standing.{slot_names}
 use Rattle.ark_host.proofs.Fronts.{its_own}
 
@@ -51,7 +51,7 @@ module _ (host : Host) (size : ℕ) (past : History) (s : System) (a l : List �
     pub held : Contains s.plane.slots f.area.slot × (a ≡ f.area.slot.app) × (l ≡ f.area.slot.label)
     held = slot_names s.plane.slots a l f.area.slot f.area.placed
 
-    pub in_use : slot_in host.table kept.slot ≡ Some (area_of f.area.slot)
+    pub in_use : slot_in host.plane.table kept.slot ≡ Some (area_of f.area.slot)
     in_use =
         ap (λ (z : Table). slot_in z kept.slot) st.plane.table ∙ ap (λ i. slot_in (table_of s.plane.slots) i) (ap (λ (z : Kept). z.slot) (sym f.its_area))
         ∙ area_there s.plane.size s.plane.slots st.plane.apart.fit st.plane.apart.apart f.area.slot (contains_in s.plane.slots f.area.slot held.0)
@@ -59,5 +59,5 @@ module _ (host : Host) (size : ℕ) (past : History) (s : System) (a l : List �
     pub apart_lowest : (n : ℕ) → ShareNoBlock f.area.slot.blocks (lowest s.plane n)
     apart_lowest n m own new = false≢true (sym (lowest_free s.plane n m (has (lowest s.plane n) m new)) ∙ its_own s f.area.slot m held.0 own)
 
-    pub apart_free : (n : ℕ) → host.failed ≡ false → ShareNoBlock f.area.slot.blocks (take n host.free)
+    pub apart_free : (n : ℕ) → host.plane.failed ≡ false → ShareNoBlock f.area.slot.blocks (take n host.plane.free)
     apart_free n fine = subst (λ (bs : List ℕ). ShareNoBlock f.area.slot.blocks (take n bs)) (st.plane.free fine) (apart_lowest n)

@@ -6,8 +6,8 @@ use Rattle.std.proofs.lemmas.List.Quantifiers.{position-Some}
 use Rattle.std.proofs.lemmas.Slice.Eq.{bytes_eq-Decides}
 use Rattle.ark_held.specs.declared.app.App.{App}
 use Rattle.ark_host.specs.Stands.{app_of, area_count}
-use Rattle.ark_host.proofs.Machines.{by_test}
-use Rattle.ark_host.proofs.Lists.{get_there, found_set, map_set, first_found}
+use Rattle.ark_plane.proofs.Tests.{by_test}
+use Rattle.ark_plane.proofs.Lists.{get_there, found_set, map_set, first_found}
 
 -- an element at a place, whatever stands for one that is not there
 pub same_place : (items : List App) (a : List ℕ) (place : ℕ) (x y : App) → position (λ z. bytes_eq a z.name) items ≡ Some place → get_or items place x ≡ x → get_or items place y ≡ y → x ≡ y

@@ -29,7 +29,7 @@ use Rattle.ark_host.specs.Stored.{IsStoredArea}
 use Rattle.ark_host.specs.Loaded.{as_found}
 use Rattle.ark_host.proofs.Fronts.{place_of}
 use Rattle.ark_host.proofs.Storing.{stored_found}
-use Rattle.ark_host.proofs.Tabling.{fit_in}
+use Rattle.ark_plane.proofs.Tabling.{fit_in}
 use Rattle.ark_host.proofs.Starting.{all_named, unmade_stands, table_stands}
 use Rattle.ark_held.proofs.Members.{contains_in}
 

@@ -33,18 +33,19 @@ use Rattle.ark_media.specs.Standing.{after}
 use Rattle.ark_held.proofs.Fronts.{shows}
 use Rattle.ark_held.proofs.Members.{contains_in, in_contains}
 use Rattle.ark_host.specs.declared.host.Host.{Host}
-use Rattle.ark_host.specs.Tabled.{table_of, with_longer, LeavesAs, LeavesObject, TableStands, StandsBeside, unsettled_blocks}
+use Rattle.ark_plane.specs.Tables.{table_of, with_longer}
+use Rattle.ark_host.specs.Tabled.{LeavesAs, LeavesObject, TableStands, StandsBeside, unsettled_blocks}
 use Rattle.ark_host.specs.Stands.{Stands, app_of}
-use Rattle.ark_host.proofs.Machines.{by_test}
-use Rattle.ark_host.proofs.Tabling.{has_in, slot_in_table, slot_of_table}
+use Rattle.ark_plane.proofs.Tests.{by_test}
+use Rattle.ark_plane.proofs.Tabling.{has_in, slot_in_table, slot_of_table}
 use Rattle.ark_host.proofs.Staying.{table_stays, spare_front}
-use Rattle.ark_host.proofs.Freeing.{eq_same}
-use Rattle.ark_host.proofs.Sharing.{has}
-use Rattle.ark_host.proofs.Removed.{same_index, in_selected, stayed, rest_agrees, rest_table, front_gone}
+use Rattle.ark_plane.proofs.Freeing.{eq_same}
+use Rattle.ark_plane.proofs.Sharing.{has}
+use Rattle.ark_plane.proofs.Removed.{same_index, in_selected, stayed, rest_agrees, rest_table, front_gone}
 use Rattle.ark_host.proofs.Failed.{none_new, none_made_since}
 use Rattle.ark_host.proofs.Standing.{slot_fits, slot_based}
 use Rattle.ark_host.proofs.Fronts.{IsStored, IsChained, StandsAs, its_own, not_new, by_app, place_of}
-use Rattle.ark_host.proofs.Lengthened.{one_index, in_map, of_map, split_get, longer, table_longer}
+use Rattle.ark_plane.proofs.Lengthened.{one_index, in_map, of_map, split_get, longer, table_longer}
 use Rattle.ark_host.proofs.Contents.{LogsOpen, LogsOpenInside, none_made, logs_open, no_entries, zeros_shown}
 
 -- no slot is held, and the table has none
@@ -96,7 +97,7 @@ held_settled host size h s st t n slot among new =
 
 -- once a change failed, the table has failed
 failed_since : (host : Host) (size : ℕ) (h : History) (s : System) (c : Change) → Stands host size h s → s.plane.unsettled ≡ Some c → s.plane.failed ≡ true
-failed_since host size h s c st is = by_test host.failed (λ b. host.failed ≡ b → s.plane.failed ≡ true)
+failed_since host size h s c st is = by_test host.plane.failed (λ b. host.plane.failed ≡ b → s.plane.failed ≡ true)
     (λ yes q. st.plane.failed ∙ q) (λ no q. absurd (false≢true (ap is_some (sym (st.plane.settled q) ∙ is)))) refl
 
 or_right : (b c : Bool) → c ≡ true → (b || c) ≡ true

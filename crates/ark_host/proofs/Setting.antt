@@ -12,7 +12,8 @@ use Rattle.ark_held.specs.Keeps.{SameAt}
 use Rattle.ark_held.specs.declared.app.App.{App}
 use Rattle.ark_host.specs.Stored.{stored_slots}
 use Rattle.ark_host.specs.Stands.{AtApp, IsHeld, AreNamed, app_of}
-use Rattle.ark_host.proofs.Machines.{by_test, listed_machine-set, bytes_eq-same}
+use Rattle.ark_plane.proofs.Tests.{by_test, bytes_eq-same}
+use Rattle.ark_host.proofs.Machines.{listed_machine-set}
 use Rattle.ark_host.proofs.Standing.{at_app_kept}
 
 -- the system with this plane and this machine of a

@@ -1,6 +1,6 @@
 -- A host that was just loaded stands for the system of the slots of its device.
 use Rattle.std.proofs.Common.{◌≡◌, inl, inr, ℕ, suc, ◌+◌, ◌<◌, ◌≤◌, Bool, true, false, cond, List, [], ◌∷◌, ◌++◌, length, map, get_or, nat_le, ◌&&◌, refl, sym, ◌∙◌, ap, subst, arith, bytes_eq, append_assoc, append-nil, Contains}
-use Rattle.std.specs.Prelude.{Option, Some, None, Result, Ok, Err, IfOk, find, count_by}
+use Rattle.std.specs.Prelude.{Option, Some, None, Ok, find, count_by}
 use Rattle.std.specs.List.{list_all}
 use Rattle.std.specs.List.Sorted.{IsStrictlyIncreasing}
 use Rattle.std.proofs.lemmas.Bool.{cases_eq, and_parts, leb-true}
@@ -11,13 +11,12 @@ use Rattle.ark_base.specs.Name.{is_name}
 use Rattle.ark_base.specs.declared.kind.Kind.{Kind}
 use Rattle.ark_base.specs.declared.kind.Kind.TheVariants as kind
 use Rattle.ark_media.specs.Journal.{Event, Read, Write, Sync, Out, History, block, current, onto, AreReads}
-use Rattle.ark_media.specs.Calls.{Told}
+use Rattle.ark_media.specs.Calls.{Told, OnTold}
 use Rattle.ark_media.specs.Stops.{MayHold, Whole}
 use Rattle.ark_media.specs.Standing.{after}
 use Rattle.ark_extents.specs.Blocks.{blocks_of, runs_of}
 use Rattle.ark_extents.specs.Runs.{are_spans}
 use Rattle.ark_extents.proofs.RunLemmas.{runs_of-blocks_of, spans_longest}
-use Rattle.ark_table.specs.declared.fault.LoadFault.{LoadFault}
 use Rattle.ark_table.specs.Area.{Area, is_area, is_data, least_blocks, block_total}
 use Rattle.ark_table.specs.Slots.{Slot, slot_at, slots_of}
 use Rattle.ark_table.specs.Table.{HasTable, IsSlotBlock, area_at, is_of, slots_in}
@@ -42,14 +41,15 @@ use Rattle.ark_held.proofs.Lists.{same_name, name_same}
 use Rattle.ark_held.proofs.Members.{In, contains_in}
 use Rattle.ark_held.specs.declared.app.App.{App}
 use Rattle.ark_host.specs.declared.host.Host.{Host}
-use Rattle.ark_host.specs.Tabled.{table_of, slot_count}
+use Rattle.ark_plane.specs.Tables.{table_of, slot_count}
 use Rattle.ark_host.specs.Stored.{IsStoredArea, AllStored, HoldsStored, stored_slots}
 use Rattle.ark_host.specs.Stands.{IsUnmade, AtApp, app_of, area_count}
-use Rattle.ark_host.specs.Loaded.{as_found, IsUnused, StandsLoaded, IsLoaded}
-use Rattle.ark_host.proofs.Machines.{by_test}
-use Rattle.ark_host.proofs.Lists.{find_in, in_select}
-use Rattle.ark_host.proofs.Entries.{table_again, free_same}
-use Rattle.ark_host.proofs.Tabling.{none_some, same_some, of_table, fit_in, owned_counted}
+use Rattle.ark_plane.specs.Loading.{IsUnused}
+use Rattle.ark_host.specs.Loaded.{as_found, StandsLoaded, IsLoaded}
+use Rattle.ark_plane.proofs.Tests.{by_test}
+use Rattle.ark_plane.proofs.Lists.{find_in, in_select}
+use Rattle.ark_plane.proofs.Entries.{table_again, free_same}
+use Rattle.ark_plane.proofs.Tabling.{none_some, same_some, of_table, fit_in, owned_counted}
 
 -- Reads change nothing.
 
@@ -294,8 +294,8 @@ module _ (image : List (List ℕ)) (table : Table) (has : HasTable table image) 
 
     -- The host.
 
-    module _ (host : Host) (apps : host.apps.items ≡ []) (tables : host.table ≡ table) (failed : host.failed ≡ false) (grants : host.grants ≡ 129) (clock : host.clock ≡ 0) (addresses : host.own ≡ None)
-        (increasing : IsStrictlyIncreasing host.free) (unused : IsUnused size table host.free) where
+    module _ (host : Host) (apps : host.apps.items ≡ []) (tables : host.plane.table ≡ table) (failed : host.plane.failed ≡ false) (grants : host.grants ≡ 129) (clock : host.clock ≡ 0) (addresses : host.plane.own ≡ None)
+        (increasing : IsStrictlyIncreasing host.plane.free) (unused : IsUnused size table host.plane.free) where
       pub start_stands : StandsLoaded host size image es
       start_stands = record {
         slots = slots;
@@ -309,7 +309,7 @@ module _ (image : List (List ℕ)) (table : Table) (has : HasTable table image) 
             apps = ap (λ (l : List App). map (λ app. app.name) l) (sym apps);
             table = tables ∙ sym table_is;
             failed = sym failed;
-            free = λ no. free_same size table host.free increasing unused;
+            free = λ no. free_same size table host.plane.free increasing unused;
             settled = λ no. refl;
             beside = tt;
             apart = agree;
@@ -325,15 +325,14 @@ module _ (image : List (List ℕ)) (table : Table) (has : HasTable table image) 
       }
 
 -- The same for a device of so many blocks.
-pub loaded_stands : (blocks : ℕ) (image : List (List ℕ)) (table : Table) (es : List Event) → AreReads es → length image ≡ blocks → HasTable table image → (host : Host) → host.apps.items ≡ [] → host.table ≡ table → host.failed ≡ false → host.grants ≡ 129 → host.clock ≡ 0 → host.own ≡ None
-    → IsStrictlyIncreasing host.free → IsUnused blocks table host.free → StandsLoaded host blocks image es
+loaded_stands : (blocks : ℕ) (image : List (List ℕ)) (table : Table) (es : List Event) → AreReads es → length image ≡ blocks → HasTable table image → (host : Host) → host.apps.items ≡ [] → host.plane.table ≡ table → host.plane.failed ≡ false → host.grants ≡ 129 → host.clock ≡ 0 → host.plane.own ≡ None
+    → IsStrictlyIncreasing host.plane.free → IsUnused blocks table host.plane.free → StandsLoaded host blocks image es
 loaded_stands blocks image table es reads len has host apps tables failed grants clock addresses increasing unused =
-    subst (λ n. StandsLoaded host n image es) len (start_stands image table has es reads host apps tables failed grants clock addresses increasing (subst (λ n. IsUnused n table host.free) (sym len) unused))
+    subst (λ n. StandsLoaded host n image es) len (start_stands image table has es reads host apps tables failed grants clock addresses increasing (subst (λ n. IsUnused n table host.plane.free) (sym len) unused))
 
 -- By the table that was loaded, the host stands for whatever device it was loaded from.
-pub all_loaded : (told : Told) (r : Result Host LoadFault) (blocks : ℕ) (table : Table) → told.blocks ≡ blocks → ((h : History) → told.history ≡ Some h → length h.base ≡ told.blocks) → ((h : History) → told.history ≡ Some h → HasTable table (current h.base h.journal))
-    → IfOk r (λ host. (image : List (List ℕ)) (es : List Event) → AreReads es → length image ≡ blocks → HasTable table image → StandsLoaded host blocks image es) → IfOk r (λ host. IsLoaded told host)
-all_loaded told (Err e) blocks table same sized has stands = tt
-all_loaded told (Ok host) blocks table same sized has stands = λ image es is reads.
-    subst (λ n. StandsLoaded host n image es) (sym same)
-    (stands image es reads (sized (after (as_found image) es) is ∙ same) (subst (λ (x : List (List ℕ)). HasTable table x) (current_reads image es [] reads) (has (after (as_found image) es) is)))
+pub all_loaded : (told : Told) (host : Host) → ((h : History) → told.history ≡ Some h → length h.base ≡ told.blocks) → OnTold told (HasTable host.plane.table) → host.apps.items ≡ [] → host.plane.failed ≡ false → host.grants ≡ 129 → host.clock ≡ 0 → host.plane.own ≡ None
+    → IsStrictlyIncreasing host.plane.free → IsUnused told.blocks host.plane.table host.plane.free → IsLoaded told host
+all_loaded told host sized has apps failed grants clock addresses increasing unused = λ image es is reads.
+    loaded_stands told.blocks image host.plane.table es reads (sized (after (as_found image) es) is) (subst (λ (x : List (List ℕ)). HasTable host.plane.table x) (current_reads image es [] reads) (has (after (as_found image) es) is))
+    host apps refl failed grants clock addresses increasing unused

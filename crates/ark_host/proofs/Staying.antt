@@ -16,7 +16,8 @@ use Rattle.ark_held.specs.Beside.{AreBeside}
 use Rattle.ark_held.specs.Keeps.{SameAt}
 use Rattle.ark_held.proofs.Besides.{not_silent, same_beside}
 use Rattle.ark_held.proofs.Members.{contains_in}
-use Rattle.ark_host.specs.Tabled.{table_of, LeavesAs, LeavesObject, TableStands, unsettled_blocks}
+use Rattle.ark_plane.specs.Tables.{table_of}
+use Rattle.ark_host.specs.Tabled.{LeavesAs, LeavesObject, TableStands, unsettled_blocks}
 
 -- a block that no event writes
 pub not_written : (blocks : List ℕ) (es : List Event) (n : ℕ) → AreBeside blocks es → Contains blocks n → IsWritten n es → ⊥

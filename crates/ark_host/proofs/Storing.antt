@@ -28,12 +28,12 @@ use Rattle.ark_held.proofs.Keeping.{raw_kept, listed_kept, full_at}
 use Rattle.ark_held.proofs.Fresh.{all_free}
 use Rattle.ark_held.proofs.Lists.{same_name, name_same, name_other, not_some, some_same}
 use Rattle.ark_held.proofs.Members.{In, contains_in, in_contains}
-use Rattle.ark_host.specs.Tabled.{table_of}
+use Rattle.ark_plane.specs.Tables.{table_of}
 use Rattle.ark_host.specs.Stored.{stored_slots, IsStoredArea, AllStored, HoldsStored, stored_labels, stored_areas, stored_numbers}
 use Rattle.ark_host.specs.Given.{AreApart}
-use Rattle.ark_host.proofs.Lists.{in_select}
-use Rattle.ark_host.proofs.Machines.{by_test}
-use Rattle.ark_host.proofs.Tabling.{slot_of_table, slot_in_table}
+use Rattle.ark_plane.proofs.Lists.{in_select}
+use Rattle.ark_plane.proofs.Tests.{by_test}
+use Rattle.ark_plane.proofs.Tabling.{slot_of_table, slot_in_table}
 
 -- The slots of an application.
 

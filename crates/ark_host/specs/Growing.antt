@@ -26,8 +26,8 @@ IsGrowRefused host a l n e = (size : ℕ) (h : History) (s : System) → Stands 
 pub record MayGrow (host : Host) (a l : List ℕ) (n : ℕ) (g : Growth) : Type 0 where
   pub place : position (λ app. bytes_eq a app.name) host.apps.items ≡ Some g.place
   pub area : (app : App) → get_or host.apps.items g.place app ≡ app → grant_at app.labels app.areas l ≡ Ok (g.grant, g.area)
-  pub settled : host.failed ≡ false
-  pub space : n ≤ length host.free
-  pub more : g.more ≡ take n host.free
-  pub joins : MayJoin host.table g.area.slot g.more
+  pub settled : host.plane.failed ≡ false
+  pub space : n ≤ length host.plane.free
+  pub more : g.more ≡ take n host.plane.free
+  pub joins : MayJoin host.plane.table g.area.slot g.more
   pub spans : g.spans ≡ g.area.spans ++ g.more

@@ -11,7 +11,7 @@ use Rattle.ark_machine.specs.Machine.{Machine, Held}
 use Rattle.ark_machine.specs.Told.{own_slots}
 use Rattle.ark_held.specs.Words.{Labels, AreaList, area_in, new_area_cap}
 use Rattle.ark_held.specs.Areas.{IsRaw, IsListed, AreFullIf}
-use Rattle.ark_host.specs.Tabled.{table_of}
+use Rattle.ark_plane.specs.Tables.{table_of}
 
 -- the slots of an application, in the order of the table
 abbrev pub stored_slots : List ℕ → List Slot → List Slot

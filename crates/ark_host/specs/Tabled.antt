@@ -1,24 +1,18 @@
 -- The table of grants that a plane's slots stand for, on the device and in whatever image a stop may leave of it.
-use Rattle.std.specs.Prelude.{◌≡◌, ℕ, ◌<◌, ◌+◌, ◌≤◌, true, false, if◌then◌else◌, ◌==◌, List, [], ◌∷◌, length, get_or, map, replicate, Option, Some, None, Contains, bytes_eq}
+use Rattle.std.specs.Prelude.{◌≡◌, ℕ, ◌<◌, ◌≤◌, true, false, List, [], ◌∷◌, length, get_or, Option, Some, None, Contains}
 use Rattle.ark_base.specs.declared.kind.Kind.{Kind}
 use Rattle.ark_base.specs.declared.kind.Kind.TheVariants as kind
 use Rattle.ark_media.specs.Journal.{History}
 use Rattle.ark_table.specs.Slots.{Slot, area_of}
-use Rattle.ark_table.specs.Standing.{Table, with_slot, IsTableOf, IsUnsettled, creates, grows as adds, removes}
+use Rattle.ark_table.specs.Standing.{IsTableOf, IsUnsettled, creates, grows as adds, removes}
 use Rattle.ark_entry.specs.Found.{found_of}
 use Rattle.ark_machine.specs.Objects.{Object}
 use Rattle.ark_machine.specs.Plane.{Change, makes, grows, drops, is_granted}
-use Rattle.ark_machine.specs.Granting.{with_more}
 use Rattle.ark_machine.specs.Grants.{SlotsAgree, has_block}
 use Rattle.ark_machine.specs.Recovers.{object_lists, object_maybe}
 use Rattle.ark_media.specs.Standing.{MayStand}
 use Rattle.ark_held.specs.Areas.{MayShow}
-use Rattle.ark_held.specs.Totals.{bit}
-
--- each slot at its index
-abbrev pub table_of : List Slot → Table
-table_of [] = replicate 128 None
-table_of (t ∷ slots) = with_slot (table_of slots) t.index (Some (area_of t))
+use Rattle.ark_plane.specs.Tables.{table_of, with_longer}
 
 -- Whatever a stop leaves of these blocks is what the object may have there: of a raw area block by block, of a log or queue one of
 -- its lists.
@@ -39,10 +33,6 @@ TableStands h slots (Some (makes t)) = IsUnsettled h (table_of slots) (creates t
 TableStands h slots (Some (grows t more)) = IsUnsettled h (table_of slots) (adds t.index (area_of t) more)
 TableStands h slots (Some (drops t o)) = IsUnsettled h (table_of (t ∷ slots)) (removes t.index) × LeavesObject h t o
 
--- The slots with more blocks in one of them.
-abbrev pub with_longer : Slot → List ℕ → List Slot → List Slot
-with_longer t more slots = map (λ u. if u.index == t.index then with_more u more else u) slots
-
 -- A slot whose making or removal failed goes with those that are held: none of its blocks is in another. One that was to be made
 -- has a block. Where a raw area failed to grow, no slot has a block that was to be added.
 abbrev pub StandsBeside : ℕ → List Slot → Option Change → Type 0
@@ -57,8 +47,3 @@ unsettled_blocks None = []
 unsettled_blocks (Some (makes t)) = t.blocks
 unsettled_blocks (Some (grows t more)) = more
 unsettled_blocks (Some (drops t o)) = t.blocks
-
--- how many of the slots are this application's
-abbrev pub slot_count : List ℕ → List Slot → ℕ
-slot_count a [] = 0
-slot_count a (t ∷ slots) = bit (bytes_eq a t.app) + slot_count a slots

@@ -20,7 +20,7 @@ use Rattle.ark_machine.specs.Follow.{ended}
 use Rattle.ark_machine.specs.Replies.{Replies, system_after}
 use Rattle.ark_machine.proofs.Fronts.{recovers_of}
 use Rattle.ark_laws.proofs.Confining.{confined_of}
-use Rattle.ark_host.specs.Tabled.{table_of}
+use Rattle.ark_plane.specs.Tables.{table_of}
 use Rattle.ark_cli.proofs.Stops.{no_slots, none_each, table_rests, open_fronts}
 use Rattle.ark_cli.specs.Words.{IsRun}
 use Rattle.ark_cli.specs.Line.{limit}

@@ -48,7 +48,7 @@ impl Host {
         let Ok(mut app) = App::new(self.alloc, *name, frames as u32) else {
             return Said::Refused(Refusal::NoMemory);
         };
-        give_stored(&mut app, &self.table);
+        give_stored(&mut app, &self.plane.table);
         let Ok(()) = self.apps.push(app) else {
             return Said::Refused(Refusal::NoMemory);
         };

@@ -44,7 +44,7 @@ impl Host {
             Ok(area) => area,
             Err(refusal) => return Err(refusal),
         };
-        if self.failed {
+        if self.plane.failed {
             return Err(Refusal::TableFailed);
         }
         if app.open_on(grant).is_some() {
@@ -74,22 +74,14 @@ impl Host {
         ensures inside { IsInside (D.told disk.old).blocks self.new }
     {
         // An area has its slot.
-        let Some(slot) = self.table.slot(index) else {
+        let Some(slot) = self.plane.table.slot(index) else {
             return Said::Refused(Refusal::WrongKind);
         };
         let spans = slot.spans;
         self.apps[place].remove_area(label, grant);
-        match self.table.remove(disk, index) {
-            Ok(()) => {
-                self.free.give(&spans);
-                // that the free blocks rise is what their count says
-                let _ = self.free.free();
-                Said::Ok
-            }
-            Err(_) => {
-                self.failed = true;
-                Said::Refused(Refusal::DeviceFault)
-            }
+        match self.plane.remove(disk, index, &spans) {
+            Ok(()) => Said::Ok,
+            Err(_) => Said::Refused(Refusal::DeviceFault),
         }
     }
 

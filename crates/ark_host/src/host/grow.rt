@@ -1,4 +1,4 @@
-ghost use Rattle.std.specs.Prelude.{◌≡◌, ◌≤◌, ◌<◌, ◌^◌, true, false, [], Ok, IfOk, IfErr};
+ghost use Rattle.std.specs.Prelude.{◌≤◌, ◌<◌, ◌^◌, [], Ok, IfOk, IfErr};
 ghost use Rattle.ark_media.specs.Calls.{GoesBy};
 ghost use Rattle.ark_script.specs.Line as w;
 ghost use Rattle.ark_script.specs.Text.{IsNamed, IsSaid};
@@ -8,7 +8,7 @@ ghost use Rattle.ark_host.specs.Time.{Counts};
 use super::Host;
 use super::apps::place_of;
 use ark_base::{AppName, Label, Refusal};
-use ark_extents::{Spans, TakeFault};
+use ark_extents::Spans;
 use ark_held::Area;
 use ark_media::Disk;
 use ark_script::Said;
@@ -34,7 +34,6 @@ impl Host {
         ensures refused { IfErr result (λ e. IsGrowRefused self.now name.now label.now blocks e) }
         ensures named { IfErr result (λ e. IsNamed e) }
         ensures early { IfErr result (λ e. IsEarly e) }
-        ensures small { IfOk result (λ x. blocks < 2 ^ 32) }
         ensures may { IfOk result (λ x. MayGrow self.now name.now label.now blocks x) }
     {
         let Some(place) = place_of(&self.apps, name) else {
@@ -44,19 +43,12 @@ impl Host {
             Ok((grant, area)) => (grant, *area),
             Err(refusal) => return Err(refusal),
         };
-        if self.failed {
-            return Err(Refusal::TableFailed);
-        }
-        if blocks > u64::from(self.free.free()) {
-            return Err(Refusal::NoSpace);
-        }
-        let more = match self.free.lowest(blocks as u32) {
+        let more = match self.plane.room(blocks) {
             Ok(more) => more,
-            Err(TakeFault::NoSpace) => return Err(Refusal::NoSpace),
-            Err(TakeFault::Scattered) => return Err(Refusal::Scattered),
+            Err(refusal) => return Err(refusal),
         };
         // An area has its slot, with the same blocks.
-        let Some(slot) = self.table.slot(area.slot) else {
+        let Some(slot) = self.plane.table.slot(area.slot) else {
             return Err(Refusal::WrongKind);
         };
         if slot.spans.join(&more).is_none() {
@@ -95,16 +87,12 @@ impl Host {
             Ok(growth) => growth,
             Err(refusal) => return Said::Refused(refusal),
         };
-        self.free.take_lowest(blocks as u32);
-        match self.table.grow(disk, growth.area.slot, &growth.more) {
+        match self.plane.grow(disk, growth.area.slot, &growth.more) {
             Ok(()) => {
                 self.apps[growth.place].set_spans(growth.grant, growth.spans);
                 Said::Ok
             }
-            Err(_) => {
-                self.failed = true;
-                Said::Refused(Refusal::DeviceFault)
-            }
+            Err(_) => Said::Refused(Refusal::DeviceFault),
         }
     }
 }

@@ -54,10 +54,9 @@ impl Host {
         ensures counts { Counts self.old self.new 0 0 }
         ensures inside { KeepsInside self.old self.new }
     {
-        if self.own.is_some() {
-            return Said::Refused(Refusal::NameTaken);
+        match self.plane.set_nic(*own) {
+            Ok(()) => Said::Ok,
+            Err(refusal) => Said::Refused(refusal),
         }
-        self.own = Some(*own);
-        Said::Ok
     }
 }

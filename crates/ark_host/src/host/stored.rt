@@ -2,7 +2,7 @@ ghost use Rattle.std.specs.Prelude.{◌≡◌, ℕ, [], take};
 ghost use Rattle.ark_table.specs.Stated.{stated};
 ghost use Rattle.ark_held.specs.Inside.{AreasInside};
 ghost use Rattle.ark_host.specs.Given.{GivesSlot, HasGiven};
-ghost use Rattle.ark_host.specs.Inside.{TableInside};
+ghost use Rattle.ark_plane.specs.Shared.{TableInside};
 
 use ark_held::{App, Area};
 use ark_table::{GrantTable, Slot};

@@ -1,31 +1,20 @@
-use Rattle.std.proofs.Common.{◌≡◌, ◌∙◌, ℕ, Err, length, ⊎_elim, ap, sym, arith}
-use Rattle.ark_media.specs.Journal.{current}
-use Rattle.ark_media.proofs.Stopping.{length-current}
+use Rattle.std.proofs.Common.{Err, ap, refl}
 use Rattle.ark_table.specs.declared.fault.LoadFault.{LoadFault}
 use Rattle.ark_table.specs.declared.fault.LoadFault.TheVariants.{Damaged}
-use Rattle.ark_table.proofs.Front.{not_device, too_small, too_large, same_fault, same_bad}
-use Rattle.ark_host.proofs.Loading.{no_misfit}
+use Rattle.ark_table.proofs.Front.{same_fault}
+use Rattle.ark_host.proofs.InDevice.{loaded_inside}
 use Rattle.ark_host.proofs.Starting.{all_loaded}
 use Rattle.ark_host.proofs.host.Host.load.Goals as goal
 
-pub returns-then-blocks-lt130-clause-damaged : goal.returns-then-blocks-lt130-clause-damaged
-returns-then-blocks-lt130-clause-damaged g c bad same h told =
-    let image = current h.base h.journal in
-    let long : length image ≡ c.blocks-blocks.result = length-current h.base h.journal ∙ g.met.D.Disk.size_is c.args.disk.now h told ∙ sym c.blocks-blocks.ensures in
-    not_device image (⊎_elim (λ low. too_small image (omega (arith, low, long))) (λ high. too_large image (omega (arith, high.1, long))) c.then-blocks-lt130.either) ∙ ap (λ (b : ℕ). Err b) (same_bad 0 bad same)
-
 pub returns-in-Ok-clause-loaded : goal.returns-in-Ok-clause-loaded
 returns-in-Ok-clause-loaded g c =
-    let w = c.in-Ok.ensures.went.went in
-    let same = (g.met.D.Disk.goes_told c.args.disk.now c.load.new.disk w.events w.goes_on).blocks in
-    all_loaded (g.D.Disk.told c.load.new.disk) c.with_table.result c.blocks-blocks.result c.in-Ok.table (same ∙ sym c.blocks-blocks.ensures) (λ h told. g.met.D.Disk.size_is c.load.new.disk h told) c.in-Ok.ensures.table c.with_table.ensures.stands
+    let ok = c.in-Ok.ensures in
+    all_loaded (g.D.Disk.told c.load.new.disk) _ (λ h told. g.met.D.Disk.size_is c.load.new.disk h told) ok.table c.new.ensures.items ok.settled refl refl ok.own ok.rising ok.free
 
-pub returns-in-Ok-clause-damaged : goal.returns-in-Ok-clause-damaged
-returns-in-Ok-clause-damaged g c bad same h told =
-    let w = c.in-Ok.ensures.went.went in
-    let blocks = (g.met.D.Disk.goes_told c.args.disk.now c.load.new.disk w.events w.goes_on).blocks in
-    absurd (no_misfit (current h.base h.journal) c.in-Ok.table c.blocks-blocks.result bad c.with_table.result (c.in-Ok.ensures.table h told)
-    (length-current h.base h.journal ∙ g.met.D.Disk.size_is c.load.new.disk h told ∙ blocks ∙ sym c.blocks-blocks.ensures) c.with_table.ensures.fault same)
+pub returns-in-Ok-clause-inside : goal.returns-in-Ok-clause-inside
+returns-in-Ok-clause-inside g c =
+    let ok = c.in-Ok.ensures in
+    loaded_inside (g.D.Disk.told c.load.new.disk).blocks c.new.result.items c.in-Ok.plane.free c.in-Ok.plane.table c.in-Ok.plane.failed ok.low ok.high c.new.ensures.items ok.free ok.shared
 
 pub returns-in-Err-clause-damaged : goal.returns-in-Err-clause-damaged
 returns-in-Err-clause-damaged g c bad same h told = c.in-Err.ensures.damaged bad (ap (λ (x : LoadFault). Err x) (same_fault c.in-Err.fault (Damaged bad) same)) h told

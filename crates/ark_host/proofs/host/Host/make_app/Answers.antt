@@ -5,7 +5,7 @@ use Rattle.ark_held.specs.declared.app.App.{App}
 use Rattle.ark_host.specs.Given.{HasGiven}
 use Rattle.ark_host.proofs.Apps.{app_taken, app_limited, app_lacking, app_made}
 use Rattle.ark_host.proofs.InDevice.{app_inside}
-use Rattle.ark_host.proofs.LoadedShared.{shared_inside}
+use Rattle.ark_plane.proofs.LoadedShared.{shared_inside}
 use Rattle.ark_host.proofs.host.Host.make_app.Goals as goal
 
 pub returns-then-is_some-clause-turned : goal.returns-then-is_some-clause-turned
@@ -26,7 +26,7 @@ pub returns-clause-turned : goal.returns-clause-turned
 returns-clause-turned c =
     let new = sym (c.is_some.ensures ∙ ap is_some (c.place_of.ensures.place ∙ ap (λ (l : List App). position (λ x. bytes_eq c.args.name.now x.name) l) c.deref.ensures.value)) ∙ c.if-is_some.false in
     λ size h s st. app_made s c.args.self.now size h c.args.name.now c.args.frames st new (search rules) _ c.give_stored.new.app (search rules) refl refl refl refl refl refl (c.give_stored.ensures.name ∙ c.in-Ok.ensures.name)
-    (subst (λ (n : List ℕ). HasGiven n (take 128 c.args.self.now.table) c.give_stored.new.app) c.in-Ok.ensures.name c.give_stored.ensures.given)
+    (subst (λ (n : List ℕ). HasGiven n (take 128 c.args.self.now.plane.table) c.give_stored.new.app) c.in-Ok.ensures.name c.give_stored.ensures.given)
     (ap (λ (m : Space). m.taken) (c.give_stored.ensures.region ∙ c.in-Ok.ensures.region) ∙ ap (λ n. replicate n false) c.unwrap_or-frames.ensures)
 
 pub returns-clause-inside : goal.returns-clause-inside
@@ -34,7 +34,7 @@ returns-clause-inside c = λ size inside. (
   inside.0,
   inside.1,
   app_inside size c.args.self.now.apps.items c.push.new.self.items c.give_stored.new.app c.in-Ok-push.ensures.items inside.2
-      (c.give_stored.ensures.inside size (shared_inside size c.args.self.now.table c.args.self.now.free c.args.self.now.failed inside.4)),
+      (c.give_stored.ensures.inside size (shared_inside size c.args.self.now.plane.table c.args.self.now.plane.free c.args.self.now.plane.failed inside.4)),
   inside.3,
   inside.4,
 )

@@ -1,7 +1,7 @@
 use Rattle.std.proofs.Common.{◌≡◌, ℕ, take}
 use Rattle.ark_held.specs.Inside.{AreasInside}
 use Rattle.ark_host.specs.Given.{HasGiven}
-use Rattle.ark_host.specs.Inside.{TableInside}
+use Rattle.ark_plane.specs.Shared.{TableInside}
 use Rattle.ark_host.proofs.host.stored.give_stored.Given as goal
 
 abbrev pub invariant-loop-place : goal.invariant-loop-place

@@ -1,0 +1,4 @@
+pub mod Tables
+pub mod Shared
+pub mod Loading
+pub mod Room
