@@ -60,7 +60,7 @@ piece_plain : (taken : List Bool) (b : Option Piece) → IsProp (IfSome b (LiesI
 piece_plain taken None = λ x y. refl
 piece_plain taken (Some b) = le_prop
 
-lies_plain : (taken : List Bool) (chain : OpenChain) → IsProp (HasBuffersIn taken chain)
+pub lies_plain : (taken : List Bool) (chain : OpenChain) → IsProp (HasBuffersIn taken chain)
 lies_plain taken chain x y = λ i. record {
   header = piece_plain taken chain.header x.header y.header i;
   waiting = λ k d less. piece_plain taken _ (x.waiting k d less) (y.waiting k d less) i;

@@ -50,6 +50,7 @@ pub record WasMoved (x : Around) (key : ℕ) (k : CardKept) (told : Option Histo
   pub makes : Makes (calls_of (card_of k) (due_of (card_of k) (blocks_held x.areas) x.now) x.tables.memory) (worked answer) es
   pub answer_is : answer ≡ answer_of (card_of k) (due_of (card_of k) (blocks_held x.areas) x.now) (worked answer)
   pub leaves : Leaves (card_of k) (due_of (card_of k) (blocks_held x.areas) x.now) (worked answer) told x.tables.memory memory
+  pub taken : memory.taken ≡ x.tables.memory.taken
   pub sets : Sets key (card_moved k (due_of (card_of k) (blocks_held x.areas) x.now) answer x.now) x.tables.cards cards
   pub rings : RingsAt answer k.door x.tables.doors doors
 
@@ -95,10 +96,10 @@ module _ (x : Around) (v : List ℕ) (c : Capability) (k : CardKept) (card : Vsi
 
   -- no device call was made, and the memory is as it was
   module _ (quiet : es ≡ []) (same : memory ≡ x.tables.memory) where
-    no_logs : LogsAtFronts x es
+    pub no_logs : LogsAtFronts x es
     no_logs = subst (λ (z : List Event). LogsAtFronts x z) (sym quiet) (logs_still x on.holds)
 
-    no_calls : Follows (MakesAt (blocks_under x)) [] es
+    pub no_calls : Follows (MakesAt (blocks_under x)) [] es
     no_calls = subst (λ (z : List Event). Follows (MakesAt (blocks_under x)) [] z) (sym quiet) ended
 
     pub unmoved : (m : Machine) → Holds (carried x [] m x.tables.memory cards doors) → Holds (carried x es m memory cards doors)

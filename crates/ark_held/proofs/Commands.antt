@@ -23,7 +23,7 @@ use Rattle.ark_held.proofs.Lists.{some_same}
 
 -- What is so of the card and the log that are found.
 module _ (cards : List (Option StorageCard)) (key : ℕ) (one : StorageCard) (v : OpenChain) (there : at cards key ≡ Some one) (log : one.log ≡ Some v) where
-  of_log : (P : StorageCard → OpenChain → Type 0) → P one v → OfLogAt cards key P
+  pub of_log : (P : StorageCard → OpenChain → Type 0) → P one v → OfLogAt cards key P
   of_log P its other u here is =
       let same = some_same (at cards key) one other there here in
       subst (λ (z : StorageCard). P z u) same (subst (P one) (some_same one.log v u log (ap (λ (z : StorageCard). z.log) same ∙ is)) its)

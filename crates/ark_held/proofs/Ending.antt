@@ -23,7 +23,7 @@ use Rattle.ark_held.specs.Words.{Labels}
 use Rattle.ark_held.specs.Totals.{bit, total, uses, vsic_uses, open_count}
 use Rattle.ark_held.specs.Kept.{CardKept, PaceKept}
 use Rattle.ark_held.specs.Around.{Around, Each, Both}
-use Rattle.ark_held.specs.Cards.{IsCard, IsJob, IsPhase, IsEnded, IsPaced, IsWatched}
+use Rattle.ark_held.specs.Cards.{HasPhases, IsCard, IsJob, IsPhase, IsEnded, IsPaced, IsWatched}
 use Rattle.ark_held.specs.Held.{IsObjectOf, AllMatch, AreDistinctLabels, Holds}
 use Rattle.ark_held.specs.Keeps.{IsOpenOn, StaysOpen, Keeps, Within, JobWithin, any_label, any_piece}
 use Rattle.ark_held.specs.Ringing.{Sets, Rings}
@@ -32,7 +32,7 @@ use Rattle.ark_held.proofs.Changing.{put_at, none_put}
 use Rattle.ark_held.proofs.Creating.{but}
 use Rattle.ark_held.proofs.Devising.{with_devices, card_keeps, card_set, open_same, door_set}
 use Rattle.ark_held.proofs.Finding.{its_own, stands_at}
-use Rattle.ark_held.proofs.Opens.{none_open, stays_same}
+use Rattle.ark_held.proofs.Opens.{none_open, shut_phases, stays_same}
 use Rattle.ark_held.proofs.Keeping.{job_kept, ended_kept, paced_kept, watched_kept}
 use Rattle.ark_held.proofs.Staying.{within}
 
@@ -46,6 +46,7 @@ pub record StandsFor (x : Around) (v : List ℕ) (k : CardKept) (card : Vsic) : 
   pub pace : Both (IsPaced x) k.pace card.pace
   pub door : Both (IsWatched x) k.door card.door
   pub log : bit (is_some k.log) ≡ open_count x.machine v
+  pub phases : HasPhases k.log card.queue.posted card.queue.unreaped
 
 -- the card under a label, kept and held
 pub record OnCard (x : Around) (v : List ℕ) (c : Capability) (k : CardKept) (card : Vsic) : Type 0 where
@@ -59,7 +60,7 @@ pub record OnCard (x : Around) (v : List ℕ) (c : Capability) (k : CardKept) (c
   pub fits : StandsFor x v k card
 
 stands_for : (x : Around) (v : List ℕ) (c : Capability) (card : Vsic) (f : IsCard x v c card) → StandsFor x v f.card card
-stands_for x v c card f = record { size = f.size; posted = f.posted; unreaped = f.unreaped; moved = f.moved; bound = f.bound; pace = f.pace; door = f.door; log = f.log }
+stands_for x v c card f = record { size = f.size; posted = f.posted; unreaped = f.unreaped; moved = f.moved; bound = f.bound; pace = f.pace; door = f.door; log = f.log; phases = f.phases }
 
 pub on_card : (x : Around) (v : List ℕ) (c : Capability) (k : CardKept) (card : Vsic) (held : Held) → Holds x → value_at x.labels v ≡ Some c → c.kind ≡ cap_kind.Vsic → at x.machine v ≡ Some held → held.object ≡ Objects.vsic card → x.tables.cards c.key ≡ Some k
     → OnCard x v c k card
@@ -148,6 +149,7 @@ module _ (x : Around) (v : List ℕ) (c : Capability) (k : CardKept) (card : Vsi
           pace = paced_kept (but v) any_label any_piece x y keeps now.pace new.pace w.2 fits.pace;
           door = watched_kept (but v) any_label any_piece x y keeps now.door new.door w.3 fits.door;
           log = fits.log ∙ sym (open_same x on.holds v c on.named on.kind on.held on.there card new on.object cards k now on.was sets stays used);
+          phases = fits.phases;
         }
 
     pub card_holds : Holds y
@@ -173,11 +175,12 @@ module _ (x : Around) (v : List ℕ) (c : Capability) (k : CardKept) (card : Vsi
         pace = both;
         door = on.fits.door;
         log = on.fits.log;
+        phases = on.fits.phases;
       })
 
   -- The oldest descriptor has ended.
   module _ (d : Descriptor) (ds : List Descriptor) (j : Job) (js : List Job) (posted : k.ring.posted ≡ d ∷ ds) (jobs : card.queue.posted ≡ j ∷ js) (o : Outcome) where
-    its_jobs : Each (IsJob x k.log) (d ∷ ds) (j ∷ js)
+    pub its_jobs : Each (IsJob x k.log) (d ∷ ds) (j ∷ js)
     its_jobs = subst (λ (zs : List Job). Each (IsJob x k.log) (d ∷ ds) zs) jobs (subst (λ (zs : List Descriptor). Each (IsJob x k.log) zs card.queue.posted) posted on.fits.posted)
 
     ended_one : (i : Job) → IsJob x k.log d i → IsEnded x k.log (completion_of d o 0) (i, o)
@@ -189,13 +192,13 @@ module _ (x : Around) (v : List ℕ) (c : Capability) (k : CardKept) (card : Vsi
         its_log None q is = absurd is
         its_log (Some v) q is = refl
 
-    each_last : (cs : List Completion) (us : List (Job × Outcome)) → Each (IsEnded x k.log) cs us → Each (IsEnded x k.log) (cs ++ completion_of d o 0 ∷ []) (us ++ (j, o) ∷ [])
+    pub each_last : (cs : List Completion) (us : List (Job × Outcome)) → Each (IsEnded x k.log) cs us → Each (IsEnded x k.log) (cs ++ completion_of d o 0 ∷ []) (us ++ (j, o) ∷ [])
     each_last [] [] each = (ended_one j its_jobs.0, tt)
     each_last (a ∷ cs) (b ∷ us) each = (each.0, each_last cs us each.1)
     each_last [] (b ∷ us) each = absurd each
     each_last (a ∷ cs) [] each = absurd each
 
-    uses_same : (pace : Option Paced) (l : List ℕ) → vsic_uses l (ending j js o (block_passed pace card)) ≡ vsic_uses l card
+    pub uses_same : (pace : Option Paced) (l : List ℕ) → vsic_uses l (ending j js o (block_passed pace card)) ≡ vsic_uses l card
     uses_same pace l =
         let more = total_last (λ u. bit (job_has l u.0)) card.queue.unreaped (j, o) in
         let had : total (λ i. bit (job_has l i)) card.queue.posted ≡ bit (job_has l j) + total (λ i. bit (job_has l i)) js = ap (λ (zs : List Job). total (λ i. bit (job_has l i)) zs) jobs in
@@ -218,5 +221,6 @@ module _ (x : Around) (v : List ℕ) (c : Capability) (k : CardKept) (card : Vsi
           pace = both;
           door = on.fits.door;
           log = on.fits.log;
+          phases = shut_phases k.log new.queue.posted new.queue.unreaped none;
         } in
         rung_holds (y new now cards sets opens (uses_same pace) fits) (card_holds new now cards sets opens (uses_same pace) fits) doors k.door card.door (card_watched new now cards sets opens (uses_same pace) fits on.fits.door) rings

@@ -28,7 +28,7 @@ use Rattle.ark_held.specs.declared.card.StorageCard.{StorageCard}
 use Rattle.ark_held.specs.declared.nets.Nets.{Nets}
 use Rattle.ark_held.proofs.Lists.{other_name, some_same, each_kept}
 use Rattle.ark_held.proofs.Keeping.{job_kept, ended_kept, paced_kept, watched_kept}
-use Rattle.ark_held.proofs.Opens.{card_logs_by, shut_stays}
+use Rattle.ark_held.proofs.Opens.{shut_phases, card_logs_by, shut_stays}
 use Rattle.ark_held.proofs.Staying.{within}
 use Rattle.ark_held.proofs.Swapping as swapping
 use Rattle.ark_held.proofs.Swapping.{Swaps}
@@ -151,6 +151,7 @@ module _ (r : Beyond) (app app1 : App) (v b : List ℕ) (h : Holds (around r app
           pace = subst (λ (k : CardKept). Both (IsPaced y) k.pace both.vsic.pace) entry_same (paced_kept rest any_label any_piece x y keeps f.card.pace both.vsic.pace inside.2 f.pace);
           door = subst (λ (k : CardKept). Both (IsWatched y) k.door both.vsic.door) entry_same (watched_kept rest any_label any_piece x y keeps f.card.door both.vsic.door inside.3 f.door);
           log = ap (λ (k : CardKept). bit (is_some k.log)) (sym entry_same) ∙ f.log ∙ sym (swapping.opens_same r app app1 v b o right swaps v);
+          phases = shut_phases one.log queue.posted queue.unreaped shut;
         }
 
     pub exchanged : Holds y

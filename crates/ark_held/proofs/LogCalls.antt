@@ -119,6 +119,21 @@ abbrev OpensTo : History → List ℕ → Object → Type 0
 OpensTo h blocks (Objects.log g) = OpensToLists h blocks g
 OpensTo h blocks _ = Unit {0}
 
+-- a stop inside calls for one log leaves of each log one of its lists
+pub logs_within : (x : Around) (size : ℕ) → Holds x → ((l : List ℕ) (t : Slot) (n : ℕ) → slot_at x l ≡ Some t → Contains t.blocks n → n < length x.history.base) → IsSited x size → (s : List ℕ) (log : Log) → object_at x.machine s ≡ Some (Objects.log log) → (t : Slot) → slot_at x s ≡ Some t
+    → (es : List Event) → AreOfLog t.blocks es → ((front back : List Event) → es ≡ front ++ back → OpensToLists (after x.history front) t.blocks log) → LogsAtFronts x es
+logs_within x size h inside sited s log object t slot es of its l u g there is front back split = by_test (λ b. bytes_eq s l ≡ b → OpensToLists (after x.history front) u.blocks g) (bytes_eq s l)
+    (λ yes q.
+    let name = same_name s l q in
+    let same_slot : t ≡ u = some_same (slot_at x s) t u slot (ap (λ k. slot_at x k) name ∙ there) in
+    let same_log : Objects.log log ≡ Objects.log g = some_same (object_at x.machine s) (Objects.log log) (Objects.log g) object (ap (λ k. object_at x.machine k) name ∙ is) in
+    subst (λ (v : Slot). OpensToLists (after x.history front) v.blocks g) same_slot
+    (subst (λ (o : Object). OpensTo (after x.history front) t.blocks o) same_log (its front back split)))
+    (λ no q contents shown. log_opens x h l u g there is contents
+    (shows_beside x.history u.blocks front contents (λ n has. inside l u n there has)
+    (front_beside u.blocks front back (subst (λ (zs : List Event). AreBeside u.blocks zs) split
+    (others_beside t.blocks u.blocks (λ n a b. other_name s l q (sited.apart s l t u n slot there a b)) es of))) shown)) refl
+
 module _ (app : App) (s : List ℕ) (size : ℕ) where
   abbrev Inside : Beyond → Type 0
   Inside r = (l : List ℕ) (t : Slot) (n : ℕ) → slot_at (around r app) l ≡ Some t → Contains t.blocks n → n < length r.history.base
@@ -170,14 +185,4 @@ module _ (app : App) (s : List ℕ) (size : ℕ) where
   -- a stop inside them leaves of each log one of its lists
   pub logs_called : (es : List Event) (r : Beyond) → Holds (around r app) → Inside r → IsSited (around r app) size → (log : Log) → object_at r.machine s ≡ Some (Objects.log log) → (t : Slot) → slot_at (around r app) s ≡ Some t → AreOfLog t.blocks es
       → ((front back : List Event) → es ≡ front ++ back → OpensToLists (after r.history front) t.blocks log) → LogsAtFronts (around r app) es
-  logs_called es r h inside sited log object t slot of its l u g there is front back split = by_test (λ b. bytes_eq s l ≡ b → OpensToLists (after r.history front) u.blocks g) (bytes_eq s l)
-      (λ yes q.
-      let name = same_name s l q in
-      let same_slot : t ≡ u = some_same (slot_at (around r app) s) t u slot (ap (λ k. slot_at (around r app) k) name ∙ there) in
-      let same_log : Objects.log log ≡ Objects.log g = some_same (object_at r.machine s) (Objects.log log) (Objects.log g) object (ap (λ k. object_at r.machine k) name ∙ is) in
-      subst (λ (v : Slot). OpensToLists (after r.history front) v.blocks g) same_slot
-      (subst (λ (o : Object). OpensTo (after r.history front) t.blocks o) same_log (its front back split)))
-      (λ no q contents shown. log_opens (around r app) h l u g there is contents
-      (shows_beside r.history u.blocks front contents (λ n has. inside l u n there has)
-      (front_beside u.blocks front back (subst (λ (zs : List Event). AreBeside u.blocks zs) split
-      (others_beside t.blocks u.blocks (λ n a b. other_name s l q (sited.apart s l t u n slot there a b)) es of))) shown)) refl
+  logs_called es r h inside sited log object t slot of its = logs_within (around r app) size h inside sited s log object t slot es of its

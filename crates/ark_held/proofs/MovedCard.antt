@@ -38,7 +38,6 @@ use Rattle.ark_held.specs.Cards.{IsJob, IsPhase, IsTransfer}
 use Rattle.ark_held.specs.Kept.{CardKept}
 use Rattle.ark_held.specs.Beside.{AreBeside}
 use Rattle.ark_held.specs.Does.{IsSited, LogsAtFronts}
-use Rattle.ark_held.specs.Idle.{is_idle}
 use Rattle.ark_held.specs.Held.{Holds}
 use Rattle.ark_held.specs.Moving.{area_named, area_of_grant, card_of, blocks_held, pace_moved, said_of}
 use Rattle.ark_held.specs.declared.areas.Area.{Area}
@@ -49,7 +48,7 @@ use Rattle.ark_held.proofs.Effects.{at_other, at_each, labels_apart, read_holds,
 use Rattle.ark_held.proofs.Reaching.{IsReached, IsGone, reached}
 use Rattle.ark_held.proofs.Dues.{due_by_tests}
 use Rattle.ark_held.proofs.Ending.{OnCard}
-use Rattle.ark_held.proofs.Idling.{idle_posted}
+use Rattle.ark_held.proofs.MovedPhase.{phase_done}
 use Rattle.ark_held.proofs.MoveRows.{ended_by, move_is, ends_is, gate_unbound, gate_over, gate_waits, gate_opens, put_is, put_call, get_is, get_call, get_fails}
 use Rattle.ark_held.proofs.Transferring.{due_gone, due_reached, inside, at_next, ItsBuffer, its_buffer, below, room, content}
 use Rattle.ark_held.proofs.Carrying.{carried, Carries, WasMoved, made_of, leaves_of, answer_by, sets_by, rings_by, carries_by, still, ended_quietly, none_made}
@@ -355,9 +354,9 @@ module _ (x : Around) (v : List ℕ) (c : Capability) (k : CardKept) (card : Vsi
   by_posted none [] (j ∷ js) posted jobs each = absurd each
   by_posted none (d ∷ ds) [] posted jobs each = absurd each
 
-  -- nothing is posted for an open log so far
-  pub carries : is_idle k.log k.ring ≡ true → Carries x row es a memory cards doors
-  carries still_idle = by k.log refl
+  -- a card on which one is open has the descriptor of its phase, or none
+  pub carries : Carries x row es a memory cards doors
+  carries = by k.log refl
     where
       none_there : (js : List Job) → Each (IsJob x k.log) [] js → js ≡ []
       none_there [] each = refl
@@ -365,6 +364,8 @@ module _ (x : Around) (v : List ℕ) (c : Capability) (k : CardKept) (card : Vsi
 
       by : (log : Option OpenChain) → k.log ≡ log → Result
       by None none = by_posted none k.ring.posted card.queue.posted refl refl on.fits.posted
-      by (Some q) is =
-          let none = idle_posted q k.ring (ap (λ (o : Option OpenChain). is_idle o k.ring) (sym is) ∙ still_idle) in
-          idle none (none_there card.queue.posted (subst (λ (ds : List Descriptor). Each (IsJob x k.log) ds card.queue.posted) none on.fits.posted))
+      by (Some q) log = by_ring k.ring.posted refl
+        where
+          by_ring : (ds : List Descriptor) → k.ring.posted ≡ ds → Result
+          by_ring [] none = idle none (none_there card.queue.posted (subst (λ (ds : List Descriptor). Each (IsJob x k.log) ds card.queue.posted) none on.fits.posted))
+          by_ring (d ∷ ds) posted = phase_done x v c k card on told es a memory cards doors w is_told size sited in_base q log d (ap (λ (zs : List Descriptor). slice_get zs 0) posted)

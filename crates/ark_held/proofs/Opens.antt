@@ -4,6 +4,10 @@ use Rattle.std.specs.Prelude.{◌==◌, Option, Some, is_some, option_map, ◌||
 use Rattle.std.proofs.lemmas.Bool.{cases_eq, false≢true}
 use Rattle.ark_objects.specs.Held.{Changes, at as slot}
 use Rattle.ark_vsic.specs.Card.{is_bound, bound_without}
+use Rattle.ark_base.specs.declared.kind.Outcome.{Outcome}
+use Rattle.ark_log.specs.Open.{OpenChain}
+use Rattle.ark_machine.specs.Objects.{Job}
+use Rattle.ark_held.specs.Cards.{HasPhases}
 use Rattle.ark_held.specs.Kept.{CardKept}
 use Rattle.ark_held.specs.Words.{Labels}
 use Rattle.ark_held.specs.Keeps.{IsOpenOn, StaysOpen, LogsStay}
@@ -48,3 +52,7 @@ shut_stays one one1 shut grant on = absurd (false≢true (sym shut ∙ ap is_som
 pub alike_stays : (one one1 : StorageCard) → one1.log ≡ one.log → one1.vsic.ring ≡ one.vsic.ring → one1.vsic.bound ≡ one.vsic.bound
     → (grant : ℕ) → IsOpenOn grant (kept_card one) → StaysOpen grant (kept_card one) (Some (kept_card one1))
 alike_stays one one1 log ring bound grant on = record { card = kept_card one1; there = refl; log = log; ring = ring; bound = λ has. ap (λ bs. is_bound grant bs) bound ∙ has }
+
+-- where none is open nothing is asked of the jobs
+pub shut_phases : (log : Option OpenChain) (posted : List Job) (unreaped : List (Job × Outcome)) → log ≡ None → HasPhases log posted unreaped
+shut_phases log posted unreaped none = subst (λ (o : Option OpenChain). HasPhases o posted unreaped) (sym none) tt

@@ -9,7 +9,7 @@ use Rattle.ark_vic.specs.Queue.{Queue}
 use Rattle.ark_held.specs.Nets.{AreQuiet, is_empty}
 use Rattle.ark_held.specs.declared.network_card.NetworkCard.{NetworkCard}
 use Rattle.ark_held.proofs.CardLogs.{card_less, card_set}
-use Rattle.ark_held.proofs.Idling.{nothing}
+use Rattle.ark_held.proofs.LogRings.{none_in}
 
 abbrev IsQuiet : NetworkCard → Type 0
 IsQuiet c = is_empty c.vnic.tx ≡ true
@@ -32,4 +32,4 @@ quiet_at nets key one quiet there = ∥∥₁_elim quiet (Bool-set (is_empty one
 
 -- nothing is in an empty ring
 pub empty_ring : (q : Queue) → is_empty q ≡ true → (q.posted ≡ []) × (q.unreaped ≡ [])
-empty_ring q empty = let p = and_parts (length q.posted == 0) (length q.unreaped == 0) empty in (nothing q.posted p.0, nothing q.unreaped p.1)
+empty_ring q empty = let p = and_parts (length q.posted == 0) (length q.unreaped == 0) empty in (none_in q.posted p.0, none_in q.unreaped p.1)

@@ -88,7 +88,7 @@ module _ (taken : List Bool) (v : Card) (x : Due) (ok : Bool) (s : IsSoundRing t
 
 -- What can move is a plain fact.
 
-both_plain : {A B : Type 0} → IsProp A → IsProp B → IsProp (A × B)
+pub both_plain : {A B : Type 0} → IsProp A → IsProp B → IsProp (A × B)
 both_plain p q x y = λ i. (p x.0 y.0 i, q x.1 y.1 i)
 
 room_plain : (taken : List Bool) (size : ℕ) (b : Option Piece) → IsProp (MatchOption b ⊥ (λ p. LiesInRegion taken p × (size ≤ p.len)))

@@ -173,6 +173,7 @@ module _ (x : Around) (h : Holds x) (l : List ℕ) (n grant : ℕ) (numbered : s
     pace = paced_kept (λ k. false) any_label any_piece x y changes f.card.pace v.pace (all v).2 f.pace;
     door = watched_kept (λ k. false) any_label any_piece x y changes f.card.door v.door (all v).3 f.door;
     log = f.log ∙ sym (same_total (lets_go l n) (λ o. bit (is_open_on k o)) (same_count (λ o. bit (is_open_on k o)) (λ v bound. refl) (λ r on now. refl) l n) x.machine.held);
+    phases = f.phases;
   }
     where
       all : (w : Vsic) → Within any_label any_piece (Objects.vsic w)

@@ -3,8 +3,9 @@ ghost use Rattle.ark_objects.specs.Held.{Changes, at, held};
 ghost use Rattle.ark_vic.specs.Bells.{counts_of};
 ghost use Rattle.ark_vsic.specs.Moves.{CanMove};
 ghost use Rattle.ark_held.specs.Bound.{HasRoomToBind, with_bound};
-ghost use Rattle.ark_held.specs.Idle.{AreIdle, IsShut};
+ghost use Rattle.ark_held.specs.Idle.{IsShut};
 ghost use Rattle.ark_held.specs.LogBuffers.{AllLie};
+ghost use Rattle.ark_held.specs.LogRings.{AreLogRings};
 ghost use Rattle.ark_held.specs.Rings.{AreSound, ChangesCard, HasRoomFor, new_card, no_ring, unbound, with_posted, with_reaped};
 
 use crate::allowance::Allowance;
@@ -26,10 +27,10 @@ pub struct Devices {
     /// The frames of the memory in which the buffers of descriptors lie.
     pub frames: u32,
     pub ghost sound: { ∥ AreSound frames cards ∥₁ },
-    /// So far no word posts a descriptor of an open log.
-    pub ghost idle: { ∥ AreIdle cards ∥₁ },
     /// The buffers of open logs lie in the memory.
     pub ghost lie: { ∥ AllLie frames cards ∥₁ },
+    /// In the ring of a card on which a log is open there is the log's descriptor alone, or its completion.
+    pub ghost logs: { ∥ AreLogRings frames cards ∥₁ },
 }
 
 impl Devices {
@@ -60,6 +61,7 @@ impl Devices {
     pub fn add_card(&mut self, vsic: Vsic) -> u32
         requires room { held self.old.cards < 64 }
         requires empty { vsic.ring ≡ no_ring vsic.ring.size }
+        requires some { 0 < vsic.ring.size }
         ensures vacant { at self.old.cards result ≡ None }
         ensures changes { Changes self.old.cards self.new.cards result (Some (new_card vsic)) }
         ensures more { held self.new.cards ≡ held self.old.cards + 1 }
@@ -151,9 +153,10 @@ impl Devices {
         }
     }
 
-    /// Takes the oldest completion of the card of a key; `None` exactly where there is none.
+    /// Takes the oldest completion of the card of a key, on which no log is open; `None` exactly where there is none.
     pub fn reap(&mut self, key: u32) -> Option<Completion>
         requires there { IsSome (at self.old.cards key) }
+        requires shut { IsShut self.old.cards key }
         ensures oldest { (one : StorageCard) → at self.old.cards key ≡ Some one →
             result ≡ slice_get one.vsic.ring.unreaped 0 }
         ensures changes { ChangesCard self.old.cards self.new.cards key with_reaped }

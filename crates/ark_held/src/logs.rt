@@ -1,6 +1,7 @@
 // The logs that are open on the cards of an application.
 ghost use Rattle.std.specs.Prelude.{◌≡◌, Some, IsSome, option_map};
 ghost use Rattle.ark_objects.specs.Held.{at, held};
+ghost use Rattle.ark_log.specs.Stages.{IsWhole};
 ghost use Rattle.ark_held.specs.Idle.{IsUnused};
 ghost use Rattle.ark_held.specs.LogBuffers.{LiesIn};
 ghost use Rattle.ark_held.specs.OpenLogs.{is_open_by, opened_on};
@@ -17,6 +18,7 @@ impl Devices {
         requires there { IsSome (at self.old.cards key) }
         requires unused { IsUnused self.old.cards key }
         requires lie { LiesIn self.old.frames (Some chain) }
+        requires whole { IsWhole chain }
         ensures changes { ChangesCard self.old.cards self.new.cards key
             (λ c. record c { log = Some chain }) }
         ensures held { held self.new.cards ≡ held self.old.cards }

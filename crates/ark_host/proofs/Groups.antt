@@ -68,6 +68,7 @@ unbuilt_group (w.trim a s n) none = absurd (false≢true (sym none))
 unbuilt_group (w.pop a s) none = absurd (false≢true (sym none))
 unbuilt_group (w.close a s) none = absurd (false≢true (sym none))
 unbuilt_group (w.walk a s n) none = absurd (false≢true (sym none))
+unbuilt_group (w.poll a s) none = absurd (false≢true (sym none))
 unbuilt_group _ none = refl
 
 pub other_group : (g : Group) → (g ≡ group.Control → ⊥) → (g ≡ group.Memory → ⊥) → (g ≡ group.Rates → ⊥) → (g ≡ group.Cards → ⊥) → (g ≡ group.Network → ⊥) → (g ≡ group.Logs → ⊥) → has_built g ≡ false
@@ -166,6 +167,7 @@ unbuilt_control (step.Trim a l n) about no_app no_vsa no_grow no_drop no_tick = 
 unbuilt_control (step.Pop a l) about no_app no_vsa no_grow no_drop no_tick = absurd (no_logs_control about)
 unbuilt_control (step.Close a l) about no_app no_vsa no_grow no_drop no_tick = absurd (no_logs_control about)
 unbuilt_control (step.Walk a l n) about no_app no_vsa no_grow no_drop no_tick = absurd (no_logs_control about)
+unbuilt_control (step.Poll a l) about no_app no_vsa no_grow no_drop no_tick = absurd (no_logs_control about)
 unbuilt_control _ about no_app no_vsa no_grow no_drop no_tick = refl
 
 -- each word about blocks and buffers is built
@@ -210,6 +212,7 @@ all_memory (step.Trim a l n) about no_peek no_poke no_buf no_show no_fill no_cop
 all_memory (step.Pop a l) about no_peek no_poke no_buf no_show no_fill no_copy no_free = absurd (no_logs_memory about)
 all_memory (step.Close a l) about no_peek no_poke no_buf no_show no_fill no_copy no_free = absurd (no_logs_memory about)
 all_memory (step.Walk a l n) about no_peek no_poke no_buf no_show no_fill no_copy no_free = absurd (no_logs_memory about)
+all_memory (step.Poll a l) about no_peek no_poke no_buf no_show no_fill no_copy no_free = absurd (no_logs_memory about)
 all_memory _ about no_peek no_poke no_buf no_show no_fill no_copy no_free = refl
 
 -- the words about rates and doors that are not built
@@ -252,6 +255,7 @@ unbuilt_rates (step.Trim a l n) about no_door no_watch no_look no_rate no_pace =
 unbuilt_rates (step.Pop a l) about no_door no_watch no_look no_rate no_pace = absurd (no_logs_rates about)
 unbuilt_rates (step.Close a l) about no_door no_watch no_look no_rate no_pace = absurd (no_logs_rates about)
 unbuilt_rates (step.Walk a l n) about no_door no_watch no_look no_rate no_pace = absurd (no_logs_rates about)
+unbuilt_rates (step.Poll a l) about no_door no_watch no_look no_rate no_pace = absurd (no_logs_rates about)
 unbuilt_rates _ about no_door no_watch no_look no_rate no_pace = refl
 
 -- the words about storage cards that are not built
@@ -295,6 +299,7 @@ unbuilt_cards (step.Trim a l n) about no_vsic no_bind no_unbind no_get no_put no
 unbuilt_cards (step.Pop a l) about no_vsic no_bind no_unbind no_get no_put no_flush no_reap no_dev = absurd (no_logs_cards about)
 unbuilt_cards (step.Close a l) about no_vsic no_bind no_unbind no_get no_put no_flush no_reap no_dev = absurd (no_logs_cards about)
 unbuilt_cards (step.Walk a l n) about no_vsic no_bind no_unbind no_get no_put no_flush no_reap no_dev = absurd (no_logs_cards about)
+unbuilt_cards (step.Poll a l) about no_vsic no_bind no_unbind no_get no_put no_flush no_reap no_dev = absurd (no_logs_cards about)
 unbuilt_cards _ about no_vsic no_bind no_unbind no_get no_put no_flush no_reap no_dev = refl
 
 -- the words about network cards that are not built
@@ -337,49 +342,51 @@ unbuilt_network (step.Trim a l n) about no_nic no_vnic no_post no_take = absurd 
 unbuilt_network (step.Pop a l) about no_nic no_vnic no_post no_take = absurd (no_logs_network about)
 unbuilt_network (step.Close a l) about no_nic no_vnic no_post no_take = absurd (no_logs_network about)
 unbuilt_network (step.Walk a l n) about no_nic no_vnic no_post no_take = absurd (no_logs_network about)
+unbuilt_network (step.Poll a l) about no_nic no_vnic no_post no_take = absurd (no_logs_network about)
 unbuilt_network _ about no_nic no_vnic no_post no_take = refl
 
 -- the words about logs and queues that are not built
 pub unbuilt_logs : (x : Step) → (attributes (line_of x)).group ≡ group.Logs → ((a l v : List ℕ) → x ≡ step.Log a l v → ⊥) → ((a l v : List ℕ) → x ≡ step.Queue a l v → ⊥) → ((a l : List ℕ) → x ≡ step.Close a l → ⊥) → ((a l : List ℕ) (n : ℕ) → x ≡ step.Walk a l n → ⊥) → ((a l : List ℕ) (hex : Hex) → x ≡ step.Append a l hex → ⊥) → ((a l : List ℕ) (hex : Hex) → x ≡ step.Push a l hex → ⊥)
-    → ((a l : List ℕ) (n : ℕ) → x ≡ step.Trim a l n → ⊥) → ((a l : List ℕ) → x ≡ step.Pop a l → ⊥) → is_built (line_of x) ≡ false
-unbuilt_logs (step.Log a l v) about no_log no_queue no_close no_walk no_append no_push no_trim no_pop = absurd (no_log a l v refl)
-unbuilt_logs (step.Queue a l v) about no_log no_queue no_close no_walk no_append no_push no_trim no_pop = absurd (no_queue a l v refl)
-unbuilt_logs (step.Append a l hex) about no_log no_queue no_close no_walk no_append no_push no_trim no_pop = absurd (no_append a l hex refl)
-unbuilt_logs (step.Push a l hex) about no_log no_queue no_close no_walk no_append no_push no_trim no_pop = absurd (no_push a l hex refl)
-unbuilt_logs (step.Trim a l n) about no_log no_queue no_close no_walk no_append no_push no_trim no_pop = absurd (no_trim a l n refl)
-unbuilt_logs (step.Pop a l) about no_log no_queue no_close no_walk no_append no_push no_trim no_pop = absurd (no_pop a l refl)
-unbuilt_logs (step.Close a l) about no_log no_queue no_close no_walk no_append no_push no_trim no_pop = absurd (no_close a l refl)
-unbuilt_logs (step.Walk a l n) about no_log no_queue no_close no_walk no_append no_push no_trim no_pop = absurd (no_walk a l n refl)
-unbuilt_logs (step.App a frames) about no_log no_queue no_close no_walk no_append no_push no_trim no_pop = absurd (no_logs_control (sym about))
-unbuilt_logs (step.Vsa a l n k) about no_log no_queue no_close no_walk no_append no_push no_trim no_pop = absurd (no_logs_control (sym about))
-unbuilt_logs (step.Grow a l n) about no_log no_queue no_close no_walk no_append no_push no_trim no_pop = absurd (no_logs_control (sym about))
-unbuilt_logs (step.Drop a l) about no_log no_queue no_close no_walk no_append no_push no_trim no_pop = absurd (no_logs_control (sym about))
-unbuilt_logs (step.Tick n) about no_log no_queue no_close no_walk no_append no_push no_trim no_pop = absurd (no_logs_control (sym about))
-unbuilt_logs (step.Peek a l off) about no_log no_queue no_close no_walk no_append no_push no_trim no_pop = absurd (no_logs_memory (sym about))
-unbuilt_logs (step.Poke a l off hex) about no_log no_queue no_close no_walk no_append no_push no_trim no_pop = absurd (no_logs_memory (sym about))
-unbuilt_logs (step.Buf a l n) about no_log no_queue no_close no_walk no_append no_push no_trim no_pop = absurd (no_logs_memory (sym about))
-unbuilt_logs (step.Show a l off n) about no_log no_queue no_close no_walk no_append no_push no_trim no_pop = absurd (no_logs_memory (sym about))
-unbuilt_logs (step.Fill a l off hex) about no_log no_queue no_close no_walk no_append no_push no_trim no_pop = absurd (no_logs_memory (sym about))
-unbuilt_logs (step.Copy a l m n) about no_log no_queue no_close no_walk no_append no_push no_trim no_pop = absurd (no_logs_memory (sym about))
-unbuilt_logs (step.Free a l) about no_log no_queue no_close no_walk no_append no_push no_trim no_pop = absurd (no_logs_memory (sym about))
-unbuilt_logs (step.Door a d) about no_log no_queue no_close no_walk no_append no_push no_trim no_pop = absurd (no_logs_rates (sym about))
-unbuilt_logs (step.Watch a v d q) about no_log no_queue no_close no_walk no_append no_push no_trim no_pop = absurd (no_logs_rates (sym about))
-unbuilt_logs (step.Look a d) about no_log no_queue no_close no_walk no_append no_push no_trim no_pop = absurd (no_logs_rates (sym about))
-unbuilt_logs (step.Rate a l n b) about no_log no_queue no_close no_walk no_append no_push no_trim no_pop = absurd (no_logs_rates (sym about))
-unbuilt_logs (step.Pace a v l q) about no_log no_queue no_close no_walk no_append no_push no_trim no_pop = absurd (no_logs_rates (sym about))
-unbuilt_logs (step.Vsic a v size) about no_log no_queue no_close no_walk no_append no_push no_trim no_pop = absurd (no_logs_cards (sym about))
-unbuilt_logs (step.Bind a v s) about no_log no_queue no_close no_walk no_append no_push no_trim no_pop = absurd (no_logs_cards (sym about))
-unbuilt_logs (step.Unbind a v s) about no_log no_queue no_close no_walk no_append no_push no_trim no_pop = absurd (no_logs_cards (sym about))
-unbuilt_logs (step.Get a v s off n b) about no_log no_queue no_close no_walk no_append no_push no_trim no_pop = absurd (no_logs_cards (sym about))
-unbuilt_logs (step.Put a v s off n b) about no_log no_queue no_close no_walk no_append no_push no_trim no_pop = absurd (no_logs_cards (sym about))
-unbuilt_logs (step.Flush a v) about no_log no_queue no_close no_walk no_append no_push no_trim no_pop = absurd (no_logs_cards (sym about))
-unbuilt_logs (step.Reap a v) about no_log no_queue no_close no_walk no_append no_push no_trim no_pop = absurd (no_logs_cards (sym about))
-unbuilt_logs (step.Dev a v) about no_log no_queue no_close no_walk no_append no_push no_trim no_pop = absurd (no_logs_cards (sym about))
-unbuilt_logs (step.Nic own) about no_log no_queue no_close no_walk no_append no_push no_trim no_pop = absurd (no_logs_network (sym about))
-unbuilt_logs (step.Vnic a v rx tx) about no_log no_queue no_close no_walk no_append no_push no_trim no_pop = absurd (no_logs_network (sym about))
-unbuilt_logs (step.Post a v b) about no_log no_queue no_close no_walk no_append no_push no_trim no_pop = absurd (no_logs_network (sym about))
-unbuilt_logs (step.Take a v d) about no_log no_queue no_close no_walk no_append no_push no_trim no_pop = absurd (no_logs_network (sym about))
-unbuilt_logs _ about no_log no_queue no_close no_walk no_append no_push no_trim no_pop = refl
+    → ((a l : List ℕ) (n : ℕ) → x ≡ step.Trim a l n → ⊥) → ((a l : List ℕ) → x ≡ step.Pop a l → ⊥) → ((a l : List ℕ) → x ≡ step.Poll a l → ⊥) → is_built (line_of x) ≡ false
+unbuilt_logs (step.Log a l v) about no_log no_queue no_close no_walk no_append no_push no_trim no_pop no_poll = absurd (no_log a l v refl)
+unbuilt_logs (step.Queue a l v) about no_log no_queue no_close no_walk no_append no_push no_trim no_pop no_poll = absurd (no_queue a l v refl)
+unbuilt_logs (step.Append a l hex) about no_log no_queue no_close no_walk no_append no_push no_trim no_pop no_poll = absurd (no_append a l hex refl)
+unbuilt_logs (step.Push a l hex) about no_log no_queue no_close no_walk no_append no_push no_trim no_pop no_poll = absurd (no_push a l hex refl)
+unbuilt_logs (step.Trim a l n) about no_log no_queue no_close no_walk no_append no_push no_trim no_pop no_poll = absurd (no_trim a l n refl)
+unbuilt_logs (step.Pop a l) about no_log no_queue no_close no_walk no_append no_push no_trim no_pop no_poll = absurd (no_pop a l refl)
+unbuilt_logs (step.Close a l) about no_log no_queue no_close no_walk no_append no_push no_trim no_pop no_poll = absurd (no_close a l refl)
+unbuilt_logs (step.Walk a l n) about no_log no_queue no_close no_walk no_append no_push no_trim no_pop no_poll = absurd (no_walk a l n refl)
+unbuilt_logs (step.Poll a l) about no_log no_queue no_close no_walk no_append no_push no_trim no_pop no_poll = absurd (no_poll a l refl)
+unbuilt_logs (step.App a frames) about no_log no_queue no_close no_walk no_append no_push no_trim no_pop no_poll = absurd (no_logs_control (sym about))
+unbuilt_logs (step.Vsa a l n k) about no_log no_queue no_close no_walk no_append no_push no_trim no_pop no_poll = absurd (no_logs_control (sym about))
+unbuilt_logs (step.Grow a l n) about no_log no_queue no_close no_walk no_append no_push no_trim no_pop no_poll = absurd (no_logs_control (sym about))
+unbuilt_logs (step.Drop a l) about no_log no_queue no_close no_walk no_append no_push no_trim no_pop no_poll = absurd (no_logs_control (sym about))
+unbuilt_logs (step.Tick n) about no_log no_queue no_close no_walk no_append no_push no_trim no_pop no_poll = absurd (no_logs_control (sym about))
+unbuilt_logs (step.Peek a l off) about no_log no_queue no_close no_walk no_append no_push no_trim no_pop no_poll = absurd (no_logs_memory (sym about))
+unbuilt_logs (step.Poke a l off hex) about no_log no_queue no_close no_walk no_append no_push no_trim no_pop no_poll = absurd (no_logs_memory (sym about))
+unbuilt_logs (step.Buf a l n) about no_log no_queue no_close no_walk no_append no_push no_trim no_pop no_poll = absurd (no_logs_memory (sym about))
+unbuilt_logs (step.Show a l off n) about no_log no_queue no_close no_walk no_append no_push no_trim no_pop no_poll = absurd (no_logs_memory (sym about))
+unbuilt_logs (step.Fill a l off hex) about no_log no_queue no_close no_walk no_append no_push no_trim no_pop no_poll = absurd (no_logs_memory (sym about))
+unbuilt_logs (step.Copy a l m n) about no_log no_queue no_close no_walk no_append no_push no_trim no_pop no_poll = absurd (no_logs_memory (sym about))
+unbuilt_logs (step.Free a l) about no_log no_queue no_close no_walk no_append no_push no_trim no_pop no_poll = absurd (no_logs_memory (sym about))
+unbuilt_logs (step.Door a d) about no_log no_queue no_close no_walk no_append no_push no_trim no_pop no_poll = absurd (no_logs_rates (sym about))
+unbuilt_logs (step.Watch a v d q) about no_log no_queue no_close no_walk no_append no_push no_trim no_pop no_poll = absurd (no_logs_rates (sym about))
+unbuilt_logs (step.Look a d) about no_log no_queue no_close no_walk no_append no_push no_trim no_pop no_poll = absurd (no_logs_rates (sym about))
+unbuilt_logs (step.Rate a l n b) about no_log no_queue no_close no_walk no_append no_push no_trim no_pop no_poll = absurd (no_logs_rates (sym about))
+unbuilt_logs (step.Pace a v l q) about no_log no_queue no_close no_walk no_append no_push no_trim no_pop no_poll = absurd (no_logs_rates (sym about))
+unbuilt_logs (step.Vsic a v size) about no_log no_queue no_close no_walk no_append no_push no_trim no_pop no_poll = absurd (no_logs_cards (sym about))
+unbuilt_logs (step.Bind a v s) about no_log no_queue no_close no_walk no_append no_push no_trim no_pop no_poll = absurd (no_logs_cards (sym about))
+unbuilt_logs (step.Unbind a v s) about no_log no_queue no_close no_walk no_append no_push no_trim no_pop no_poll = absurd (no_logs_cards (sym about))
+unbuilt_logs (step.Get a v s off n b) about no_log no_queue no_close no_walk no_append no_push no_trim no_pop no_poll = absurd (no_logs_cards (sym about))
+unbuilt_logs (step.Put a v s off n b) about no_log no_queue no_close no_walk no_append no_push no_trim no_pop no_poll = absurd (no_logs_cards (sym about))
+unbuilt_logs (step.Flush a v) about no_log no_queue no_close no_walk no_append no_push no_trim no_pop no_poll = absurd (no_logs_cards (sym about))
+unbuilt_logs (step.Reap a v) about no_log no_queue no_close no_walk no_append no_push no_trim no_pop no_poll = absurd (no_logs_cards (sym about))
+unbuilt_logs (step.Dev a v) about no_log no_queue no_close no_walk no_append no_push no_trim no_pop no_poll = absurd (no_logs_cards (sym about))
+unbuilt_logs (step.Nic own) about no_log no_queue no_close no_walk no_append no_push no_trim no_pop no_poll = absurd (no_logs_network (sym about))
+unbuilt_logs (step.Vnic a v rx tx) about no_log no_queue no_close no_walk no_append no_push no_trim no_pop no_poll = absurd (no_logs_network (sym about))
+unbuilt_logs (step.Post a v b) about no_log no_queue no_close no_walk no_append no_push no_trim no_pop no_poll = absurd (no_logs_network (sym about))
+unbuilt_logs (step.Take a v d) about no_log no_queue no_close no_walk no_append no_push no_trim no_pop no_poll = absurd (no_logs_network (sym about))
+unbuilt_logs _ about no_log no_queue no_close no_walk no_append no_push no_trim no_pop no_poll = refl
 
 -- a word's counts are those of a line
 pub counted : (old now : Host) (ticks most : ℕ) → ticks ≤ a_billion → most ≤ 1 → Counts old now ticks most → CountsLine old now

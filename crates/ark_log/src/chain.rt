@@ -1,4 +1,5 @@
 ghost use Rattle.std.specs.Prelude.{◌≡◌, ◌≤◌, ◌<◌, ◌+◌, ◌^◌, length};
+ghost use Rattle.ark_log.specs.Open.{IsRight};
 
 use crate::command::Waiting;
 use ark_base::Kind;
@@ -98,6 +99,13 @@ impl Chain {
         self.waiting.len() as u32
     }
 
+    /// Whether it is a log or a queue.
+    pub fn kind(&self) -> Kind
+        ensures { result ≡ self.now.kind }
+    {
+        self.kind
+    }
+
     /// The grant of its area.
     pub fn grant(&self) -> u64
         ensures { result ≡ self.now.grant }
@@ -111,6 +119,13 @@ impl Chain {
         ensures few { self.now.room + 1 < 2 ^ 32 }
     {
         self.room
+    }
+
+    /// A law, which does nothing: what is so of every open log.
+    pub fn is_right(&self)
+        ensures { IsRight self.now }
+    {
+        let _ = &self.kind;
     }
 
     /// Whether a descriptor of it has failed since it was opened.

@@ -36,7 +36,7 @@ use Rattle.ark_held.specs.Kept.{CardKept}
 use Rattle.ark_held.specs.Rings.{kept_card}
 use Rattle.ark_held.specs.Around.{Around, Each, Both}
 use Rattle.ark_held.specs.Areas.{IsLog, IsOpened}
-use Rattle.ark_held.specs.Cards.{IsCard, IsEnded, IsJob, IsPaced, IsPhaseOf, IsWatched}
+use Rattle.ark_held.specs.Cards.{HasPhases, IsCard, IsEnded, IsJob, IsPaced, IsPhaseOf, IsWatched}
 use Rattle.ark_held.specs.Held.{Holds}
 use Rattle.ark_held.specs.Keeps.{JobWithin, Keeps, Within, any_label}
 use Rattle.ark_held.specs.Beyond.{Beyond, around}
@@ -141,13 +141,18 @@ module _ (r : Beyond) (app : App) (s : List ℕ) (a : OpenAt) (h : Holds (around
       let was = h.taken j in
       omega (arith, own, its, was)
 
+  -- a piece none of whose frames it has is apart from all that it has
+  pub own_apart : (b : Piece) → ((j : ℕ) → Covers b j → object_covers j (Objects.log f.both.log) ≡ 0) → AllByRecursion (Apart b) (pieces_of f.chain)
+  own_apart b clear =
+      let parts : (j : ℕ) → Covers b j → bit (covers j (f.opened.header_frame, 1)) + count j (rooms f.opened.waiting) ≡ 0 = λ j has. sym (ap (count j) its_frames) ∙ clear j has in (
+        one_apart b (record { start = f.chain.header_at; len = 512 }) 1 refl
+            (λ j has. subst (λ n. bit (covers j (n, 1)) ≡ 0) (sym f.runs.is.header) (let none = parts j has in omega (arith, none))),
+        rooms_apart b f.chain.waiting f.opened.waiting f.runs.is.rooms (λ j has. let none = parts j has in omega (arith, none)),
+      )
+
   -- a new buffer is apart from all that it has
   pub new_apart : (b : Piece) → ((j : ℕ) → Covers b j → taken_at j ≡ 0) → AllByRecursion (Apart b) (pieces_of f.chain)
-  new_apart b free = (
-    one_apart b (record { start = f.chain.header_at; len = 512 }) 1 refl
-        (λ j has. subst (λ n. bit (covers j (n, 1)) ≡ 0) (sym f.runs.is.header) (let own = its_count j in let none = free j has in omega (arith, own, none))),
-    rooms_apart b f.chain.waiting f.opened.waiting f.runs.is.rooms (λ j has. let own = its_count j in let none = free j has in omega (arith, own, none)),
-  )
+  new_apart b free = own_apart b (λ j has. ap (count j) its_frames ∙ (let own = its_count j in let none = free j has in omega (arith, own, none)))
 
   module _ (app1 : App) (w : OpenChain) (c : log.Waiting) (behind : Waiting) (touched : ℕ → Type 0) (reaches : Reaches r app app1 s r.history touched) (changes : GoesOnAs app.devices.cards app1.devices.cards a.key f.one w)
       (grant : w.grant ≡ f.chain.grant) (waiting : w.waiting ≡ f.chain.waiting ++ behind ∷ []) (done : w.done ≡ f.chain.done)
@@ -227,6 +232,7 @@ module _ (r : Beyond) (app : App) (s : List ℕ) (a : OpenAt) (h : Holds (around
           pace = subst (λ (z : CardKept). Both (IsPaced y) z.pace f.both.vsic.pace) f.kept (paced_kept neither any_label (Spares touched) x y keeps_rest k.card.pace f.both.vsic.pace inside.2 k.pace);
           door = subst (λ (z : CardKept). Both (IsWatched y) z.door f.both.vsic.door) f.kept (watched_kept neither any_label (Spares touched) x y keeps_rest k.card.door f.both.vsic.door inside.3 k.door);
           log = one_open;
+          phases = subst (λ (o : Option OpenChain). HasPhases o f.both.vsic.queue.posted f.both.vsic.queue.unreaped) log_was (subst (λ (z : CardKept). HasPhases z.log f.both.vsic.queue.posted f.both.vsic.queue.unreaped) f.kept k.phases);
         }
 
     opened_now : IsOpened y f.both.area.grant f.both.log_fits.slot.blocks log_then (with_one_more f.opened c)

@@ -100,7 +100,7 @@ module _ (j n : ℕ) where
       )
 
   -- of a command, by what it does
-  command_back : (c : Command) (w : Waiting) (room : List (ℕ × ℕ)) (taken : List Bool) → length taken ≡ n → room ≡ map (λ b. (b.start, entry_blocks w.len)) (buffers_by c w) → HasBuffer w → HasEntryBuffer c w.buf → HasNoneOfTrim c w.buf → Lies w.buf
+  pub command_back : (c : Command) (w : Waiting) (room : List (ℕ × ℕ)) (taken : List Bool) → length taken ≡ n → room ≡ map (λ b. (b.start, entry_blocks w.len)) (buffers_by c w) → HasBuffer w → HasEntryBuffer c w.buf → HasNoneOfTrim c w.buf → Lies w.buf
       → count j room ≤ taken_at taken j → IsFreed taken (given_back taken w.buf) room
   command_back (Append k) w room taken long is buffer there none lies most =
       let one : count j room ≡ bit (covers j (w.start, entry_blocks w.len)) + 0 = ap (count j) is in
@@ -318,6 +318,7 @@ module _ (r : Beyond) (app : App) (s : List ℕ) (a : OpenAt) (f : FoundOpen (ar
           pace = subst (λ (z : CardKept). Both (IsPaced y) z.pace f.both.vsic.pace) f.kept (paced_kept neither any_label (Spares none) x y keeps_rest k.card.pace f.both.vsic.pace inside.2 k.pace);
           door = subst (λ (z : CardKept). Both (IsWatched y) z.door f.both.vsic.door) f.kept (watched_kept neither any_label (Spares none) x y keeps_rest k.card.door f.both.vsic.door inside.3 k.door);
           log = none_open;
+          phases = tt;
         }
 
     log_now : IsLog y s f.both.area log_then

@@ -15,3 +15,10 @@ pub mod Lines
 pub mod OfCommands
 pub mod Accepts
 pub mod Gives
+pub mod Puts
+pub mod PolledHolds
+pub mod PolledCases
+pub mod PolledRows
+pub mod PolledAcks
+pub mod PolledLogs
+pub mod Polls

@@ -27,6 +27,7 @@ own (w.trim a s n) h = record { built = refl; change = λ p m. refl; granted = �
 own (w.pop a s) h = record { built = refl; change = λ p m. refl; granted = λ p. refl }
 own (w.close a s) h = record { built = refl; change = λ p m. refl; granted = λ p. refl }
 own (w.walk a s n) h = record { built = refl; change = λ p m. refl; granted = λ p. refl }
+own (w.poll a s) h = record { built = refl; change = λ p m. refl; granted = λ p. refl }
 own _ h = absurd (false≢true h)
 
 -- at an application that was not made it is refused
@@ -40,6 +41,7 @@ unmade_row (w.trim a s n) m g h made = rw made refl
 unmade_row (w.pop a s) m g h made = rw made refl
 unmade_row (w.close a s) m g h made = rw made refl
 unmade_row (w.walk a s n) m g h made = rw made refl
+unmade_row (w.poll a s) m g h made = rw made refl
 unmade_row _ m g h made = absurd (false≢true h)
 
 -- Want of memory refuses a line before its device calls, where nothing else did.
@@ -78,4 +80,5 @@ quiet_row (w.trim a s n) m g h none lacks = absurd (false≢true lacks)
 quiet_row (w.pop a s) m g h none lacks = absurd (false≢true lacks)
 quiet_row (w.close a s) m g h none lacks = absurd (false≢true lacks)
 quiet_row (w.walk a s n) m g h none lacks = absurd (false≢true lacks)
+quiet_row (w.poll a s) m g h none lacks = absurd (false≢true lacks)
 quiet_row _ m g h none lacks = absurd (false≢true h)

@@ -1,6 +1,7 @@
 -- A log that was opened on a card, as its application has it.
 use Rattle.std.proofs.Common.{◌≡◌, inl, ℕ, ◌+◌, ◌==◌, ◌||◌, ◌&&◌, not, Bool, true, false, List, [], ◌∷◌, ◌++◌, length, nat_eq, replicate, refl, sym, ◌∙◌, ap, subst, arith, bytes_eq}
 use Rattle.std.specs.Prelude.{Option, Some, None, Ok, if◌then◌else◌, is_some, option_map, slice_get, slice_index_or, unwrap_or}
+use Rattle.std.specs.List.{AllByRecursion}
 use Rattle.std.specs.Map.{lookup}
 use Rattle.std.proofs.lemmas.Bool.Decides.{nat_tests}
 use Rattle.std.proofs.lemmas.Bool.{false≢true}
@@ -30,7 +31,7 @@ use Rattle.ark_held.specs.Words.{AreaList, Labels}
 use Rattle.ark_held.specs.Rings.{ChangesCard, card_kept, kept_card}
 use Rattle.ark_held.specs.Around.{Around, Both, Each}
 use Rattle.ark_held.specs.Areas.{IsLog, IsOpened}
-use Rattle.ark_held.specs.Cards.{IsCard, IsEnded, IsJob, IsPaced, IsWatched}
+use Rattle.ark_held.specs.Cards.{IsPhaseJob, IsCard, IsEnded, IsJob, IsPaced, IsWatched}
 use Rattle.ark_held.specs.Held.{Holds}
 use Rattle.ark_held.specs.Keeps.{Keeps, Within, any_label}
 use Rattle.ark_held.specs.Beyond.{Beyond, around}
@@ -198,6 +199,7 @@ module _ (r : Beyond) (app app1 : App) (s v : List ℕ) (h : Holds (around r app
     pace = subst (λ (z : CardKept). Both (IsPaced y) z.pace card.vsic.pace) entry (paced_kept _ any_label (Spares touched) (around r app) y keeps card.fits.card.pace card.vsic.pace inside.2 card.fits.pace);
     door = subst (λ (z : CardKept). Both (IsWatched y) z.door card.vsic.door) entry (watched_kept _ any_label (Spares touched) (around r app) y keeps card.fits.card.door card.vsic.door inside.3 card.fits.door);
     log = sym counted;
+    phases = (subst (λ (js : List Job). AllByRecursion IsPhaseJob js) (sym none_posted) tt, subst (λ (us : List (Job × Outcome)). AllByRecursion (λ u. IsPhaseJob u.0) us) (sym none_unreaped) tt);
   }
 
   opened_now : IsOpened y log.cap.grant log.fits.slot.blocks log1 (newly_opened v chain)

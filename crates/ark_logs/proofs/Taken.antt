@@ -7,6 +7,7 @@ use Rattle.ark_vic.specs.Queue.{members}
 use Rattle.ark_log.specs.Closed.{HasBuffersIn}
 use Rattle.ark_log.specs.Loaded.{loaded_chain}
 use Rattle.ark_log.specs.Open.{OpenChain}
+use Rattle.ark_log.specs.Stages.{IsWhole}
 use Rattle.ark_held.specs.Idle.{IsUnused}
 use Rattle.ark_held.specs.declared.card.StorageCard.{StorageCard}
 use Rattle.ark_held.proofs.Lists.{some_same}
@@ -44,6 +45,10 @@ loaded_lies taken chain header was kind grant room seen lengths is lies long = s
   header = omega (arith, lies, long);
   waiting = λ k w lt. absurd (omega (arith, lt));
 })
+
+-- no descriptor has it
+pub loaded_whole : (chain : OpenChain) (header : Piece) (kind : Kind) (grant room : ℕ) (seen : Seen) (lengths : List ℕ) → chain ≡ loaded_chain kind grant room header seen lengths → IsWhole chain
+loaded_whole chain header kind grant room seen lengths is = subst IsWhole (sym is) (record { header = refl; entries = λ k w lt. absurd (omega (arith, lt)) })
 
 -- a ring of which nothing is used
 pub unused : (cards : List (Option StorageCard)) (key : ℕ) (one : StorageCard) → at cards key ≡ Some one → members one.vsic.ring ≡ 0 → IsUnused cards key

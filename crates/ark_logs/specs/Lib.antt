@@ -4,3 +4,4 @@ pub mod Opening
 pub mod Walking
 pub mod Lines
 pub mod Refused
+pub mod Polling

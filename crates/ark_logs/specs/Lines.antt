@@ -12,4 +12,5 @@ is_log_line (w.trim a s n) = true
 is_log_line (w.pop a s) = true
 is_log_line (w.close a s) = true
 is_log_line (w.walk a s n) = true
+is_log_line (w.poll a s) = true
 is_log_line _ = false

@@ -7,6 +7,7 @@ mod closing;
 mod finding;
 mod logs;
 mod opening;
+mod polling;
 mod walking;
 
 pub use finding::OpenAt;

@@ -13,6 +13,7 @@ ghost use Rattle.ark_logs.specs.Lines.{is_log_line};
 use crate::accepting::{append, pop, trim};
 use crate::closing::close;
 use crate::opening::open;
+use crate::polling::poll;
 use crate::walking::walk;
 use ark_base::Kind;
 use ark_held::App;
@@ -64,6 +65,7 @@ pub fn act<D: Disk>(app: &mut App, step: &Step<'_>, alloc: Global, disk: &mut D,
             say(out, said);
         }
         Step::Walk(_, label, n) => walk(app, label, *n, disk, out),
+        Step::Poll(_, label) => poll(app, label, out),
         _ => unreachable!(),
     }
 }

@@ -45,7 +45,7 @@ use Rattle.ark_own.specs.declared.keys.RawArea.{RawArea}
 use Rattle.ark_own.proofs.Looked as looked
 use Rattle.ark_own.proofs.Looked.{Looked, looked_both, each_key}
 use Rattle.ark_own.proofs.OfCards as cards
-use Rattle.ark_own.proofs.OfCards.{HasCard, found_card, posted_now, unreaped_now, bound_now, pace_now, door_now, size_now, moved_now, opens_now, now, card_keeps, card_opens, kept_now, card_altered}
+use Rattle.ark_own.proofs.OfCards.{HasCard, found_card, posted_now, unreaped_now, bound_now, pace_now, door_now, size_now, moved_now, opens_now, now, card_keeps, card_opens, kept_now, card_altered, phases_now}
 use Rattle.ark_own.proofs.OfRaw.{HasRaw, found_raw}
 use Rattle.ark_own.proofs.Transferring.{card_looked, raw_looked}
 
@@ -186,6 +186,7 @@ module _ (app app1 : App) (v : List ℕ) (key : ℕ) (is : Ok key ≡ card_key a
         pace = pace_now app v key is one here y c after keeps;
         door = door_now app v key is one here y c after keeps;
         log = opens_now app v key is one here y c ∙ sym (card_opens app app1 v key is one (rebound ks one) here changes (shut_stays one (rebound ks one) free) labels doors rates nets store areas y h c its_vsic (alike c.vsic ms));
+        phases = phases_now app v key is one here y c;
       }
 
 -- The words.

@@ -23,10 +23,10 @@ use Rattle.ark_held.specs.Beyond.{Beyond, around}
 use Rattle.ark_held.specs.Does.{Acts}
 use Rattle.ark_held.specs.declared.app.App.{App}
 use Rattle.ark_held.specs.declared.card.StorageCard.{StorageCard}
-use Rattle.ark_held.proofs.Lists.{le_true, le_false, each_more, total_last}
+use Rattle.ark_held.proofs.Lists.{none_of, le_true, le_false, each_more, total_last}
 use Rattle.ark_held.proofs.Doing.{comes}
 use Rattle.ark_held.proofs.Parts.{CountsAlike}
-use Rattle.ark_held.proofs.Opens.{shut_stays}
+use Rattle.ark_held.proofs.Opens.{shut_phases, shut_stays}
 use Rattle.ark_own.specs.Keys.{card_key}
 use Rattle.ark_own.proofs.OfCards.{HasCard, its, full_same, posted_now, unreaped_now, bound_now, pace_now, door_now, size_now, moved_now, opens_now, now, card_keeps, card_opens, kept_now, card_altered, done}
 
@@ -77,6 +77,7 @@ module _ (t : Told) (app app1 : App) (v : List ℕ) (key : ℕ) (is : Ok key ≡
           pace = pace_now app v key is one here y c after keeps;
           door = door_now app v key is one here y c after keeps;
           log = opens_now app v key is one here y c ∙ sym (card_opens app app1 v key is one (with_posted d one) here changes (shut_stays one (with_posted d one) free) labels doors rates nets store areas y h c (more c.vsic) (alike c.vsic));
+          phases = shut_phases one.log _ _ (none_of one.log free);
         }
 
     held : Holds after

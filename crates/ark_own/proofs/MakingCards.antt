@@ -152,6 +152,7 @@ module _ (t : Told) (app : App) (v : List ℕ) (size grant : ℕ) where
             pace = tt;
             door = tt;
             log = no_log y h;
+            phases = tt;
           }
 
           pub vsic_done : Grants t app app1 (row said.Ok) [] said.Ok [] grant

@@ -35,7 +35,6 @@ use Rattle.ark_held.specs.Rings.{kept_card, card_kept}
 use Rattle.ark_held.specs.Pacing.{rate_kept}
 use Rattle.ark_held.specs.Nets.{net_kept}
 use Rattle.ark_held.specs.Around.{Around, Both}
-use Rattle.ark_held.specs.Idle.{is_idle}
 use Rattle.ark_held.specs.Cards.{IsWatched}
 use Rattle.ark_held.specs.Held.{IsObjectOf, Holds, is_net}
 use Rattle.ark_held.specs.Beyond.{Beyond, around, tables_of}
@@ -130,7 +129,7 @@ module _ (t : Told) (app : App) (l : List ℕ) where
         (changes : Changes app.devices.cards app1.devices.cards key (Some (record one { vsic = vsic_moved one.vsic (blocks_held app.areas) now a })))
         (rings : IsWatching one.door (slot app.devices.doors) → RingsAt a one.door (slot app.devices.doors) (slot app1.devices.doors))
         (sound : IfSome (head_of one.vsic.ring) (λ d. CanMove app.store.region.taken one.vsic.ring.moved d)) (distinct : IfSome (area_named (head_of one.vsic.ring) app.areas) (λ z. AreDistinct z.1))
-        (labels : app1.labels ≡ app.labels) (rates : app1.devices.rates ≡ app.devices.rates) (nets : app1.devices.nets ≡ app.devices.nets) (areas : app1.areas ≡ app.areas) (buffers : app1.store.buffers ≡ app.store.buffers) (name : app1.name ≡ app.name) (idle : is_idle one.log one.vsic.ring ≡ true) where
+        (labels : app1.labels ≡ app.labels) (rates : app1.devices.rates ≡ app.devices.rates) (nets : app1.devices.nets ≡ app.devices.nets) (areas : app1.areas ≡ app.areas) (buffers : app1.store.buffers ≡ app.store.buffers) (name : app1.name ≡ app.name) (taken : app1.store.region.taken ≡ app.store.region.taken) where
       module _ (r : Beyond) (tick : r.now ≡ now) (h : Holds (around r app)) where
         abbrev v : HasCard (around r app) l key
         v = its app l key is r h
@@ -165,6 +164,7 @@ module _ (t : Told) (app : App) (l : List ℕ) where
           answer_is = answered ∙ ap (λ (y : Due). answer_of one.vsic y (worked a)) same_due ∙ ap (λ (c : Card). answer_of c what (worked a)) (sym same_card);
           leaves = subst (λ (c : Card). Leaves c what (worked a) t.history app.store.region app1.store.region) (sym same_card)
               (subst (λ (y : Due). Leaves one.vsic y (worked a) t.history app.store.region app1.store.region) same_due leaves);
+          taken = taken;
           sets = record {
             here = ap (λ i. card_kept app1.devices.cards i) v.key_is ∙ ap (λ (o : Option StorageCard). option_map kept_card o) changes.changed ∙ ap (λ (z : CardKept). Some z) same_kept;
             others = λ i other. ap (λ (o : Option StorageCard). option_map kept_card o) (changes.others i (λ e. other (e ∙ sym v.key_is)));
@@ -178,7 +178,7 @@ module _ (t : Told) (app : App) (l : List ℕ) where
         does = λ r g tick came told fresh sited h.
             let m = move r.machine l (first_end (ends_of es)) in
             let done = carries (around r app) l (v r tick h).cap (k r tick h) (v r tick h).vsic (on r tick h) t.history es a app1.store.region (card_kept app1.devices.cards) (slot app1.devices.doors) (was_moved r tick h) told t.blocks sited
-            (in_base r app t es told based sited) sound distinct idle in
+            (in_base r app t es told based sited) sound distinct in
             let is_row : row l r.machine g ≡ row_of m = moves_row r.machine l g (v r tick h).held (v r tick h).vsic h.made (v r tick h).there (v r tick h).object ∙ ap (λ (ends : List Ended). row_of (move r.machine l (first_end ends))) came in
             rw is_row (record {
               said = done.said;

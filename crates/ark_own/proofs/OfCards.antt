@@ -26,7 +26,7 @@ use Rattle.ark_held.specs.Rings.{kept_card, card_kept}
 use Rattle.ark_held.specs.Pacing.{rate_kept}
 use Rattle.ark_held.specs.Nets.{net_kept}
 use Rattle.ark_held.specs.Around.{Around, Each, Both}
-use Rattle.ark_held.specs.Cards.{IsCard, IsJob, IsEnded, IsPaced, IsWatched}
+use Rattle.ark_held.specs.Cards.{HasPhases, IsCard, IsJob, IsEnded, IsPaced, IsWatched}
 use Rattle.ark_held.specs.Held.{IsObjectOf, AtLabel, Holds, has_key}
 use Rattle.ark_held.specs.Keeps.{Keeps, JobWithin, Within, any_label, any_piece, IsOpenOn, StaysOpen}
 use Rattle.ark_held.specs.Beyond.{Beyond, around}
@@ -150,6 +150,9 @@ module _ (app : App) (l : List ℕ) (key : ℕ) (is : Ok key ≡ card_key app.la
 
     pub moved_now : v.vsic.queue.moved ≡ one.vsic.ring.moved
     moved_now = v.fits.moved ∙ ap (λ (k : CardKept). k.ring.moved) entry_same
+
+    pub phases_now : HasPhases one.log v.vsic.queue.posted v.vsic.queue.unreaped
+    phases_now = subst (λ (k : CardKept). HasPhases k.log v.vsic.queue.posted v.vsic.queue.unreaped) entry_same v.fits.phases
 
     pub opens_now : bit (is_some one.log) ≡ open_count y.machine l
     opens_now = ap (λ (k : CardKept). bit (is_some k.log)) (sym entry_same) ∙ v.fits.log

@@ -149,4 +149,5 @@ module _ (app app1 : App) (v : List ℕ) (key : ℕ) (is : Ok key ≡ card_key a
         pace = paced keeps;
         door = watched keeps;
         log = cards.opens_now app v key is one here y c ∙ sym (cards.card_opens app app1 v key is one one1 here changes (alike_stays one one1 refl refl refl) labels doors rates nets store areas y h c its_vsic alike);
+        phases = cards.phases_now app v key is one here y c;
       })

@@ -48,7 +48,7 @@ use Rattle.ark_held.proofs.Exchanging.{HasBoth}
 use Rattle.ark_held.proofs.Finding.{stands_at}
 use Rattle.ark_held.proofs.Parts.{CountsAlike}
 use Rattle.ark_held.proofs.Reaping as back
-use Rattle.ark_held.proofs.Opens.{shut_stays}
+use Rattle.ark_held.proofs.Opens.{shut_phases, shut_stays}
 use Rattle.ark_own.specs.Keys.{IsLabelOf, card_key}
 use Rattle.ark_own.specs.Transfers.{said_of}
 use Rattle.ark_own.proofs.OfCards.{HasCard, its, posted_now, unreaped_now, bound_now, pace_now, door_now, size_now, moved_now, opens_now, entry_same, now, card_keeps, card_opens, kept_now, card_altered, done}
@@ -232,6 +232,7 @@ module _ (t : Told) (app : App) (v : List ℕ) (key : ℕ) (is : Ok key ≡ card
               pace = pace_now app v key is one here y c after keeps;
               door = door_now app v key is one here y c after keeps;
               log = opens_now app v key is one here y c ∙ sym (card_opens app app1 v key is one (with_reaped one) here cards (shut_stays one (with_reaped one) free) labels doors rates nets store areas y h c (less o.others c.vsic) like);
+              phases = shut_phases one.log _ _ (none_of one.log free);
             }
 
         held : Holds after

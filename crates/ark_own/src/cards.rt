@@ -1,4 +1,4 @@
-ghost use Rattle.std.specs.Prelude.{◌≡◌, ◌≤◌, false, [], length};
+ghost use Rattle.std.specs.Prelude.{◌≡◌, ◌≤◌, ◌<◌, false, [], length};
 ghost use Rattle.ark_media.specs.Calls.{Told};
 ghost use Rattle.ark_script.specs.Text.{IsSaid, wants_memory};
 ghost use Rattle.ark_machine.specs.Cards as cards;
@@ -27,6 +27,7 @@ pub fn count_cards(labels: &CapTable) -> usize
 
 /// The word `vsic`. `NoMemory` comes only for want of memory.
 pub fn vsic(app: &mut App, label: &Label, size: u64, grant: u64, alloc: Global) -> Said
+    requires some { 0 < size }
     requires small { size ≤ 256 }
     ensures acts { (t : Told) → Grants t app.old app.new
         (λ m g. cards.vsic m label.now size (record g { no_memory = wants_memory result }))

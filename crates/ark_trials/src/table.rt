@@ -7,7 +7,7 @@ use crate::commands::{COMMANDS, OTHER_WORDS};
 use crate::cycles::CYCLES;
 use crate::growing::GROWN;
 use crate::lines::{EMPTY_LINES, LINES};
-use crate::logs::{LOG_COMMANDS, NOT_OPEN, OPENED};
+use crate::logs::{LOG_COMMANDS, NOT_OPEN, OPENED, POLLED};
 use crate::nets::{NET_SIDES, NETS};
 use crate::rates::{PACED, RATES};
 use crate::reopened::REOPENED;
@@ -107,6 +107,7 @@ fn answers_as_the_tables_say(rt: HostRuntime) -> Result<(), Fail> {
         NOT_OPEN,
         LOG_COMMANDS,
         OPENED,
+        POLLED,
         RATES,
         PACED,
         GRANTS,

@@ -43,6 +43,7 @@ impl Host {
             | Step::Trim(name, ..)
             | Step::Pop(name, ..)
             | Step::Walk(name, ..)
+            | Step::Poll(name, ..)
             | Step::Close(name, ..) => self.act_log(name, step, disk, out),
             _ => say(out, Said::Refused(Refusal::UnknownWord)),
         }

@@ -62,3 +62,7 @@ returns-in-Log-clause-enough g c = rw c.in-Log.is (λ no. absurd (false≢true (
 
 pub returns-in-Queue-clause-enough : goal.returns-in-Queue-clause-enough
 returns-in-Queue-clause-enough g c = rw c.in-Queue.is (λ no. absurd (false≢true (sym no)))
+
+pub returns-in-Poll-clause-acts : goal.returns-in-Poll-clause-acts
+unfolding step
+returns-in-Poll-clause-acts g c = rw c.in-Poll.is (record { events = []; goes_on = g.met.D.Disk.goes_none c.args.disk.now; does = c.poll.ensures.acts (g.D.Disk.told c.args.disk.now) })

@@ -6,7 +6,7 @@ use Rattle.ark_log.specs.Closed.{given_back}
 use Rattle.ark_held.specs.declared.store.Store.{Store}
 use Rattle.ark_held.proofs.Bindings.{bound_same, some_in}
 use Rattle.ark_logs.specs.Opening.{IsLoaded}
-use Rattle.ark_logs.proofs.Taken.{all_in, changes_twice, loaded_lies, new_buffer}
+use Rattle.ark_logs.proofs.Taken.{all_in, changes_twice, loaded_lies, loaded_whole, new_buffer}
 use Rattle.ark_held.specs.declared.nets.Nets.{Nets}
 use Rattle.ark_logs.proofs.opening.open_on_card.Goals as goal
 
@@ -99,3 +99,6 @@ returns-in-Ok-clause-went g c =
 
 pub open-requires-clause-lie : goal.open-requires-clause-lie
 open-requires-clause-lie g c = λ taken long. loaded_lies taken c.in-Ok.chain c.in-Some.header c.take.new.self.taken c.args.kind c.args.area.now.grant _ c.in-Ok.ensures.went.does.seen c.in-Ok.ensures.went.does.lengths c.in-Ok.ensures.went.does.chain_is c.in-Some.ensures.lies (long ∙ c.args.app.now.memory ∙ sym c.take.ensures.frames)
+
+pub open-requires-clause-whole : goal.open-requires-clause-whole
+open-requires-clause-whole g c = loaded_whole c.in-Ok.chain c.in-Some.header c.args.kind c.args.area.now.grant _ c.in-Ok.ensures.went.does.seen c.in-Ok.ensures.went.does.lengths c.in-Ok.ensures.went.does.chain_is

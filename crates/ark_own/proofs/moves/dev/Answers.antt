@@ -4,7 +4,6 @@ use Rattle.ark_objects.specs.Held.{at, held}
 use Rattle.ark_base.specs.declared.refusal.Refusal.TheVariants as refusal
 use Rattle.ark_held.proofs.Bindings.{bound_same}
 use Rattle.ark_held.proofs.Storing.{same_in}
-use Rattle.ark_held.proofs.Idling.{idle_at}
 use Rattle.ark_own.proofs.MovingCards.{dev_no_key, dev_no_card, dev_done, some_there}
 use Rattle.ark_held.specs.declared.nets.Nets.{Nets}
 use Rattle.ark_own.proofs.moves.dev.Goals as goal
@@ -55,5 +54,5 @@ returns-clause-acts g c =
       goes_on = went.goes_on;
       does = dev_done (g.D.Disk.told c.move_card-moved.new.disk) c.args.app.now c.args.label.now c.in-Ok.key c.in-Ok.ensures.key _ one.0 one.1 c.args.now went.events c.move_card-moved.result (g.met.D.Disk.size_is c.move_card-moved.new.disk)
           went.makes (c.move_card-moved.ensures.answer one.0 one.1) (c.move_card-moved.ensures.region one.0 one.1) (c.move_card-moved.ensures.cards one.0 one.1) (c.move_card-moved.ensures.doors one.0 one.1)
-          (c.move_card-moved.ensures.sound one.0 one.1) (c.move_card-moved.ensures.distinct one.0 one.1) refl c.move_card-moved.ensures.rates c.move_card-moved.ensures.nets refl refl refl (idle_at c.args.app.now.devices.cards c.in-Ok.key one.0 c.args.app.now.devices.idle one.1);
+          (c.move_card-moved.ensures.sound one.0 one.1) (c.move_card-moved.ensures.distinct one.0 one.1) refl c.move_card-moved.ensures.rates c.move_card-moved.ensures.nets refl refl refl c.move_card-moved.ensures.taken;
     })

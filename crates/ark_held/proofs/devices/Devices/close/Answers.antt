@@ -1,15 +1,14 @@
-use Rattle.std.proofs.Common.{Option, Some, sym, ◌∙◌, ap, subst}
+use Rattle.std.proofs.Common.{Some, refl, sym, ◌∙◌, ap, subst}
 use Rattle.std.proofs.Math.Logic.{∥∥₁_map}
 use Rattle.ark_log.specs.Open.{OpenChain}
 use Rattle.ark_vic.specs.Queue.{Queue}
 use Rattle.ark_vsic.specs.Card.{Card}
-use Rattle.ark_held.specs.Idle.{is_idle}
 use Rattle.ark_held.specs.LogBuffers.{LiesIn}
 use Rattle.ark_held.specs.Rings.{IsSoundRing}
 use Rattle.ark_held.proofs.CardLogs.{lies_at, log_set, log_turned}
-use Rattle.ark_held.proofs.Idling.{idle_set, shut_idle}
 use Rattle.ark_held.proofs.Keyed.{changes_set}
 use Rattle.ark_held.proofs.Sounding.{sound_turned}
+use Rattle.ark_held.proofs.LogRings.{rings_changed, rings_turned, shut_ring}
 use Rattle.ark_held.proofs.devices.Devices.close.Goals as goal
 
 pub close-requires : goal.close-requires
@@ -21,8 +20,8 @@ invariant_of-self c =
     let none = sym c.take.ensures.after in
     record {
       sound = ∥∥₁_map c.args.self.now.sound (λ all. sound_turned _ _ _ c.args.key _ _ there (changes_set _ _ _ _ there) (λ taken long s. subst (λ (q : Queue). IsSoundRing taken q) (sym (ap (λ (v : Card). v.ring) c.unbind.ensures)) s) all);
-      idle = ∥∥₁_map c.args.self.now.idle (λ all. idle_set _ _ c.args.key _ (changes_set _ _ _ _ there) (shut_idle _ _ c.take.ensures.after) all);
       lie = ∥∥₁_map c.args.self.now.lie (λ all. log_set (LiesIn c.args.self.now.frames) _ _ c.args.key _ (changes_set _ _ _ _ there) (subst (LiesIn c.args.self.now.frames) none (λ taken long. tt)) all);
+      logs = ∥∥₁_map c.args.self.now.logs (λ all. rings_changed _ _ _ c.args.key _ _ there (changes_set _ _ _ _ there) (ap (λ (v : Card). v.ring.size) c.unbind.ensures) (shut_ring _ _ _ c.take.ensures.after) all);
     }
 
 pub invariant_of-self-in-Err : goal.invariant_of-self-in-Err
@@ -31,6 +30,6 @@ invariant_of-self-in-Err c =
     let same = ap (λ (q : OpenChain). Some q) c.in-Err.ensures.back ∙ sym (sym c.take.ensures.value ∙ c.in-Some.is) in
     record {
       sound = ∥∥₁_map c.args.self.now.sound (λ all. sound_turned _ _ _ c.args.key _ _ there (changes_set _ _ _ _ there) (λ taken long s. s) all);
-      idle = ∥∥₁_map c.args.self.now.idle (λ all. idle_set _ _ c.args.key _ (changes_set _ _ _ _ there) (ap (λ (o : Option OpenChain). is_idle o c.at_mut-card.result.now.vsic.ring) same ∙ all c.args.key _ there) all);
       lie = ∥∥₁_map c.args.self.now.lie (λ all. log_turned (LiesIn c.args.self.now.frames) _ _ c.args.key _ _ there (changes_set _ _ _ _ there) same all);
+      logs = ∥∥₁_map c.args.self.now.logs (λ all. rings_turned _ _ _ c.args.key _ _ there (changes_set _ _ _ _ there) same refl all);
     }

@@ -4,9 +4,9 @@ use Rattle.ark_objects.specs.Held.{at}
 use Rattle.ark_held.proofs.Keyed.{changes_set}
 use Rattle.ark_held.specs.LogBuffers.{LiesIn}
 use Rattle.ark_held.proofs.CardLogs.{log_turned}
-use Rattle.ark_held.proofs.Idling.{idle_set, idle_moved}
 use Rattle.ark_held.proofs.Ringing.{no_ring}
 use Rattle.ark_held.proofs.Sounder.{oldest_can, sound_after}
+use Rattle.ark_held.proofs.LogRings.{rings_moved}
 use Rattle.ark_held.proofs.devices.Devices.move_card.Goals as goal
 
 pub move_vsic-moved-requires-clause-sound : goal.move_vsic-moved-requires-clause-sound
@@ -15,8 +15,8 @@ move_vsic-moved-requires-clause-sound g c = oldest_can c.args.self.now.frames c.
 pub invariant_of-self : goal.invariant_of-self
 invariant_of-self g c = record {
   sound = ∥∥₁_map c.args.self.now.sound (λ all. sound_after c.args.self.now.frames c.args.self.now.cards c.args.key c.at_mut-card.result.now _ _ _ c.move_vsic-moved.result (sym c.at_mut-card.ensures.value) c.move_vsic-moved.ensures.ring c.move_vsic-moved.ensures.answer all);
-  idle = ∥∥₁_map c.args.self.now.idle (λ all. let there = sym c.at_mut-card.ensures.value in idle_set _ _ c.args.key _ (changes_set _ _ _ _ there) (idle_moved c.at_mut-card.result.now.log c.at_mut-card.result.now.vsic.ring _ c.move_vsic-moved.result c.move_vsic-moved.ensures.ring (all c.args.key _ there)) all);
   lie = ∥∥₁_map c.args.self.now.lie (λ all. log_turned (LiesIn c.args.self.now.frames) _ _ c.args.key c.at_mut-card.result.now _ (sym c.at_mut-card.ensures.value) (changes_set _ _ _ _ (sym c.at_mut-card.ensures.value)) refl all);
+  logs = ∥∥₁_map c.args.self.now.logs (λ all. rings_moved _ _ _ c.args.key c.at_mut-card.result.now _ c.move_vsic-moved.result (sym c.at_mut-card.ensures.value) (changes_set _ _ _ _ (sym c.at_mut-card.ensures.value)) refl c.move_vsic-moved.ensures.ring all);
 }
 
 pub returns-in-Done-clause-sound : goal.returns-in-Done-clause-sound

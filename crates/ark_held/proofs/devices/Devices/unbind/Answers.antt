@@ -6,11 +6,11 @@ use Rattle.ark_held.specs.Rings.{IsSoundRing}
 use Rattle.ark_held.proofs.Keyed.{changes_set}
 use Rattle.ark_held.specs.LogBuffers.{LiesIn}
 use Rattle.ark_held.proofs.CardLogs.{log_turned}
-use Rattle.ark_held.proofs.Idling.{idle_turned}
 use Rattle.ark_held.proofs.Sounding.{sound_turned}
+use Rattle.ark_held.proofs.LogRings.{rings_turned}
 use Rattle.ark_held.proofs.devices.Devices.unbind.Goals as goal
 
 pub invariant_of-self : goal.invariant_of-self
 invariant_of-self c =
     let there = sym c.at_mut.ensures.value in
-    record { sound = ∥∥₁_map c.args.self.now.sound (λ all. sound_turned _ _ _ c.args.key _ _ there (changes_set _ _ _ _ there) (λ taken long s. subst (λ (q : Queue). IsSoundRing taken q) (sym (ap (λ (v : Card). v.ring) c.unbind.ensures)) s) all); idle = ∥∥₁_map c.args.self.now.idle (λ all. idle_turned _ _ c.args.key _ _ there (changes_set _ _ _ _ there) refl (ap (λ (v : Card). v.ring) c.unbind.ensures) all); lie = ∥∥₁_map c.args.self.now.lie (λ all. log_turned (LiesIn c.args.self.now.frames) _ _ c.args.key _ _ there (changes_set _ _ _ _ there) refl all) }
+    record { sound = ∥∥₁_map c.args.self.now.sound (λ all. sound_turned _ _ _ c.args.key _ _ there (changes_set _ _ _ _ there) (λ taken long s. subst (λ (q : Queue). IsSoundRing taken q) (sym (ap (λ (v : Card). v.ring) c.unbind.ensures)) s) all); lie = ∥∥₁_map c.args.self.now.lie (λ all. log_turned (LiesIn c.args.self.now.frames) _ _ c.args.key _ _ there (changes_set _ _ _ _ there) refl all); logs = ∥∥₁_map c.args.self.now.logs (λ all. rings_turned _ _ _ c.args.key _ _ there (changes_set _ _ _ _ there) refl (ap (λ (v : Card). v.ring) c.unbind.ensures) all) }
