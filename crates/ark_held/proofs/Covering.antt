@@ -66,16 +66,27 @@ found_in l (z ∷ zs) h is = by_test (λ t. bytes_eq l z.label ≡ t → In (z �
     (λ yes q. let e : z ≡ h = some_same (Some z) z h refl (sym (ap (λ b. cond b (Some z) (find (λ g. bytes_eq l g.label) zs)) q) ∙ is) in (inl e, ap (λ (g : Held). bytes_eq l g.label) (sym e) ∙ q))
     (λ no q. let r = found_in l zs h (sym (ap (λ b. cond b (Some z) (find (λ g. bytes_eq l g.label) zs)) q) ∙ is) in (inr r.0, r.1)) refl
 
--- the frames of a buffer are its own
+-- the frames of an object are its own, and it has each once
+module _ (x : Around) (holds : Holds x) (l : List ℕ) (h : Held) (there : at x.machine l ≡ Some h) (j : ℕ) where
+  pub most_covered : object_covers j h.object ≤ 1
+  most_covered =
+      let own = in_total (λ z. object_covers j z.object) x.machine.held h (found_in l x.machine.held h there).0 in
+      let was = holds.taken j in
+      let most = bit_most (slice_index_or x.tables.memory.taken j false) in
+      omega (arith, own, was, most)
+
+  pub other_spared : object_covers j h.object ≡ 1 → (g : Held) → In x.machine.held g → bytes_eq l g.label ≡ false → object_covers j g.object ≡ 0
+  other_spared one g inn apart =
+      let its = found_in l x.machine.held h there in
+      let two = two_total (λ z. object_covers j z.object) x.machine.held h g its.0 inn (λ e. false≢true (sym apart ∙ ap (λ (z : Held). bytes_eq l z.label) (sym e) ∙ its.1)) in
+      let was = holds.taken j in
+      let most = bit_most (slice_index_or x.tables.memory.taken j false) in
+      omega (arith, two, one, was, most)
+
+-- as are those of a buffer
 module _ (x : Around) (holds : Holds x) (l : List ℕ) (h : Held) (b : Buffer) (there : at x.machine l ≡ Some h) (object : h.object ≡ Objects.buffer b) (j : ℕ) (has : Covers (piece_of b) j) where
   its_frame : object_covers j h.object ≡ 1
   its_frame = let one = covered j (buffer_frames b) has.0 has.1 in ap (object_covers j) object ∙ omega (arith, one)
 
   pub other_clear : (g : Held) → In x.machine.held g → bytes_eq l g.label ≡ false → object_covers j g.object ≡ 0
-  other_clear g inn apart =
-      let its = found_in l x.machine.held h there in
-      let two = two_total (λ z. object_covers j z.object) x.machine.held h g its.0 inn (λ e. false≢true (sym apart ∙ ap (λ (z : Held). bytes_eq l z.label) (sym e) ∙ its.1)) in
-      let one = its_frame in
-      let was = holds.taken j in
-      let most = bit_most (slice_index_or x.tables.memory.taken j false) in
-      omega (arith, two, one, was, most)
+  other_clear = other_spared x holds l h there j its_frame

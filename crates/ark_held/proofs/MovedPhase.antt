@@ -1,7 +1,12 @@
 -- A move of the card on which a log is open, where a descriptor of the log is posted: it carries what the machine's move of the log's phase does.
+<<<<<<< 1b65c12582ccc35513aa6387d24bb384b7998224
 use Rattle.std.proofs.Common.{◌≡◌, inl, inr, ℕ, ◌+◌, ◌<◌, Bool, true, false, not, ◌&&◌, List, [], ◌∷◌, ◌++◌, length, nat_le, nat_lt, refl, sym, ◌∙◌, ap, subst, bytes_eq, Contains}
 use Rattle.std.specs.Prelude.{if◌then◌else◌, Option, Some, is_some, option_map, replicate, slice_get, unwrap_or}
 use Rattle.std.specs.List.{AllByRecursion}
+=======
+use Rattle.std.proofs.Common.{◌≡◌, inl, inr, ℕ, ◌+◌, ◌<◌, ◌≤◌, Bool, true, false, not, ◌&&◌, List, [], ◌∷◌, ◌++◌, length, nat_le, nat_lt, refl, sym, ◌∙◌, ap, subst, bytes_eq, Contains}
+use Rattle.std.specs.Prelude.{if◌then◌else◌, Option, Some, is_some, option_map, replicate, slice_get, unwrap_or}
+>>>>>>> refs/tmp/dev-main
 use Rattle.ark_base.specs.declared.kind.Outcome.{Outcome}
 use Rattle.ark_base.specs.declared.kind.Outcome.TheVariants as outcome
 use Rattle.ark_media.specs.Journal.{History, Event, Read, Write, Sync}
@@ -25,11 +30,18 @@ use Rattle.ark_vsic.specs.declared.due.Due.{Due}
 use Rattle.ark_vsic.specs.declared.due.Due.TheVariants as due
 use Rattle.ark_vsic.specs.declared.due.Moved.{Moved}
 use Rattle.ark_vsic.specs.declared.due.Moved.TheVariants as moved
+<<<<<<< 1b65c12582ccc35513aa6387d24bb384b7998224
 use Rattle.ark_caladan.specs.Chain.{Log, Opened, Phase, Verb, Waiting, reading, writing, syncing, lists, list_choices, oldest_of, pending}
 use Rattle.ark_caladan.specs.Open.{Layout}
 use Rattle.ark_entry.specs.Found.{Found, found, damaged, found_of}
 use Rattle.ark_log.specs.declared.stage.Stage.{Stage}
 use Rattle.ark_log.specs.declared.stage.Stage.TheVariants as stages
+=======
+use Rattle.ark_caladan.specs.Chain.{Log, Opened, Phase, Verb, reading, writing, syncing}
+use Rattle.ark_caladan.specs.Open.{Layout}
+use Rattle.ark_entry.specs.Found.{Found, found_of}
+use Rattle.ark_log.specs.declared.stage.Stage.{Stage}
+>>>>>>> refs/tmp/dev-main
 use Rattle.ark_log.specs.Open.{OpenChain}
 use Rattle.ark_log.specs.Polled.{stage_of}
 use Rattle.ark_log.specs.Stages.{posting_of, stage_with}
@@ -52,7 +64,11 @@ use Rattle.ark_machine.specs.Rates.{is_over_burst, may_pass, passed}
 use Rattle.ark_held.specs.Totals.{bit, object_covers, open_count}
 use Rattle.ark_held.specs.Around.{Around, slot_at, blocks_under, Each, Both}
 use Rattle.ark_held.specs.Areas.{OpensToLists}
+<<<<<<< 1b65c12582ccc35513aa6387d24bb384b7998224
 use Rattle.ark_held.specs.Cards.{DoesPhase, HasPhases, IsJob, IsPaced, IsPhaseJob, IsPhaseOf}
+=======
+use Rattle.ark_held.specs.Cards.{DoesPhase, HasPhases, IsJob, IsPaced}
+>>>>>>> refs/tmp/dev-main
 use Rattle.ark_held.specs.Kept.{CardKept}
 use Rattle.ark_held.specs.Does.{IsSited, LogsAtFronts}
 use Rattle.ark_held.specs.Held.{Holds}
@@ -60,9 +76,14 @@ use Rattle.ark_held.specs.Keeps.{SameAt}
 use Rattle.ark_held.specs.Moving.{card_of, blocks_held, pace_moved, with_pass, said_of}
 use Rattle.ark_held.specs.Ringing.{Sets}
 use Rattle.ark_held.proofs.Besides.{same_beside, same_history}
+<<<<<<< 1b65c12582ccc35513aa6387d24bb384b7998224
 use Rattle.ark_held.proofs.BothMoved.{log_apart, most_covered}
 use Rattle.ark_held.proofs.Carrying.{carried, Carries, WasMoved, made_of, answer_by, sets_by, rings_by, carries_by, still, no_logs, no_calls, none_made, leaves_of}
 use Rattle.ark_held.proofs.Covering.{Spares}
+=======
+use Rattle.ark_held.proofs.Carrying.{carried, Carries, WasMoved, made_of, answer_by, sets_by, rings_by, carries_by, still, no_logs, no_calls, none_made, leaves_of}
+use Rattle.ark_held.proofs.Covering.{Spares, most_covered}
+>>>>>>> refs/tmp/dev-main
 use Rattle.ark_held.proofs.Dues.{due_by_tests, paced_same}
 use Rattle.ark_held.proofs.Effects.{at_other, at_each, settles_holds}
 use Rattle.ark_held.proofs.Ending.{OnCard, on_card}
@@ -70,6 +91,7 @@ use Rattle.ark_held.proofs.Fronts.{log_opens}
 use Rattle.ark_held.proofs.Lists.{by_test, other_name, some_same}
 use Rattle.ark_held.proofs.LogCalls.{IsOfLog, logs_within, others_beside}
 use Rattle.ark_held.proofs.LogFrames.{spared}
+<<<<<<< 1b65c12582ccc35513aa6387d24bb384b7998224
 use Rattle.ark_held.proofs.Logged.{HasOpen}
 use Rattle.ark_held.proofs.MoveRows.{ended_by, move_is, ends_is, gate_over, gate_waits, gate_opens, goes_on as goes_further, has_ended, last_is}
 use Rattle.ark_held.proofs.PhaseMoves as phase_moved
@@ -122,6 +144,15 @@ one_phase x q d [] each all = absurd each
 same_outcome : (ok : Bool) → ending_of ok ≡ outcome_of ok
 same_outcome true = refl
 same_outcome false = refl
+=======
+use Rattle.ark_held.proofs.BothPut.{HasOpen, log_apart}
+use Rattle.ark_held.proofs.MoveRows.{ended_by, move_is, ends_is, gate_over, gate_waits, gate_opens, goes_on as goes_further, has_ended, last_is}
+use Rattle.ark_held.proofs.PhaseJobs.{OnePhase, one_phase, read_decides, same_lists, sync_decides}
+use Rattle.ark_held.proofs.PhaseMoves as phase_moved
+use Rattle.ark_held.proofs.PhaseRows.{block_inside, log_on_is, same_log, written_is}
+use Rattle.ark_held.proofs.RunsOn as runs_on
+use Rattle.ark_held.proofs.Trying.{passed_both, same_outcome}
+>>>>>>> refs/tmp/dev-main
 
 module _ (x : Around) (v : List ℕ) (c : Capability) (k : CardKept) (card : Vsic) (on : OnCard x v c k card) (told : Option History) (es : List Event) (a : Moved) (memory : Space) (cards : ℕ → Option CardKept) (doors : ℕ → Option Counts)
     (w : WasMoved x c.key k told es a memory cards doors) (is_told : told ≡ Some (after x.history es)) (size : ℕ) (sited : IsSited x size)
@@ -239,7 +270,11 @@ module _ (x : Around) (v : List ℕ) (c : Capability) (k : CardKept) (card : Vsi
 
   stays : (b : Piece) → Spares (λ j. object_covers j (Objects.log g) ≡ 1) b → bytes_of memory b ≡ bytes_of x.tables.memory b
   stays b spares = any_card.all_beside x.history blocks x.tables.memory (card_of k) q lies g o (blocks_held x.areas) x.now runs area memory es a has b
+<<<<<<< 1b65c12582ccc35513aa6387d24bb384b7998224
       (spared x.history blocks x.tables.memory k.ring q lies g o runs (most_covered x s v on.holds both) b spares)
+=======
+      (spared x.history blocks x.tables.memory k.ring q lies g o runs (λ j. subst (λ (z : Object). object_covers j z ≤ 1) both.object_log (most_covered x on.holds s both.held_log both.there_log j)) b spares)
+>>>>>>> refs/tmp/dev-main
 
   -- What is due.
 

@@ -34,7 +34,7 @@ use Rattle.ark_held.proofs.Ending.{OnCard, on_card, moves_on, ends_so}
 use Rattle.ark_held.proofs.Carrying.{carried}
 use Rattle.ark_held.proofs.MoveRows.{ended_by, goes_on, has_ended, last_is}
 
-same_outcome : (ok : Bool) → ending_of ok ≡ outcome_of ok
+pub same_outcome : (ok : Bool) → ending_of ok ≡ outcome_of ok
 same_outcome true = refl
 same_outcome false = refl
 

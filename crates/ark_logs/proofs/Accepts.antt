@@ -1,26 +1,23 @@
 -- A log accepts a command: it waits behind the others, with a new buffer if it has one, and all else stays.
-use Rattle.std.proofs.Common.{◌≡◌, ◌⊎◌, inl, inr, ℕ, ◌+◌, ◌*◌, ◌<◌, ◌≤◌, Bool, true, false, not, cond, ◌&&◌, List, [], ◌∷◌, ◌++◌, length, map, refl, sym, ◌∙◌, ap, subst, arith, bytes_eq, nat_eq}
-use Rattle.std.specs.Prelude.{Option, Some, is_some, option_map, flat_map, slice_get, slice_index_or}
+use Rattle.std.proofs.Common.{◌≡◌, ◌⊎◌, inl, inr, ℕ, ◌+◌, ◌<◌, ◌≤◌, Bool, true, false, not, cond, ◌&&◌, List, [], ◌∷◌, ◌++◌, length, map, refl, sym, ◌∙◌, ap, subst, arith, bytes_eq, nat_eq}
+use Rattle.std.specs.Prelude.{Option, Some, is_some, option_map, slice_get, slice_index_or}
 use Rattle.std.specs.Map.{lookup}
 use Rattle.std.specs.List.{AllByRecursion}
 use Rattle.std.proofs.lemmas.Bool.{false≢true}
-use Rattle.ark_region.specs.Frames.{Apart, Covers, Piece, frames_of}
-use Rattle.ark_entry.specs.Entry.{entry_blocks}
+use Rattle.ark_region.specs.Frames.{Apart, Covers, Piece}
 use Rattle.ark_vic.specs.declared.descriptor.Descriptor.{Descriptor}
 use Rattle.ark_vic.specs.declared.descriptor.Completion.{Completion}
 use Rattle.ark_base.specs.declared.kind.Outcome.{Outcome}
 use Rattle.ark_caladan.specs.Chain as log
 use Rattle.ark_caladan.specs.Chain.{Log, Opened}
-use Rattle.ark_log.specs.declared.command.Command.{Command}
-use Rattle.ark_log.specs.declared.command.Command.TheVariants.{Append, Trim, Pop}
 use Rattle.ark_log.specs.declared.command.Waiting.{Waiting}
 use Rattle.ark_log.specs.Open.{OpenChain}
 use Rattle.ark_log.specs.Polled.{stage_of}
 use Rattle.ark_log.specs.Stages.{oldest_in, stages_of}
 use Rattle.ark_running.specs.Accepted.{with_one_more, with_opened}
-use Rattle.ark_running.specs.Buffers.{AreRoomsOf, buffers_by, buffers_of, pieces_of}
+use Rattle.ark_running.specs.Buffers.{pieces_of}
 use Rattle.ark_running.specs.Running.{IsRunning}
-use Rattle.ark_running.proofs.Framing.{all_joined, running_listed}
+use Rattle.ark_running.proofs.Framing.{running_listed}
 use Rattle.ark_running.proofs.More.{oldest_more}
 use Rattle.ark_objects.specs.Held.{at as key_at, Changes}
 use Rattle.ark_caps.specs.Labels.{value_at}
@@ -31,7 +28,7 @@ use Rattle.ark_machine.specs.Machine.{Machine, Held, at, with_object}
 use Rattle.ark_machine.specs.Control.{is_open_on}
 use Rattle.ark_held.specs.Accepting.{GoesOnAs}
 use Rattle.ark_held.specs.Words.{AreaList, Labels}
-use Rattle.ark_held.specs.Totals.{bit, total, covers, object_covers, open_count}
+use Rattle.ark_held.specs.Totals.{bit, covers, object_covers, open_count}
 use Rattle.ark_held.specs.Kept.{CardKept}
 use Rattle.ark_held.specs.Rings.{kept_card}
 use Rattle.ark_held.specs.Around.{Around, Each, Both}
@@ -47,20 +44,14 @@ use Rattle.ark_held.proofs.Covering.{Spares, found_in, in_total, within_spares}
 use Rattle.ark_held.proofs.Finding.{found_there}
 use Rattle.ark_held.proofs.Keeping.{ended_kept, job_kept, paced_kept, watched_kept}
 use Rattle.ark_held.proofs.Lists.{by_test, each_kept, name_other, same_name, some_same}
+use Rattle.ark_held.proofs.LogFrames.{count, its_frames, own_apart, rooms}
 use Rattle.ark_held.proofs.Logged.{Reaches, keeps, logged, opened_then}
 use Rattle.ark_held.proofs.Members.{In}
-use Rattle.ark_held.proofs.Placing.{has_covers, total_append}
+use Rattle.ark_held.proofs.Placing.{total_append}
 use Rattle.ark_logs.specs.declared.finding.OpenAt.{OpenAt}
 use Rattle.ark_logs.proofs.OfLogs.{FoundOpen}
 
--- Frames of commands.
-
-abbrev pub count : ℕ → List (ℕ × ℕ) → ℕ
-count j fs = total (λ f. bit (covers j f)) fs
-
-abbrev pub rooms : List log.Waiting → List (ℕ × ℕ)
-rooms ms = flat_map (λ m. m.room) ms
-
+-- the frames of commands, with one more
 rooms_sum : (j : ℕ) (ms : List log.Waiting) (c : log.Waiting) → count j (rooms (ms ++ c ∷ [])) ≡ count j (rooms ms) + count j c.room
 rooms_sum j [] c = let sum = total_append (λ f. bit (covers j f)) c.room [] in omega (arith, sum)
 rooms_sum j (m ∷ ms) c =
@@ -68,31 +59,6 @@ rooms_sum j (m ∷ ms) c =
     let was = total_append (λ f. bit (covers j f)) m.room (rooms ms) in
     let rest = rooms_sum j ms c in
     omega (arith, sum, was, rest)
-
-module _ (b : Piece) where
-  -- a piece of so many blocks is apart, where none of its frames is counted
-  one_apart : (p : Piece) (blocks : ℕ) → p.len ≡ 512 * blocks → ((j : ℕ) → Covers b j → bit (covers j (p.start, blocks)) ≡ 0) → Apart b p
-  one_apart p blocks long clear j in_b in_p =
-      let size : frames_of p.len ≡ blocks = omega (arith, long) in
-      let one : bit (covers j (p.start, blocks)) ≡ 1 = ap bit (has_covers j (p.start, blocks) (in_p.0, subst (λ n. j < p.start + n) size in_p.1)) in
-      let none = clear j in_b in
-      let z : ⊥ = omega (arith, one, none) in z
-
-  command_apart : (c : Command) (w : Waiting) (room : List (ℕ × ℕ)) → room ≡ map (λ p. (p.start, entry_blocks w.len)) (buffers_by c w) → ((j : ℕ) → Covers b j → count j room ≡ 0) → AllByRecursion (Apart b) (buffers_by c w)
-  command_apart (Append n) w room is clear =
-      (one_apart (record { start = w.start; len = 512 * entry_blocks w.len }) (entry_blocks w.len) refl (λ j has. let sum : count j room ≡ bit (covers j (w.start, entry_blocks w.len)) + 0 = ap (count j) is in let none = clear j has in omega (arith, sum, none)), tt)
-  command_apart (Trim n) w room is clear = tt
-  command_apart (Pop n) w room is clear =
-      (one_apart (record { start = w.start; len = 512 * entry_blocks w.len }) (entry_blocks w.len) refl (λ j has. let sum : count j room ≡ bit (covers j (w.start, entry_blocks w.len)) + 0 = ap (count j) is in let none = clear j has in omega (arith, sum, none)), tt)
-
-  rooms_apart : (ws : List Waiting) (ms : List log.Waiting) → AreRoomsOf ws ms → ((j : ℕ) → Covers b j → count j (rooms ms) ≡ 0) → AllByRecursion (Apart b) (flat_map buffers_of ws)
-  rooms_apart [] [] is clear = tt
-  rooms_apart (w ∷ ws) (m ∷ ms) is clear =
-      all_joined (Apart b) (buffers_of w) (flat_map buffers_of ws)
-      (command_apart w.command w m.room is.0 (λ j has. let sum = total_append (λ f. bit (covers j f)) m.room (rooms ms) in let none = clear j has in omega (arith, sum, none)))
-      (rooms_apart ws ms is.1 (λ j has. let sum = total_append (λ f. bit (covers j f)) m.room (rooms ms) in let none = clear j has in omega (arith, sum, none)))
-  rooms_apart [] (m ∷ ms) is clear = absurd is
-  rooms_apart (w ∷ ws) [] is clear = absurd is
 
 -- Jobs of its card with one more command behind.
 module _ (v w : OpenChain) (x : Waiting) (grant : w.grant ≡ v.grant) (waiting : w.waiting ≡ v.waiting ++ x ∷ []) (done : w.done ≡ v.done) where
@@ -130,14 +96,14 @@ module _ (r : Beyond) (app : App) (s : List ℕ) (a : OpenAt) (h : Holds (around
   abbrev pub taken_at : ℕ → ℕ
   taken_at j = bit (slice_index_or app.store.region.taken j false)
 
-  its_frames : object_frames (Objects.log f.both.log) ≡ (f.opened.header_frame, 1) ∷ rooms f.opened.waiting
-  its_frames = ap opened_frames f.is_open
+  frames_are : object_frames (Objects.log f.both.log) ≡ (f.opened.header_frame, 1) ∷ rooms f.opened.waiting
+  frames_are = its_frames r.history f.both.log_fits.slot.blocks app.store.region f.one.vsic.ring f.chain f.lies f.both.log f.opened f.runs
 
   -- its frames are taken
   its_count : (j : ℕ) → bit (covers j (f.opened.header_frame, 1)) + count j (rooms f.opened.waiting) ≤ taken_at j
   its_count j =
       let own = in_total (λ g. object_covers j g.object) r.machine.held f.both.held_log (found_in s r.machine.held f.both.held_log f.both.there_log).0 in
-      let its : object_covers j f.both.held_log.object ≡ bit (covers j (f.opened.header_frame, 1)) + count j (rooms f.opened.waiting) = ap (object_covers j) f.both.object_log ∙ ap (count j) its_frames in
+      let its : object_covers j f.both.held_log.object ≡ bit (covers j (f.opened.header_frame, 1)) + count j (rooms f.opened.waiting) = ap (object_covers j) f.both.object_log ∙ ap (count j) frames_are in
       let was = h.taken j in
       omega (arith, own, its, was)
 
@@ -152,7 +118,11 @@ module _ (r : Beyond) (app : App) (s : List ℕ) (a : OpenAt) (h : Holds (around
 
   -- a new buffer is apart from all that it has
   pub new_apart : (b : Piece) → ((j : ℕ) → Covers b j → taken_at j ≡ 0) → AllByRecursion (Apart b) (pieces_of f.chain)
+<<<<<<< 1b65c12582ccc35513aa6387d24bb384b7998224
   new_apart b free = own_apart b (λ j has. ap (count j) its_frames ∙ (let own = its_count j in let none = free j has in omega (arith, own, none)))
+=======
+  new_apart b free = own_apart r.history f.both.log_fits.slot.blocks app.store.region f.one.vsic.ring f.chain f.lies f.both.log f.opened f.runs b (λ j has. ap (count j) frames_are ∙ (let own = its_count j in let none = free j has in omega (arith, own, none)))
+>>>>>>> refs/tmp/dev-main
 
   module _ (app1 : App) (w : OpenChain) (c : log.Waiting) (behind : Waiting) (touched : ℕ → Type 0) (reaches : Reaches r app app1 s r.history touched) (changes : GoesOnAs app.devices.cards app1.devices.cards a.key f.one w)
       (grant : w.grant ≡ f.chain.grant) (waiting : w.waiting ≡ f.chain.waiting ++ behind ∷ []) (done : w.done ≡ f.chain.done)
@@ -178,7 +148,7 @@ module _ (r : Beyond) (app : App) (s : List ℕ) (a : OpenAt) (h : Holds (around
 
     taken_then : (j : ℕ) → taken_at j + object_covers j (Objects.log log_then) ≡ bit (slice_index_or app1.store.region.taken j false) + object_covers j (Objects.log f.both.log)
     taken_then j =
-        let its : object_covers j (Objects.log f.both.log) ≡ bit (covers j (f.opened.header_frame, 1)) + count j (rooms f.opened.waiting) = ap (count j) its_frames in
+        let its : object_covers j (Objects.log f.both.log) ≡ bit (covers j (f.opened.header_frame, 1)) + count j (rooms f.opened.waiting) = ap (count j) frames_are in
         let sum = rooms_sum j f.opened.waiting c in
         let more = fresh j in
         omega (arith, its, sum, more)

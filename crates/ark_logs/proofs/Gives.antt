@@ -57,7 +57,8 @@ use Rattle.ark_own.proofs.Looked.{Looked, is_there, is_missing}
 use Rattle.ark_logs.specs.Finds.{if_of, in_area, of_area, open_of, open_under}
 use Rattle.ark_logs.specs.Refused.{refused_by}
 use Rattle.ark_logs.specs.declared.finding.OpenAt.{OpenAt}
-use Rattle.ark_logs.proofs.Accepts.{accepted_holds, count, new_apart}
+use Rattle.ark_held.proofs.LogFrames.{count}
+use Rattle.ark_logs.proofs.Accepts.{accepted_holds, new_apart}
 use Rattle.ark_logs.proofs.OfCommands as of
 use Rattle.ark_logs.proofs.OfCommands.{is_full, own_conditions}
 use Rattle.ark_logs.proofs.OfLogs.{FoundAs, FoundOpen, found_open, open_there_at}

@@ -32,7 +32,7 @@ use Rattle.ark_held.specs.declared.app.App.{App}
 use Rattle.ark_held.specs.declared.card.StorageCard.{StorageCard}
 use Rattle.ark_held.proofs.Lists.{by_test, not_some, some_same}
 use Rattle.ark_held.proofs.Finding.{found, stands_at}
-use Rattle.ark_held.proofs.Logged.{HasOpen}
+use Rattle.ark_held.proofs.BothPut.{HasOpen}
 use Rattle.ark_held.proofs.OpenCards.{shut, on_its_card, its_vsic, its_stands, open_there, is_there}
 use Rattle.ark_logs.specs.Finds.{open_under, open_by, open_at}
 use Rattle.ark_logs.specs.declared.finding.OpenAt.{OpenAt}

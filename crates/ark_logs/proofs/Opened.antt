@@ -42,7 +42,8 @@ use Rattle.ark_held.proofs.Besides.{same_history}
 use Rattle.ark_held.proofs.Covering.{Spares, within_spares}
 use Rattle.ark_held.proofs.Keeping.{paced_kept, watched_kept}
 use Rattle.ark_held.proofs.Logged as logged_laws
-use Rattle.ark_held.proofs.Logged.{HasOpen, IsItsFrame, Reaches, logged}
+use Rattle.ark_held.proofs.BothPut.{HasOpen}
+use Rattle.ark_held.proofs.Logged.{IsItsFrame, Reaches, logged}
 use Rattle.ark_held.proofs.Taking.{taken_bit}
 use Rattle.ark_own.specs.Keys.{card_key}
 use Rattle.ark_own.proofs.Bindings.{each_with}
