@@ -1,14 +1,7 @@
 -- An open log and the card on which it is open change together, with the device and the bytes of the log's buffers.
-<<<<<<< 1b65c12582ccc35513aa6387d24bb384b7998224
-use Rattle.std.proofs.Common.{◌≡◌, inl, inr, ℕ, ◌≤◌, Bool, true, false, not, cond, ◌&&◌, List, length, map, refl, sym, ◌∙◌, ap, subst, arith, bytes_eq}
-use Rattle.std.specs.Prelude.{Option, Some, is_some, slice_index_or}
-use Rattle.std.proofs.lemmas.Bool.{cases_eq, false≢true, and_parts}
-use Rattle.std.proofs.lemmas.Simd.{map-map}
-=======
 use Rattle.std.proofs.Common.{◌≡◌, inl, inr, ℕ, Bool, true, false, List, length, map, refl, sym, ◌∙◌, ap, subst, arith, bytes_eq}
 use Rattle.std.specs.Prelude.{Option, Some, slice_index_or}
 use Rattle.std.proofs.lemmas.Bool.{cases_eq}
->>>>>>> refs/tmp/dev-main
 use Rattle.ark_media.specs.Journal.{History}
 use Rattle.ark_caps.specs.Labels.{value_at}
 use Rattle.ark_caps.specs.declared.capability.Capability.{Capability}
@@ -23,32 +16,13 @@ use Rattle.ark_vsic.specs.Card.{is_bound}
 use Rattle.ark_table.specs.Slots.{Slot}
 use Rattle.ark_machine.specs.Objects
 use Rattle.ark_machine.specs.Objects.{Object, Vsic}
-<<<<<<< 1b65c12582ccc35513aa6387d24bb384b7998224
-use Rattle.ark_machine.specs.Machine.{Machine, Held, at, with_object}
-use Rattle.ark_machine.specs.Control.{is_open_on, is_socket_on}
-use Rattle.ark_held.specs.Totals.{bit, total, uses, object_covers, cover_count, open_count}
-=======
 use Rattle.ark_machine.specs.Machine.{Machine, Held}
 use Rattle.ark_machine.specs.Control.{is_open_on, is_socket_on}
 use Rattle.ark_held.specs.Totals.{bit, uses, object_covers, open_count}
->>>>>>> refs/tmp/dev-main
 use Rattle.ark_held.specs.Kept.{CardKept}
 use Rattle.ark_held.specs.Around.{Around, Both, slot_at}
 use Rattle.ark_held.specs.Areas.{IsLog, IsOpened, IsOpenedAs}
 use Rattle.ark_held.specs.Cards.{IsCard, IsEnded, IsJob, IsWatched}
-<<<<<<< 1b65c12582ccc35513aa6387d24bb384b7998224
-use Rattle.ark_held.specs.Held.{IsObjectOf, Matches, Holds, has_key}
-use Rattle.ark_held.specs.Keeps.{Keeps, IsOpenOn, JobWithin, SameAt, StaysOpen, Within, any_label}
-use Rattle.ark_held.specs.Ringing.{Sets}
-use Rattle.ark_held.proofs.Lists.{by_test, each_kept, same_name, other_name, name_other, some_same}
-use Rattle.ark_held.proofs.Changing.{put_at}
-use Rattle.ark_held.proofs.Covering.{Spares, within_spares, in_total, two_total, found_in}
-use Rattle.ark_held.proofs.Ending.{StandsFor}
-use Rattle.ark_held.proofs.Finding.{found_there}
-use Rattle.ark_held.proofs.Keeping.{ended_kept, job_kept, paced_kept, watched_kept}
-use Rattle.ark_held.proofs.Logged.{HasOpen, total_turned}
-use Rattle.ark_held.proofs.Members.{In}
-=======
 use Rattle.ark_held.specs.Held.{Holds, has_key}
 use Rattle.ark_held.specs.Keeps.{Keeps, IsOpenOn, JobWithin, SameAt, StaysOpen, Within, any_label}
 use Rattle.ark_held.specs.Ringing.{Sets}
@@ -57,260 +31,10 @@ use Rattle.ark_held.proofs.BothPut.{HasOpen, apart, both_label, both_put, both_s
 use Rattle.ark_held.proofs.Covering.{Spares, other_spared, within_spares}
 use Rattle.ark_held.proofs.Ending.{StandsFor}
 use Rattle.ark_held.proofs.Keeping.{ended_kept, job_kept, paced_kept, watched_kept}
->>>>>>> refs/tmp/dev-main
 use Rattle.ark_held.proofs.Opens.{stays_same}
 use Rattle.ark_held.proofs.Spreading.{spread_same}
 use Rattle.ark_held.proofs.Turning.{turned}
 
-<<<<<<< 1b65c12582ccc35513aa6387d24bb384b7998224
-module _ (x : Around) (s v : List ℕ) (h : Holds x) (both : HasOpen x s v) where
-  -- the log is no card
-  pub log_apart : bytes_eq s v ≡ false
-  log_apart = name_other s v (λ same.
-      let object = sym both.object_log ∙ ap (λ (g : Held). g.object) (some_same (at x.machine s) both.held_log both.held_card both.there_log (ap (λ k. at x.machine k) same ∙ both.there_card)) ∙ both.object_card in
-      false≢true (sym (ap (λ (o : Object). is_some (Objects.as_log o)) object)))
-
-  -- it has each frame once at most, and no other object has such a frame
-  pub most_covered : (j : ℕ) → object_covers j (Objects.log both.log) ≤ 1
-  most_covered j =
-      let own = in_log in
-      let its : object_covers j both.held_log.object ≡ object_covers j (Objects.log both.log) = ap (object_covers j) both.object_log in
-      let was = h.taken j in
-      let most = bit_below (slice_index_or x.tables.memory.taken j false) in
-      omega (arith, own, its, was, most)
-    where
-      in_log : object_covers j both.held_log.object ≤ cover_count x.machine j
-      in_log = in_total (λ g. object_covers j g.object) x.machine.held both.held_log (found_in s x.machine.held both.held_log both.there_log).0
-
-      bit_below : (b : Bool) → bit b ≤ 1
-      bit_below true = omega arith
-      bit_below false = omega arith
-
-  other_has : (j : ℕ) → object_covers j (Objects.log both.log) ≡ 1 → (g : Held) → In x.machine.held g → bytes_eq s g.label ≡ false → object_covers j g.object ≡ 0
-  other_has j own g inn apart =
-      let its = found_in s x.machine.held both.held_log both.there_log in
-      let two = two_total (λ z. object_covers j z.object) x.machine.held both.held_log g its.0 inn (λ e. false≢true (sym apart ∙ ap (λ (z : Held). bytes_eq s z.label) (sym e) ∙ its.1)) in
-      let one : object_covers j both.held_log.object ≡ 1 = ap (object_covers j) both.object_log ∙ own in
-      let was = h.taken j in
-      let most = bit_below (slice_index_or x.tables.memory.taken j false) in
-      omega (arith, two, one, was, most)
-    where
-      bit_below : (b : Bool) → bit b ≤ 1
-      bit_below true = omega arith
-      bit_below false = omega arith
-
-  abbrev neither : List ℕ → Bool
-  neither k = not (bytes_eq s k) && not (bytes_eq v k)
-
-  not_false : (p : Bool) → not p ≡ true → p ≡ false
-  not_false true q = absurd (false≢true q)
-  not_false false q = refl
-
-  apart : (k : List ℕ) → neither k ≡ true → (bytes_eq s k ≡ false) × (bytes_eq v k ≡ false)
-  apart k q = let p = and_parts (not (bytes_eq s k)) (not (bytes_eq v k)) q in (not_false (bytes_eq s k) p.0, not_false (bytes_eq v k) p.1)
-
-  module _ (log1 : Log) (vsic1 : Vsic) where
-    abbrev log_put : Held → Held
-    log_put g = put_at s (Objects.log log1) g
-
-    abbrev both_put : Held → Held
-    both_put g = put_at v (Objects.vsic vsic1) (put_at s (Objects.log log1) g)
-
-    -- both have changed
-    abbrev pub both_then : Machine
-    both_then = with_object (with_object x.machine s (Objects.log log1)) v (Objects.vsic vsic1)
-
-    put_label : (l : List ℕ) (o : Object) (g : Held) → (put_at l o g).label ≡ g.label
-    put_label l o g = by_test (λ q. (cond q (record g { object = o }) g).label ≡ g.label) (bytes_eq l g.label) (λ yes. refl) (λ no. refl)
-
-    put_serial : (l : List ℕ) (o : Object) (g : Held) → (put_at l o g).serial ≡ g.serial
-    put_serial l o g = by_test (λ q. (cond q (record g { object = o }) g).serial ≡ g.serial) (bytes_eq l g.label) (λ yes. refl) (λ no. refl)
-
-    put_other : (l : List ℕ) (o : Object) (g : Held) → bytes_eq l g.label ≡ false → put_at l o g ≡ g
-    put_other l o g q = ap (λ b. cond b (record g { object = o }) g) q
-
-    put_here : (l : List ℕ) (o : Object) (g : Held) → bytes_eq l g.label ≡ true → (put_at l o g).object ≡ o
-    put_here l o g q = ap (λ b. (cond b (record g { object = o }) g).object) q
-
-    then_other : (g : Held) → bytes_eq s g.label ≡ false → bytes_eq v g.label ≡ false → both_put g ≡ g
-    then_other g not_s not_v = ap (λ z. put_at v (Objects.vsic vsic1) z) (put_other s (Objects.log log1) g not_s) ∙ put_other v (Objects.vsic vsic1) g not_v
-
-    then_log : (g : Held) → bytes_eq s g.label ≡ true → (both_put g).object ≡ Objects.log log1
-    then_log g is_s =
-        let not_v = ap (λ k. bytes_eq v k) (put_label s (Objects.log log1) g ∙ sym (same_name s g.label is_s)) ∙ name_other v s (λ q. other_name s v log_apart (sym q)) in
-        ap (λ (z : Held). z.object) (put_other v (Objects.vsic vsic1) (put_at s (Objects.log log1) g) not_v) ∙ put_here s (Objects.log log1) g is_s
-
-    then_card : (g : Held) → bytes_eq v g.label ≡ true → (both_put g).object ≡ Objects.vsic vsic1
-    then_card g is_v = put_here v (Objects.vsic vsic1) (put_at s (Objects.log log1) g) (ap (λ k. bytes_eq v k) (put_label s (Objects.log log1) g) ∙ is_v)
-
-    -- what it adds to a count
-    module _ (c : Object → ℕ) (card_same : c (Objects.vsic vsic1) ≡ c (Objects.vsic both.vsic)) where
-      others_same : (p : List ℕ × Capability) (g : Held) → In x.machine.held g → Matches x p g → bytes_eq s p.0 ≡ false → c (both_put g).object ≡ c g.object
-      others_same p g inn m not_s = by_test (λ t. bytes_eq v g.label ≡ t → c (both_put g).object ≡ c g.object) (bytes_eq v g.label)
-          (λ yes q.
-          let mine : g ≡ both.held_card = some_same (at x.machine v) g both.held_card (ap (λ k. at x.machine k) (same_name v g.label q) ∙ found_there x x.labels x.machine.held g h.apart h.held inn) both.there_card in
-          ap c (then_card g q) ∙ card_same ∙ sym (ap (λ (z : Held). c z.object) mine ∙ ap c both.object_card))
-          (λ no q. ap (λ (z : Held). c z.object) (then_other g (ap (λ k. bytes_eq s k) m.label ∙ not_s) q)) refl
-
-      count_same : c (Objects.log log1) ≡ c (Objects.log both.log) → total (λ z. c z.object) (map both_put x.machine.held) ≡ total (λ z. c z.object) x.machine.held
-      count_same same =
-          let all = total_turned x both_put c s both.held_log x.labels x.machine.held h.apart h.held others_same both.there_log in
-          let old : c both.held_log.object ≡ c (Objects.log both.log) = ap c both.object_log in
-          let new : c (both_put both.held_log).object ≡ c (Objects.log log1) = ap c (then_log both.held_log (found_in s x.machine.held both.held_log both.there_log).1) in
-          omega (arith, all, old, new, same)
-
-    machine_is : record x.machine { held = map both_put x.machine.held } ≡ both_then
-    machine_is = ap (λ (hs : List Held). record x.machine { held = hs }) (sym (map-map (λ z. put_at v (Objects.vsic vsic1) z) (λ z. put_at s (Objects.log log1) z) x.machine.held))
-
-    module _ (opens : (k : List ℕ) → is_open_on k (Objects.log log1) ≡ is_open_on k (Objects.log both.log)) (used : (k : List ℕ) → uses k (Objects.vsic vsic1) ≡ uses k (Objects.vsic both.vsic)) (covered : (j : ℕ) → object_covers j (Objects.log log1) ≡ object_covers j (Objects.log both.log))
-        (history : History) (base : history.base ≡ x.history.base) (beside : (l : List ℕ) (t : Slot) → bytes_eq s l ≡ false → slot_at x l ≡ Some t → SameAt x.history history t.blocks)
-        (memory : Space) (taken : memory.taken ≡ x.tables.memory.taken) (bytes : (p : Piece) → Spares (λ j. object_covers j (Objects.log both.log) ≡ 1) p → bytes_of memory p ≡ bytes_of x.tables.memory p)
-        (k now : CardKept) (was : x.tables.cards both.card.key ≡ Some k) (cards : ℕ → Option CardKept) (sets : Sets both.card.key now x.tables.cards cards) (only : (q : OpenChain) → k.log ≡ Some q → q.grant ≡ both.area.grant) where
-      abbrev touched : ℕ → Type 0
-      touched j = object_covers j (Objects.log both.log) ≡ 1
-
-      abbrev then_with : Machine → Around
-      then_with m = record x { history = history; machine = m; tables = record x.tables { memory = memory; cards = cards } }
-
-      -- what is around the application then
-      abbrev pub moved : Around
-      moved = then_with both_then
-
-      abbrev z : Around
-      z = then_with (record x.machine { held = map both_put x.machine.held })
-
-      z_is : z ≡ moved
-      z_is = ap then_with machine_is
-
-      logs_stay : (l i : List ℕ) (d c : Capability) (w : CardKept) → neither l ≡ true → value_at x.labels l ≡ Some d → any_label i ≡ true → value_at x.labels i ≡ Some c → c.kind ≡ cap_kind.Vsic → x.tables.cards c.key ≡ Some w → IsOpenOn d.grant w → StaysOpen d.grant w (cards c.key)
-      logs_stay l i d c w stays at_l named is kind there on = elim (cases_eq c.key both.card.key) [
-        | inl mine ↦
-            let kept : k ≡ w = some_same (x.tables.cards c.key) k w (ap x.tables.cards mine ∙ was) there in
-            let grant = only on.0 (ap (λ (y : CardKept). y.log) kept ∙ on.1) in
-            absurd (other_name s l (apart l stays).0 (h.own.grants s l both.area d both.area_label at_l (sym grant ∙ on.2)))
-        | inr other ↦ stays_same d.grant w (x.tables.cards c.key) (cards c.key) (sets.others c.key other) there
-      ]
-
-      keeps_then : Keeps neither any_label (Spares touched) x z
-      keeps_then = record {
-        now = omega arith;
-        numbers = λ i n is. is;
-        frames = ap (λ (ts : List Bool). length ts) taken;
-        base = base;
-        bytes = bytes;
-        granted = λ l c i is old. is;
-        spread = λ i g a old is. spread_same x.areas g a is;
-        labels = λ l c named is. is;
-        places = λ l c named is kind. refl;
-        logs = logs_stay;
-        buffers = λ l c stays is kind. refl;
-        cards = λ l c stays is kind. sets.others c.key (λ q. other_name v l (apart l stays).1 (h.own.keys v l both.card c both.card_label is (both.card_fits.its_kind ∙ sym kind) (ap has_key both.card_fits.its_kind) (sym q)));
-        nets = λ l c stays is kind. refl;
-        doors = λ l c stays is kind. refl;
-        rates = λ l c stays is kind. refl;
-        sockets = λ l c stays is kind. refl;
-        rules = λ l c stays is kind. refl;
-        areas = λ l c stays is kind. refl;
-        slots = λ l stays. refl;
-        history = λ l t stays is. beside l t (apart l stays).0 is;
-        lent = λ l stays. count_same (uses l) (used l) refl;
-        opened = λ l stays. count_same (λ o. bit (is_open_on l o)) refl (ap bit (opens l));
-        socketed = λ l stays. count_same (λ o. bit (is_socket_on l o)) refl refl;
-      }
-
-      -- all but the two stay
-      pub keeps : Keeps neither any_label (Spares touched) x moved
-      keeps = subst (λ (w : Around). Keeps neither any_label (Spares touched) x w) z_is keeps_then
-
-      one_open : open_count moved.machine v ≡ open_count x.machine v
-      one_open = ap (λ (m : Machine). open_count m v) (sym machine_is) ∙ count_same (λ o. bit (is_open_on v o)) refl (ap bit (opens v))
-
-      module _ (q : OpenChain) (o1 : Opened) (lies : Layout) (fits : StandsFor x v now vsic1) (has : now.log ≡ Some q) (grant : q.grant ≡ both.area.grant) (bound : is_bound both.area.grant now.bound ≡ true) (on : o1.card ≡ v)
-          (kind : log1.kind ≡ both.log.kind) (blocks : log1.blocks ≡ both.log.blocks) (runs : IsRunning history both.log_fits.slot.blocks memory now.ring q lies log1 o1) where
-        inside : Within any_label (Spares touched) (Objects.vsic vsic1)
-        inside = within_spares touched (Objects.vsic vsic1) (λ j is. refl)
-
-        -- the door that watches the card does so still
-        pub door_now : Both (IsWatched moved) now.door vsic1.door
-        door_now = watched_kept neither any_label (Spares touched) x moved keeps now.door vsic1.door inside.3 fits.door
-
-        card_now : IsCard moved v both.card vsic1
-        card_now =
-            let w = inside in
-            record {
-              its_kind = both.card_fits.its_kind;
-              card = now;
-              kept = sets.here;
-              size = fits.size;
-              posted = each_kept (IsJob x now.log) (IsJob moved now.log) (JobWithin any_label (Spares touched)) (job_kept neither any_label (Spares touched) x moved keeps now.log) now.ring.posted vsic1.queue.posted w.0 fits.posted;
-              unreaped = each_kept (IsEnded x now.log) (IsEnded moved now.log) (λ u. JobWithin any_label (Spares touched) u.0) (ended_kept neither any_label (Spares touched) x moved keeps now.log) now.ring.unreaped vsic1.queue.unreaped w.1 fits.unreaped;
-              moved = fits.moved;
-              bound = fits.bound;
-              pace = paced_kept neither any_label (Spares touched) x moved keeps now.pace vsic1.pace w.2 fits.pace;
-              door = door_now;
-              log = fits.log ∙ sym one_open;
-              phases = fits.phases;
-            }
-
-        opened_now : IsOpened moved both.area.grant both.log_fits.slot.blocks log1 o1
-        opened_now = record {
-          key = both.card.key;
-          card = record { cap = both.card; there = ap (λ (l : List ℕ). value_at x.labels l) on ∙ both.card_label; its_kind = both.card_fits.its_kind; its_key = refl };
-          its_card = now;
-          kept = sets.here;
-          chain = q;
-          on = has;
-          its_grant = grant;
-          bound = bound;
-          lies = lies;
-          runs = runs;
-        }
-
-        log_now : IsLog moved s both.area log1
-        log_now = let f = both.log_fits in record {
-          slot = f.slot;
-          its_kind = f.its_kind;
-          kept = f.kept;
-          there = f.there;
-          same_kind = f.same_kind ∙ sym kind;
-          no_raw = λ raw. f.no_raw (sym kind ∙ raw);
-          blocks = blocks ∙ f.blocks;
-          two = f.two;
-          opened = subst (λ (w : Option Opened). IsOpenedAs moved both.area.grant f.slot.blocks log1 w) (sym runs.is.opened) opened_now;
-          listed = running_listed history f.slot.blocks memory now.ring q lies log1 o1 runs;
-          full = λ whole. runs.full;
-        }
-
-        same_cap : (l : List ℕ) (c d : Capability) → value_at x.labels l ≡ Some c → value_at x.labels l ≡ Some d → c ≡ d
-        same_cap l c d is too = some_same (value_at x.labels l) c d is too
-
-        touches : (p : List ℕ × Capability) (g : Held) → neither p.0 ≡ false → In x.machine.held g → value_at x.labels p.0 ≡ Some p.1 → Matches x p g → IsObjectOf z p.0 p.1 (both_put g).object
-        touches p g other inn is m = by_test (λ t. bytes_eq s p.0 ≡ t → IsObjectOf z p.0 p.1 (both_put g).object) (bytes_eq s p.0)
-            (λ yes e.
-            let name = same_name s p.0 e in
-            let cap = same_cap s both.area p.1 both.area_label (ap (λ l. value_at x.labels l) name ∙ is) in
-            subst (λ (o : Object). IsObjectOf z p.0 p.1 o) (sym (then_log g (ap (λ l. bytes_eq s l) m.label ∙ e)))
-            (subst (λ (l : List ℕ). IsLog z l p.1 log1) name (subst (λ (c : Capability). IsLog z s c log1) cap (subst (λ (w : Around). IsLog w s both.area log1) (sym z_is) log_now))))
-            (λ no e.
-            let is_v : bytes_eq v p.0 ≡ true = by_test (λ w. bytes_eq v p.0 ≡ w → w ≡ true) (bytes_eq v p.0) (λ yes w. refl)
-            (λ n w. absurd (false≢true (sym other ∙ ap (λ u. not u && not (bytes_eq v p.0)) e ∙ ap not w))) refl in
-            let name = same_name v p.0 is_v in
-            let cap = same_cap v both.card p.1 both.card_label (ap (λ l. value_at x.labels l) name ∙ is) in
-            subst (λ (o : Object). IsObjectOf z p.0 p.1 o) (sym (then_card g (ap (λ l. bytes_eq v l) m.label ∙ is_v)))
-            (subst (λ (l : List ℕ). IsCard z l p.1 vsic1) name (subst (λ (c : Capability). IsCard z v c vsic1) cap (subst (λ (w : Around). IsCard w v both.card vsic1) (sym z_is) card_now))))
-            refl
-
-        -- what its labels stand for
-        pub both_holds : Holds moved
-        both_holds = subst (λ (w : Around). Holds w) z_is (turned x z h both_put neither (Spares touched) keeps_then
-            (λ g. put_label v (Objects.vsic vsic1) (log_put g) ∙ put_label s (Objects.log log1) g) (λ g. put_serial v (Objects.vsic vsic1) (log_put g) ∙ put_serial s (Objects.log log1) g)
-            (λ p g yes inn m. record {
-              same = ap (λ (w : Held). w.object) (then_other g (ap (λ l. bytes_eq s l) m.label ∙ (apart p.0 yes).0) (ap (λ l. bytes_eq v l) m.label ∙ (apart p.0 yes).1));
-              within = within_spares touched g.object (λ j own. other_has j own g inn (ap (λ l. bytes_eq s l) m.label ∙ (apart p.0 yes).0));
-            })
-            touches refl refl refl refl refl (λ l. refl)
-            (λ j. count_same (object_covers j) refl (covered j) ∙ h.taken j ∙ ap (λ (ts : List Bool). bit (slice_index_or ts j false)) (sym taken)))
-=======
 module _ (x : Around) (s v : List ℕ) (h : Holds x) (both : HasOpen x s v) (log1 : Log) (vsic1 : Vsic) (opens : (k : List ℕ) → is_open_on k (Objects.log log1) ≡ is_open_on k (Objects.log both.log)) (used : (k : List ℕ) → uses k (Objects.vsic vsic1) ≡ uses k (Objects.vsic both.vsic)) (covered : (j : ℕ) → object_covers j (Objects.log log1) ≡ object_covers j (Objects.log both.log))
     (history : History) (base : history.base ≡ x.history.base) (beside : (l : List ℕ) (t : Slot) → bytes_eq s l ≡ false → slot_at x l ≡ Some t → SameAt x.history history t.blocks)
     (memory : Space) (taken : memory.taken ≡ x.tables.memory.taken) (bytes : (p : Piece) → Spares (λ j. object_covers j (Objects.log both.log) ≡ 1) p → bytes_of memory p ≡ bytes_of x.tables.memory p)
@@ -439,4 +163,3 @@ module _ (x : Around) (s v : List ℕ) (h : Holds x) (both : HasOpen x s v) (log
         })
         (touches x s v h both log1 vsic1 z (subst (λ (w : Around). IsCard w v both.card vsic1) (sym z_is) card_now) (subst (λ (w : Around). IsLog w s both.area log1) (sym z_is) log_now)) refl refl refl refl refl (λ l. refl)
         (λ j. count_same x s v h both log1 vsic1 (object_covers j) refl (covered j) ∙ h.taken j ∙ ap (λ (ts : List Bool). bit (slice_index_or ts j false)) (sym taken)))
->>>>>>> refs/tmp/dev-main

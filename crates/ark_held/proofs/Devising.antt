@@ -62,7 +62,7 @@ module _ (x : Around) (cards : ℕ → Option CardKept) (doors : ℕ → Option 
   }
 
 -- the key of another label of the kind is another one
-key_apart : (x : Around) (h : Holds x) (v : List ℕ) (c : Capability) (named : value_at x.labels v ≡ Some c) (stored : has_key c.kind ≡ true)
+pub key_apart : (x : Around) (h : Holds x) (v : List ℕ) (c : Capability) (named : value_at x.labels v ≡ Some c) (stored : has_key c.kind ≡ true)
     → (k : List ℕ) (d : Capability) → but v k ≡ true → value_at x.labels k ≡ Some d → d.kind ≡ c.kind → d.key ≡ c.key → ⊥
 key_apart x h v c named stored k d other is kind same = other_name v k (not_but v k other) (h.own.keys v k c d named is (sym kind) stored (sym same))
 

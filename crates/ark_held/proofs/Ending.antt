@@ -10,7 +10,6 @@ use Rattle.ark_vic.specs.declared.descriptor.Descriptor.{Descriptor}
 use Rattle.ark_vic.specs.declared.descriptor.Completion.{Completion}
 use Rattle.ark_vic.specs.declared.door.Bell.TheVariants as bell
 use Rattle.ark_vic.specs.declared.door.Counts.{Counts}
-use Rattle.ark_vic.specs.Bells.{one_more}
 use Rattle.ark_caladan.specs.Chain.{Phase}
 use Rattle.ark_log.specs.Open.{OpenChain}
 use Rattle.ark_machine.specs.Objects
@@ -30,10 +29,11 @@ use Rattle.ark_held.specs.Ringing.{Sets, Rings}
 use Rattle.ark_held.proofs.Lists.{by_test, same_name, some_same, total_last, each_kept}
 use Rattle.ark_held.proofs.Changing.{put_at, none_put}
 use Rattle.ark_held.proofs.Creating.{but}
-use Rattle.ark_held.proofs.Devising.{with_devices, card_keeps, card_set, open_same, door_set}
+use Rattle.ark_held.proofs.Devising.{with_devices, card_keeps, card_set, open_same}
 use Rattle.ark_held.proofs.Finding.{its_own, stands_at}
 use Rattle.ark_held.proofs.Opens.{none_open, shut_phases, stays_same}
 use Rattle.ark_held.proofs.Keeping.{job_kept, ended_kept, paced_kept, watched_kept}
+use Rattle.ark_held.proofs.Rung.{rung_holds}
 use Rattle.ark_held.proofs.Staying.{within}
 
 -- a kept card stands for a machine's card under a label
@@ -77,31 +77,6 @@ on_card x v c k card held h named kind there object was =
       was = was;
       fits = subst (λ (z : CardKept). StandsFor x v z card) (some_same (x.tables.cards c.key) f.card k f.kept was) (stands_for x v c card f);
     }
-
--- A door that rings.
-
-module _ (x : Around) (h : Holds x) (doors : ℕ → Option Counts) where
-  rung_at : (l : List ℕ) (key : ℕ) (w : IsWatched x key l) (held : Held) (o : Object) → held.object ≡ o → at x.machine l ≡ Some held → IsObjectOf x l w.cap o → Rings (Some key) x.tables.doors doors
-      → Holds (with_devices x x.tables.cards doors (rung x.machine (Some l) bell.Io))
-  rung_at l key w held (Objects.door old) is there f rings =
-      let same : rings.0 ≡ old = some_same (x.tables.doors key) rings.0 old rings.1 (ap (λ i. x.tables.doors i) (sym w.its_key) ∙ f.kept) in
-      let sets : Sets w.cap.key (one_more old bell.Io) x.tables.doors doors = subst (λ (i : ℕ). Sets i (one_more old bell.Io) x.tables.doors doors) (sym w.its_key) (subst (λ (n : Counts). Sets key (one_more n bell.Io) x.tables.doors doors) same rings.2) in
-      let row : rung x.machine (Some l) bell.Io ≡ with_object x.machine l (Objects.door (one_more old bell.Io)) = rw (there, is) refl in
-      subst (λ (m : Machine). Holds (with_devices x x.tables.cards doors m)) (sym row) (door_set x h l w.cap w.there w.its_kind held there old (one_more old bell.Io) is doors sets)
-  rung_at l key w held (Objects.raw z) is there f rings = absurd (cc (w.its_kind, f.its_kind))
-  rung_at l key w held (Objects.log z) is there f rings = absurd (cc (w.its_kind, f.its_kind))
-  rung_at l key w held (Objects.vsic z) is there f rings = absurd (cc (w.its_kind, f.its_kind))
-  rung_at l key w held (Objects.vnic z) is there f rings = absurd (cc (w.its_kind, f.its_kind))
-  rung_at l key w held (Objects.filter z y) is there f rings = absurd (cc (w.its_kind, f.its_kind))
-  rung_at l key w held (Objects.rate z y) is there f rings = absurd (cc (w.its_kind, f.its_kind))
-  rung_at l key w held (Objects.buffer z) is there f rings = absurd (cc (w.its_kind, f.its_kind))
-  rung_at l key w held (Objects.socket z) is there f rings = absurd (cc (w.its_kind, f.its_kind))
-
-  pub rung_holds : (key : Option ℕ) (door : Option (List ℕ)) → Both (IsWatched x) key door → Rings key x.tables.doors doors → Holds (with_devices x x.tables.cards doors (rung x.machine door bell.Io))
-  rung_holds None None watched rings = subst (λ (d : ℕ → Option Counts). Holds (with_devices x x.tables.cards d x.machine)) (sym rings) h
-  rung_holds (Some key) (Some l) watched rings = let s = stands_at x l watched.cap h watched.there in rung_at l key watched s.held s.held.object refl s.there s.matches.object rings
-  rung_holds None (Some l) watched rings = absurd watched
-  rung_holds (Some key) None watched rings = absurd watched
 
 -- The card.
 
@@ -223,4 +198,4 @@ module _ (x : Around) (v : List ℕ) (c : Capability) (k : CardKept) (card : Vsi
           log = on.fits.log;
           phases = shut_phases k.log new.queue.posted new.queue.unreaped none;
         } in
-        rung_holds (y new now cards sets opens (uses_same pace) fits) (card_holds new now cards sets opens (uses_same pace) fits) doors k.door card.door (card_watched new now cards sets opens (uses_same pace) fits on.fits.door) rings
+        rung_holds (y new now cards sets opens (uses_same pace) fits) (card_holds new now cards sets opens (uses_same pace) fits) doors bell.Io k.door card.door (card_watched new now cards sets opens (uses_same pace) fits on.fits.door) rings

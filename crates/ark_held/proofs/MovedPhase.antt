@@ -1,12 +1,6 @@
 -- A move of the card on which a log is open, where a descriptor of the log is posted: it carries what the machine's move of the log's phase does.
-<<<<<<< 1b65c12582ccc35513aa6387d24bb384b7998224
-use Rattle.std.proofs.Common.{◌≡◌, inl, inr, ℕ, ◌+◌, ◌<◌, Bool, true, false, not, ◌&&◌, List, [], ◌∷◌, ◌++◌, length, nat_le, nat_lt, refl, sym, ◌∙◌, ap, subst, bytes_eq, Contains}
-use Rattle.std.specs.Prelude.{if◌then◌else◌, Option, Some, is_some, option_map, replicate, slice_get, unwrap_or}
-use Rattle.std.specs.List.{AllByRecursion}
-=======
 use Rattle.std.proofs.Common.{◌≡◌, inl, inr, ℕ, ◌+◌, ◌<◌, ◌≤◌, Bool, true, false, not, ◌&&◌, List, [], ◌∷◌, ◌++◌, length, nat_le, nat_lt, refl, sym, ◌∙◌, ap, subst, bytes_eq, Contains}
 use Rattle.std.specs.Prelude.{if◌then◌else◌, Option, Some, is_some, option_map, replicate, slice_get, unwrap_or}
->>>>>>> refs/tmp/dev-main
 use Rattle.ark_base.specs.declared.kind.Outcome.{Outcome}
 use Rattle.ark_base.specs.declared.kind.Outcome.TheVariants as outcome
 use Rattle.ark_media.specs.Journal.{History, Event, Read, Write, Sync}
@@ -30,18 +24,10 @@ use Rattle.ark_vsic.specs.declared.due.Due.{Due}
 use Rattle.ark_vsic.specs.declared.due.Due.TheVariants as due
 use Rattle.ark_vsic.specs.declared.due.Moved.{Moved}
 use Rattle.ark_vsic.specs.declared.due.Moved.TheVariants as moved
-<<<<<<< 1b65c12582ccc35513aa6387d24bb384b7998224
-use Rattle.ark_caladan.specs.Chain.{Log, Opened, Phase, Verb, Waiting, reading, writing, syncing, lists, list_choices, oldest_of, pending}
-use Rattle.ark_caladan.specs.Open.{Layout}
-use Rattle.ark_entry.specs.Found.{Found, found, damaged, found_of}
-use Rattle.ark_log.specs.declared.stage.Stage.{Stage}
-use Rattle.ark_log.specs.declared.stage.Stage.TheVariants as stages
-=======
 use Rattle.ark_caladan.specs.Chain.{Log, Opened, Phase, Verb, reading, writing, syncing}
 use Rattle.ark_caladan.specs.Open.{Layout}
 use Rattle.ark_entry.specs.Found.{Found, found_of}
 use Rattle.ark_log.specs.declared.stage.Stage.{Stage}
->>>>>>> refs/tmp/dev-main
 use Rattle.ark_log.specs.Open.{OpenChain}
 use Rattle.ark_log.specs.Polled.{stage_of}
 use Rattle.ark_log.specs.Stages.{posting_of, stage_with}
@@ -64,11 +50,7 @@ use Rattle.ark_machine.specs.Rates.{is_over_burst, may_pass, passed}
 use Rattle.ark_held.specs.Totals.{bit, object_covers, open_count}
 use Rattle.ark_held.specs.Around.{Around, slot_at, blocks_under, Each, Both}
 use Rattle.ark_held.specs.Areas.{OpensToLists}
-<<<<<<< 1b65c12582ccc35513aa6387d24bb384b7998224
-use Rattle.ark_held.specs.Cards.{DoesPhase, HasPhases, IsJob, IsPaced, IsPhaseJob, IsPhaseOf}
-=======
 use Rattle.ark_held.specs.Cards.{DoesPhase, HasPhases, IsJob, IsPaced}
->>>>>>> refs/tmp/dev-main
 use Rattle.ark_held.specs.Kept.{CardKept}
 use Rattle.ark_held.specs.Does.{IsSited, LogsAtFronts}
 use Rattle.ark_held.specs.Held.{Holds}
@@ -76,14 +58,8 @@ use Rattle.ark_held.specs.Keeps.{SameAt}
 use Rattle.ark_held.specs.Moving.{card_of, blocks_held, pace_moved, with_pass, said_of}
 use Rattle.ark_held.specs.Ringing.{Sets}
 use Rattle.ark_held.proofs.Besides.{same_beside, same_history}
-<<<<<<< 1b65c12582ccc35513aa6387d24bb384b7998224
-use Rattle.ark_held.proofs.BothMoved.{log_apart, most_covered}
-use Rattle.ark_held.proofs.Carrying.{carried, Carries, WasMoved, made_of, answer_by, sets_by, rings_by, carries_by, still, no_logs, no_calls, none_made, leaves_of}
-use Rattle.ark_held.proofs.Covering.{Spares}
-=======
 use Rattle.ark_held.proofs.Carrying.{carried, Carries, WasMoved, made_of, answer_by, sets_by, rings_by, carries_by, still, no_logs, no_calls, none_made, leaves_of}
 use Rattle.ark_held.proofs.Covering.{Spares, most_covered}
->>>>>>> refs/tmp/dev-main
 use Rattle.ark_held.proofs.Dues.{due_by_tests, paced_same}
 use Rattle.ark_held.proofs.Effects.{at_other, at_each, settles_holds}
 use Rattle.ark_held.proofs.Ending.{OnCard, on_card}
@@ -91,68 +67,14 @@ use Rattle.ark_held.proofs.Fronts.{log_opens}
 use Rattle.ark_held.proofs.Lists.{by_test, other_name, some_same}
 use Rattle.ark_held.proofs.LogCalls.{IsOfLog, logs_within, others_beside}
 use Rattle.ark_held.proofs.LogFrames.{spared}
-<<<<<<< 1b65c12582ccc35513aa6387d24bb384b7998224
-use Rattle.ark_held.proofs.Logged.{HasOpen}
-use Rattle.ark_held.proofs.MoveRows.{ended_by, move_is, ends_is, gate_over, gate_waits, gate_opens, goes_on as goes_further, has_ended, last_is}
-use Rattle.ark_held.proofs.PhaseMoves as phase_moved
-use Rattle.ark_held.proofs.PhaseRows.{block_inside, log_on_is, same_log, written_is}
-use Rattle.ark_held.proofs.RunsOn as runs_on
-use Rattle.ark_held.proofs.Trying.{passed_both}
-
--- The write that decides is no part of what a stop may leave.
-same_lists : (g : Log) (o : Opened) (b : Bool) → g.opened ≡ Some o → lists (record g { opened = Some (record o { decided = b }) }) ≡ lists g
-same_lists g o b is = by o.waiting refl ∙ sym (ap (λ z. list_choices g.list (pending z g.left)) is)
-  where
-    by : (ws : List Waiting) → o.waiting ≡ ws → list_choices g.list (oldest_of o.waiting b) ≡ list_choices g.list (oldest_of o.waiting o.decided)
-    by ws is = ap (λ zs. list_choices g.list (oldest_of zs b)) is ∙ same g.list ws ∙ sym (ap (λ zs. list_choices g.list (oldest_of zs o.decided)) is)
-      where
-        same : (f : Found) (zs : List Waiting) → list_choices f (oldest_of zs b) ≡ list_choices f (oldest_of zs o.decided)
-        same (found l) [] = refl
-        same (found l) (z ∷ zs) = refl
-        same (damaged n) zs = refl
-
--- stages that read or sync decide nothing
-read_decides : (v : OpenChain) (t : Stage) (buf : Option Piece) → (posting_of (stage_with v t buf) t).job ≡ vic.Read → (stage_does t).1 ≡ false
-read_decides v stages.Load buf is = refl
-read_decides v stages.Draft buf is = absurd (cc (is))
-read_decides v stages.Mark buf is = absurd (cc (is))
-read_decides v stages.Header buf is = absurd (cc (is))
-read_decides v stages.Clear buf is = absurd (cc (is))
-read_decides v stages.Flush buf is = absurd (cc (is))
-
-sync_decides : (v : OpenChain) (t : Stage) (buf : Option Piece) → (posting_of (stage_with v t buf) t).job ≡ vic.Sync → (stage_does t).1 ≡ false
-sync_decides v stages.Load buf is = absurd (cc (is))
-sync_decides v stages.Draft buf is = absurd (cc (is))
-sync_decides v stages.Mark buf is = absurd (cc (is))
-sync_decides v stages.Header buf is = absurd (cc (is))
-sync_decides v stages.Clear buf is = absurd (cc (is))
-sync_decides v stages.Flush buf is = refl
-
--- the job of the one descriptor is a phase
-pub record OnePhase (q : OpenChain) (d : Descriptor) (js : List Job) : Type 0 where
-  pub phase_is : Phase
-  pub jobs : js ≡ phase phase_is ∷ []
-  pub its : IsPhaseOf q phase_is d
-
-one_phase : (x : Around) (q : OpenChain) (d : Descriptor) (js : List Job) → Each (IsJob x (Some q)) (d ∷ []) js → AllByRecursion IsPhaseJob js → OnePhase q d js
-one_phase x q d (phase p ∷ []) each all = record { phase_is = p; jobs = refl; its = each.0 }
-one_phase x q d (phase p ∷ j ∷ js) each all = absurd each.1
-one_phase x q d (transfer t ∷ js) each all = absurd all.0
-one_phase x q d (flush ∷ js) each all = absurd all.0
-one_phase x q d [] each all = absurd each
-
-same_outcome : (ok : Bool) → ending_of ok ≡ outcome_of ok
-same_outcome true = refl
-same_outcome false = refl
-=======
 use Rattle.ark_held.proofs.BothPut.{HasOpen, log_apart}
 use Rattle.ark_held.proofs.MoveRows.{ended_by, move_is, ends_is, gate_over, gate_waits, gate_opens, goes_on as goes_further, has_ended, last_is}
 use Rattle.ark_held.proofs.PhaseJobs.{OnePhase, one_phase, read_decides, same_lists, sync_decides}
 use Rattle.ark_held.proofs.PhaseMoves as phase_moved
+use Rattle.ark_held.proofs.Paces.{passed_both}
 use Rattle.ark_held.proofs.PhaseRows.{block_inside, log_on_is, same_log, written_is}
 use Rattle.ark_held.proofs.RunsOn as runs_on
-use Rattle.ark_held.proofs.Trying.{passed_both, same_outcome}
->>>>>>> refs/tmp/dev-main
+use Rattle.ark_held.proofs.Trying.{same_outcome}
 
 module _ (x : Around) (v : List ℕ) (c : Capability) (k : CardKept) (card : Vsic) (on : OnCard x v c k card) (told : Option History) (es : List Event) (a : Moved) (memory : Space) (cards : ℕ → Option CardKept) (doors : ℕ → Option Counts)
     (w : WasMoved x c.key k told es a memory cards doors) (is_told : told ≡ Some (after x.history es)) (size : ℕ) (sited : IsSited x size)
@@ -270,11 +192,7 @@ module _ (x : Around) (v : List ℕ) (c : Capability) (k : CardKept) (card : Vsi
 
   stays : (b : Piece) → Spares (λ j. object_covers j (Objects.log g) ≡ 1) b → bytes_of memory b ≡ bytes_of x.tables.memory b
   stays b spares = any_card.all_beside x.history blocks x.tables.memory (card_of k) q lies g o (blocks_held x.areas) x.now runs area memory es a has b
-<<<<<<< 1b65c12582ccc35513aa6387d24bb384b7998224
-      (spared x.history blocks x.tables.memory k.ring q lies g o runs (most_covered x s v on.holds both) b spares)
-=======
       (spared x.history blocks x.tables.memory k.ring q lies g o runs (λ j. subst (λ (z : Object). object_covers j z ≤ 1) both.object_log (most_covered x on.holds s both.held_log both.there_log j)) b spares)
->>>>>>> refs/tmp/dev-main
 
   -- What is due.
 
@@ -345,7 +263,7 @@ module _ (x : Around) (v : List ℕ) (c : Capability) (k : CardKept) (card : Vsi
       there = at_other m s v (Objects.log (log_with b)) (log_apart x s v on.holds both) ∙ on.there
 
       both_passed : Both (IsPaced x) (option_map (with_pass x.now) k.pace) (passed x.now 512 card.pace)
-      both_passed = passed_both x k.pace card.pace on.fits.pace may
+      both_passed = passed_both x 512 k.pace card.pace on.fits.pace may
 
       answer : a ≡ answer_tried (nat_le d.count (k.ring.moved + 1)) ok
       answer = answer_by x v c k card on told es a memory cards doors w (due.Block n) y ∙ ap (λ (z : Option Descriptor). answer_tried (nat_le (count_of z) (k.ring.moved + 1)) ok) first

@@ -33,13 +33,10 @@ use Rattle.ark_held.specs.Keeps.{SameAt}
 use Rattle.ark_held.specs.Ringing.{Sets, Rings}
 use Rattle.ark_held.proofs.BothMoved.{both_holds, door_now, moved}
 use Rattle.ark_held.proofs.Covering.{Spares}
-use Rattle.ark_held.proofs.Ending.{OnCard, StandsFor, each_last, its_jobs, rung_holds, uses_same}
+use Rattle.ark_held.proofs.Ending.{OnCard, StandsFor, each_last, its_jobs, uses_same}
 use Rattle.ark_held.proofs.Lists.{some_same}
-<<<<<<< 1b65c12582ccc35513aa6387d24bb384b7998224
-use Rattle.ark_held.proofs.Logged.{HasOpen}
-=======
 use Rattle.ark_held.proofs.BothPut.{HasOpen}
->>>>>>> refs/tmp/dev-main
+use Rattle.ark_held.proofs.Rung.{rung_holds}
 use Rattle.ark_held.proofs.RunsOn.{has_open}
 
 module _ (x : Around) (v : List ℕ) (c : Capability) (k : CardKept) (card : Vsic) (on : OnCard x v c k card) (s : List ℕ) (area : Capability) (held_log : Held) (g : Log) (log_label : value_at x.labels s ≡ Some area) (there_log : at x.machine s ≡ Some held_log) (object_log : held_log.object ≡ Objects.log g)
@@ -119,7 +116,7 @@ module _ (x : Around) (v : List ℕ) (c : Capability) (k : CardKept) (card : Vsi
       ends doors sets rings runs =
           rung_holds (moved x s v on.holds both (log_with b) ended_card opens used covered history base beside memory taken bytes k ended_kept on.was cards sets only)
           (both_holds x s v on.holds both (log_with b) ended_card opens used covered history base beside memory taken bytes k ended_kept on.was cards sets only q (record o { decided = b }) lies fits log grant bound on_v refl refl runs)
-          doors k.door card.door
+          doors bell.Io k.door card.door
           (door_now x s v on.holds both (log_with b) ended_card opens used covered history base beside memory taken bytes k ended_kept on.was cards sets only q (record o { decided = b }) lies fits log grant bound on_v refl refl runs)
           rings
         where

@@ -21,11 +21,7 @@ use Rattle.ark_held.proofs.Changing.{put_at}
 use Rattle.ark_held.proofs.Covering.{two_total, found_in}
 use Rattle.ark_held.proofs.Finding.{found_there}
 use Rattle.ark_held.proofs.Lists.{by_test, name_same, same_name, some_same}
-<<<<<<< 1b65c12582ccc35513aa6387d24bb384b7998224
-use Rattle.ark_held.proofs.Logged.{HasOpen}
-=======
 use Rattle.ark_held.proofs.BothPut.{HasOpen}
->>>>>>> refs/tmp/dev-main
 use Rattle.ark_held.proofs.Members.{In, get_has}
 
 -- a block that is due is one of the area's

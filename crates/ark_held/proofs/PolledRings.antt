@@ -205,7 +205,6 @@ module _ (taken : List Bool) where
     polled_kept (inr (inl begun)) = goes_kept old new result right begun.some (whole_by begun.posted begun.unreaped) lies sound begun.posted begun.unreaped (stage_of old.chain) refl begun.goes
     polled_kept (inr (inr e)) = elim e.ends [
       | inl well ↦
-<<<<<<< 1b65c12582ccc35513aa6387d24bb384b7998224
           let its = ring.unreaped e.ending e.first in
           let buf = e.ending.buf in
           goes_kept (record old { chain = ended old.chain buf; ring = reaped old.ring }) new result (right_ended old.chain buf right its) (some_ended old.chain buf right its)
@@ -218,20 +217,6 @@ module _ (taken : List Bool) where
             lies = lies_failed old.chain buf right its;
             sound = sound_reaped taken old.ring (reaped old.ring) refl sound;
           })
-=======
-        let its = ring.unreaped e.ending e.first in
-        let buf = e.ending.buf in
-        goes_kept (record old { chain = ended old.chain buf; ring = reaped old.ring }) new result (right_ended old.chain buf right its) (some_ended old.chain buf right its)
-        (ended_whole old.chain taken buf its.ends) (ended_lies old.chain taken buf its.ends) (sound_reaped taken old.ring (reaped old.ring) refl sound) e.posted (left e.ending e.first) (stage_of (ended old.chain buf)) refl well.goes
-      | inr badly ↦
-        let its = ring.unreaped e.ending e.first in
-        let buf = e.ending.buf in
-        subst (λ (x : Around). IsKept taken x.chain x.ring) (sym badly.failed) (record {
-          ring = free_ring taken (failed_with old.chain buf) (reaped old.ring) e.posted (left e.ending e.first) (whole_failed old.chain buf right its);
-          lies = lies_failed old.chain buf right its;
-          sound = sound_reaped taken old.ring (reaped old.ring) refl sound;
-        })
->>>>>>> refs/tmp/dev-main
     ]
 
     pub polled_short : HasPolled old new result → IsShortIfAcked result
@@ -239,17 +224,10 @@ module _ (taken : List Bool) where
     polled_short (inr (inl begun)) = goes_short old new result right begun.some (whole_by begun.posted begun.unreaped) lies sound begun.posted begun.unreaped (stage_of old.chain) begun.goes
     polled_short (inr (inr e)) = elim e.ends [
       | inl well ↦
-<<<<<<< 1b65c12582ccc35513aa6387d24bb384b7998224
           let its = ring.unreaped e.ending e.first in
           let buf = e.ending.buf in
           goes_short (record old { chain = ended old.chain buf; ring = reaped old.ring }) new result (right_ended old.chain buf right its) (some_ended old.chain buf right its)
           (ended_whole old.chain taken buf its.ends) (ended_lies old.chain taken buf its.ends) (sound_reaped taken old.ring (reaped old.ring) refl sound) e.posted (left e.ending e.first) (stage_of (ended old.chain buf)) well.goes
-=======
-        let its = ring.unreaped e.ending e.first in
-        let buf = e.ending.buf in
-        goes_short (record old { chain = ended old.chain buf; ring = reaped old.ring }) new result (right_ended old.chain buf right its) (some_ended old.chain buf right its)
-        (ended_whole old.chain taken buf its.ends) (ended_lies old.chain taken buf its.ends) (sound_reaped taken old.ring (reaped old.ring) refl sound) e.posted (left e.ending e.first) (stage_of (ended old.chain buf)) well.goes
->>>>>>> refs/tmp/dev-main
       | inr badly ↦ subst IsShortIfAcked (sym badly.answer) tt
     ]
 
@@ -258,17 +236,10 @@ module _ (taken : List Bool) where
     polled_long is (inr (inl begun)) = goes_long old new result right begun.some (whole_by begun.posted begun.unreaped) lies sound begun.posted begun.unreaped is (stage_of old.chain) refl begun.goes
     polled_long is (inr (inr e)) = elim e.ends [
       | inl well ↦
-<<<<<<< 1b65c12582ccc35513aa6387d24bb384b7998224
           let its = ring.unreaped e.ending e.first in
           let buf = e.ending.buf in
           goes_long (record old { chain = ended old.chain buf; ring = reaped old.ring }) new result (right_ended old.chain buf right its) (some_ended old.chain buf right its)
           (ended_whole old.chain taken buf its.ends) (ended_lies old.chain taken buf its.ends) (sound_reaped taken old.ring (reaped old.ring) refl sound) e.posted (left e.ending e.first) is (stage_of (ended old.chain buf)) refl well.goes
-=======
-        let its = ring.unreaped e.ending e.first in
-        let buf = e.ending.buf in
-        goes_long (record old { chain = ended old.chain buf; ring = reaped old.ring }) new result (right_ended old.chain buf right its) (some_ended old.chain buf right its)
-        (ended_whole old.chain taken buf its.ends) (ended_lies old.chain taken buf its.ends) (sound_reaped taken old.ring (reaped old.ring) refl sound) e.posted (left e.ending e.first) is (stage_of (ended old.chain buf)) refl well.goes
->>>>>>> refs/tmp/dev-main
       | inr badly ↦ ap (λ (x : Around). length x.space.taken) badly.failed
     ]
 

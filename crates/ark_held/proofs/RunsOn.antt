@@ -21,11 +21,7 @@ use Rattle.ark_held.proofs.Dues.{blocks_found}
 use Rattle.ark_held.proofs.Ending.{OnCard}
 use Rattle.ark_held.proofs.Finding.{stands_at}
 use Rattle.ark_held.proofs.Lists.{some_same}
-<<<<<<< 1b65c12582ccc35513aa6387d24bb384b7998224
-use Rattle.ark_held.proofs.Logged.{HasOpen}
-=======
 use Rattle.ark_held.proofs.BothPut.{HasOpen}
->>>>>>> refs/tmp/dev-main
 use Rattle.ark_held.proofs.OpenCards.{OpenOn, the_open}
 
 module _ (x : Around) (h : Holds x) where

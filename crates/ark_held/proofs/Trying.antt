@@ -1,7 +1,6 @@
 -- A block that a card tried, or a sync: the device, then the card, and then its door.
-use Rattle.std.proofs.Common.{◌≡◌, ℕ, ◌+◌, ◌≤◌, Bool, true, false, not, ◌&&◌, nat_le, nat_lt, List, ◌∷◌, refl, sym, ◌∙◌, ap, subst, arith}
+use Rattle.std.proofs.Common.{◌≡◌, ℕ, ◌+◌, Bool, true, false, not, ◌&&◌, nat_le, nat_lt, List, ◌∷◌, refl, sym, ◌∙◌, ap, subst}
 use Rattle.std.specs.Prelude.{if◌then◌else◌, Option, Some, None, option_map}
-use Rattle.std.proofs.lemmas.Bool.Decides.{nat_tests}
 use Rattle.ark_base.specs.declared.kind.Outcome.{Outcome}
 use Rattle.ark_media.specs.Journal.{Event}
 use Rattle.ark_media.specs.Standing.{after}
@@ -9,8 +8,6 @@ use Rattle.ark_region.specs.Frames.{Space}
 use Rattle.ark_caps.specs.declared.capability.Capability.{Capability}
 use Rattle.ark_script.specs.declared.said.Said.{Said}
 use Rattle.ark_script.specs.declared.said.Said.TheVariants as said
-use Rattle.ark_vic.specs.Pace.{fill_of}
-use Rattle.ark_vic.proofs.PaceLemmas.{passed_law}
 use Rattle.ark_vic.specs.Queue.{Queue, finished}
 use Rattle.ark_vic.specs.declared.descriptor.Descriptor.{Descriptor}
 use Rattle.ark_vic.specs.declared.door.Counts.{Counts}
@@ -29,33 +26,14 @@ use Rattle.ark_held.specs.Kept.{CardKept, PaceKept}
 use Rattle.ark_held.specs.Held.{Holds}
 use Rattle.ark_held.specs.Moving.{with_pass, said_of}
 use Rattle.ark_held.specs.Ringing.{Sets, Rings, RingsAt}
-use Rattle.ark_held.proofs.Dues.{fill_same}
 use Rattle.ark_held.proofs.Ending.{OnCard, on_card, moves_on, ends_so}
 use Rattle.ark_held.proofs.Carrying.{carried}
 use Rattle.ark_held.proofs.MoveRows.{ended_by, goes_on, has_ended, last_is}
+use Rattle.ark_held.proofs.Paces.{passed_both}
 
 pub same_outcome : (ok : Bool) → ending_of ok ≡ outcome_of ok
 same_outcome true = refl
 same_outcome false = refl
-
--- the passes with one more, which may go
-pub passed_both : (x : Around) (k : Option PaceKept) (p : Option Paced) → Both (IsPaced x) k p → may_pass p x.now 512 ≡ true → Both (IsPaced x) (option_map (with_pass x.now) k) (passed x.now 512 p)
-passed_both x None None both may = tt
-passed_both x (Some k) (Some p) both may =
-    let fill = fill_same x k p both in
-    let room : fill_of p.q p.passes x.now + 512 ≤ p.burst = le_of (fill_of p.q p.passes x.now + 512) p.burst may in
-    let burst = both.burst in record {
-      rate = both.rate;
-      per_tick = both.per_tick;
-      burst = both.burst;
-      past = omega arith;
-      passes = passed_law k.pace p.passes 512 x.now both.passes both.past (omega (arith, fill, room, burst));
-    }
-  where
-    le_of : (a b : ℕ) → nat_le a b ≡ true → a ≤ b
-    le_of a b h = grind (arith, nat_tests)
-passed_both x None (Some p) both may = absurd both
-passed_both x (Some k) None both may = absurd both
 
 -- what is around the application after the device call alone
 abbrev pub called : Around → List Event → Machine → Space → Around
@@ -97,7 +75,7 @@ module _ (x : Around) (v : List ℕ) (c : Capability) (k : CardKept) (card : Vsi
         ap (λ n. ok && nat_lt (n + 1) count) on.fits.moved ∙ ap (λ n. ok && nat_lt (k.ring.moved + 1) n) counted ∙ last_is k.ring.moved d.count ok
 
     paced : Both (IsPaced z) (option_map (with_pass x.now) k.pace) (passed x.now 512 card.pace)
-    paced = passed_both z k.pace card.pace then_on.fits.pace may
+    paced = passed_both z 512 k.pace card.pace then_on.fits.pace may
 
     by_more : (b : Bool) → more ≡ b → Tries x (tried x.now ok count m v card j js calls) es calls a memory cards doors
     by_more true is =

@@ -1,4 +1,5 @@
 -- The network cards of an application, by key.
+use Rattle.std.specs.List.{AllByRecursion}
 use Rattle.std.specs.Prelude.{◌≡◌, ◌<◌, ◌==◌, ◌&&◌, ℕ, Bool, true, List, [], ◌∷◌, ◌++◌, length, drop, Option, Some, None, option_map}
 use Rattle.ark_objects.specs.Held.{at, Changes}
 use Rattle.ark_filters.specs.declared.filter.Direction.{Direction}
@@ -6,7 +7,10 @@ use Rattle.ark_filters.specs.declared.filter.Direction.TheVariants as direction
 use Rattle.ark_vic.specs.Pace.{Pace}
 use Rattle.ark_vic.specs.Queue.{Queue, members}
 use Rattle.ark_vic.specs.declared.descriptor.Descriptor.{Descriptor}
+use Rattle.ark_vnic.specs.Arrivals.{HasBuffer, after_arrival}
 use Rattle.ark_vnic.specs.Card.{NetCard}
+use Rattle.ark_vnic.specs.Sending.{HasFrame}
+use Rattle.ark_vnic.specs.declared.arrived.Arrived.{Arrived}
 use Rattle.ark_held.specs.Kept.{NetKept, PaceKept}
 use Rattle.ark_held.specs.declared.network_card.NetSide.{NetSide}
 use Rattle.ark_held.specs.declared.network_card.NetworkCard.{NetworkCard}
@@ -37,6 +41,15 @@ is_empty q = (length q.posted == 0) && (length q.unreaped == 0)
 -- the transmit ring of each card is empty
 abbrev pub AreQuiet : List (Option NetworkCard) → Type 0
 AreQuiet nets = (key : ℕ) (c : NetworkCard) → at nets key ≡ Some c → is_empty c.vnic.tx ≡ true
+
+-- In a memory of so many frames each descriptor that receives has a buffer, and each that sends has its frame in one.
+pub record IsSoundNet (frames : ℕ) (v : NetCard) : Type 0 where
+  pub rx : (taken : List Bool) → length taken ≡ frames → AllByRecursion (HasBuffer taken) v.rx.posted
+  pub tx : (taken : List Bool) → length taken ≡ frames → AllByRecursion (HasFrame taken) v.tx.posted
+
+-- so does each card
+abbrev pub AreSoundNets : ℕ → List (Option NetworkCard) → Type 0
+AreSoundNets frames nets = (key : ℕ) (c : NetworkCard) → at nets key ≡ Some c → IsSoundNet frames c.vnic
 
 abbrev pub free_side : NetSide
 free_side = record { rate = 0; door = None }
@@ -82,3 +95,7 @@ with_door direction.Tx door c = record c { tx = record c.tx { door = door } }
 abbrev pub with_pace : Direction → ℕ → Option Pace → NetworkCard → NetworkCard
 with_pace direction.Rx rate pace c = record c { vnic = record c.vnic { rx_pace = pace }; rx = record c.rx { rate = rate } }
 with_pace direction.Tx rate pace c = record c { vnic = record c.vnic { tx_pace = pace }; tx = record c.tx { rate = rate } }
+
+-- a frame of so many bytes came at a tick, of which this became
+abbrev pub with_arrival : Arrived → ℕ → ℕ → NetworkCard → NetworkCard
+with_arrival x len now c = record c { vnic = after_arrival c.vnic x len now }

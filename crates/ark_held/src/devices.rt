@@ -43,11 +43,12 @@ impl Devices {
         ensures rates { IfOk result (λ d. held d.rates ≡ 0) }
         ensures nets { IfOk result (λ d. held d.nets.cards ≡ 0) }
         ensures frames { IfOk result (λ d. d.frames ≡ frames) }
+        ensures net_frames { IfOk result (λ d. d.nets.frames ≡ frames) }
     {
         let cards = Objects::new(alloc)?;
         let doors = Objects::new(alloc)?;
         let rates = Objects::new(alloc)?;
-        let nets = Nets::new(alloc)?;
+        let nets = Nets::new(alloc, frames)?;
         Ok(Devices {
             cards,
             doors,

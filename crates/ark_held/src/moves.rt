@@ -7,7 +7,7 @@ ghost use Rattle.ark_vsic.specs.Card.{head_of};
 ghost use Rattle.ark_vsic.specs.Moves.{CanMove, Leaves, answer_of, calls_of, due_of, pace_after, ring_after, worked};
 ghost use Rattle.ark_held.specs.Inside.{AreasInside};
 ghost use Rattle.ark_held.specs.Moving.{area_named, blocks_held, vsic_moved};
-ghost use Rattle.ark_held.specs.Ringing.{IsWatching, Rings, RingsAt};
+ghost use Rattle.ark_held.specs.Ringing.{IsWatching, RingsAt, RingsBell};
 ghost use Rattle.ark_held.specs.declared.card.StorageCard.{StorageCard};
 
 use crate::areas::Areas;
@@ -63,10 +63,10 @@ fn move_vsic<D: Disk>(
 }
 
 impl Devices {
-    // The bell of a card rings at the door that watches it.
-    fn ring(&mut self, door: Option<u32>)
+    // A bell rings at the door that watches.
+    pub(crate) fn ring(&mut self, door: Option<u32>, bell: Bell)
         ensures rings { IsWatching door (at self.old.doors) →
-            Rings door (at self.old.doors) (at self.new.doors) }
+            RingsBell bell door (at self.old.doors) (at self.new.doors) }
         ensures held { held self.new.doors ≡ held self.old.doors }
         ensures cards { self.new.cards ≡ self.old.cards }
         ensures rates { self.new.rates ≡ self.old.rates }
@@ -78,7 +78,7 @@ impl Devices {
         };
         // A card is watched by a door that is there.
         if self.doors.at(key).is_some() {
-            self.doors.at_mut(key).ring(Bell::Io);
+            self.doors.at_mut(key).ring(bell);
         }
     }
 
@@ -126,7 +126,7 @@ impl Devices {
         let door = card.door;
         let moved = move_vsic(&mut card.vsic, areas, region, disk, now);
         if let Moved::Done(_) = moved {
-            self.ring(door);
+            self.ring(door, Bell::Io);
         }
         moved
     }

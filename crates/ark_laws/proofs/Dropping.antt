@@ -31,7 +31,7 @@ use Rattle.ark_laws.proofs.Agreeing.{flip, same_option, is_this, assigned_owner,
 
 -- What the object under a label lets go of a card.
 
-abbrev free_card : List ℕ → Option (List ℕ) → Option (List ℕ)
+abbrev pub free_card : List ℕ → Option (List ℕ) → Option (List ℕ)
 free_card x None = None
 free_card x (Some v) = cond (bytes_eq x v) None (Some v)
 

@@ -17,6 +17,7 @@ pub mod Growing
 pub mod Keeping
 pub mod Labelled
 pub mod Labels
+pub mod Lasting
 pub mod Leading
 pub mod Leaving
 pub mod Letting

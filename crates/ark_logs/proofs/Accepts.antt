@@ -107,22 +107,9 @@ module _ (r : Beyond) (app : App) (s : List ℕ) (a : OpenAt) (h : Holds (around
       let was = h.taken j in
       omega (arith, own, its, was)
 
-  -- a piece none of whose frames it has is apart from all that it has
-  pub own_apart : (b : Piece) → ((j : ℕ) → Covers b j → object_covers j (Objects.log f.both.log) ≡ 0) → AllByRecursion (Apart b) (pieces_of f.chain)
-  own_apart b clear =
-      let parts : (j : ℕ) → Covers b j → bit (covers j (f.opened.header_frame, 1)) + count j (rooms f.opened.waiting) ≡ 0 = λ j has. sym (ap (count j) its_frames) ∙ clear j has in (
-        one_apart b (record { start = f.chain.header_at; len = 512 }) 1 refl
-            (λ j has. subst (λ n. bit (covers j (n, 1)) ≡ 0) (sym f.runs.is.header) (let none = parts j has in omega (arith, none))),
-        rooms_apart b f.chain.waiting f.opened.waiting f.runs.is.rooms (λ j has. let none = parts j has in omega (arith, none)),
-      )
-
   -- a new buffer is apart from all that it has
   pub new_apart : (b : Piece) → ((j : ℕ) → Covers b j → taken_at j ≡ 0) → AllByRecursion (Apart b) (pieces_of f.chain)
-<<<<<<< 1b65c12582ccc35513aa6387d24bb384b7998224
-  new_apart b free = own_apart b (λ j has. ap (count j) its_frames ∙ (let own = its_count j in let none = free j has in omega (arith, own, none)))
-=======
   new_apart b free = own_apart r.history f.both.log_fits.slot.blocks app.store.region f.one.vsic.ring f.chain f.lies f.both.log f.opened f.runs b (λ j has. ap (count j) frames_are ∙ (let own = its_count j in let none = free j has in omega (arith, own, none)))
->>>>>>> refs/tmp/dev-main
 
   module _ (app1 : App) (w : OpenChain) (c : log.Waiting) (behind : Waiting) (touched : ℕ → Type 0) (reaches : Reaches r app app1 s r.history touched) (changes : GoesOnAs app.devices.cards app1.devices.cards a.key f.one w)
       (grant : w.grant ≡ f.chain.grant) (waiting : w.waiting ≡ f.chain.waiting ++ behind ∷ []) (done : w.done ≡ f.chain.done)

@@ -43,11 +43,7 @@ use Rattle.ark_held.specs.declared.app.App.{App}
 use Rattle.ark_held.proofs.Covering.{found_in, in_total}
 use Rattle.ark_held.proofs.Placing.{total_append}
 use Rattle.ark_logs.specs.declared.finding.OpenAt.{OpenAt}
-<<<<<<< 1b65c12582ccc35513aa6387d24bb384b7998224
-use Rattle.ark_logs.proofs.Accepts.{count, rooms}
-=======
 use Rattle.ark_held.proofs.LogFrames.{count, rooms}
->>>>>>> refs/tmp/dev-main
 use Rattle.ark_logs.proofs.Closes.{command_back}
 use Rattle.ark_logs.proofs.OfLogs.{FoundOpen}
 use Rattle.ark_logs.proofs.PolledCases as cases

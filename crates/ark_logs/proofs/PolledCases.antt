@@ -1,9 +1,5 @@
 -- What labels stand for once a log was polled.
-<<<<<<< 1b65c12582ccc35513aa6387d24bb384b7998224
-use Rattle.std.proofs.Common.{◌≡◌, inl, inr, ℕ, zero, suc, ◌<◌, ◌≤◌, Bool, true, false, List, [], ◌∷◌, length, refl, sym, ◌∙◌, ap, subst, arith}
-=======
 use Rattle.std.proofs.Common.{◌≡◌, inl, inr, ℕ, ◌<◌, ◌≤◌, Bool, false, List, [], ◌∷◌, length, refl, sym, ◌∙◌, ap, subst, arith}
->>>>>>> refs/tmp/dev-main
 use Rattle.std.specs.Prelude.{Option, Some, slice_get, slice_index_or}
 use Rattle.std.specs.List.{AllByRecursion}
 use Rattle.ark_base.specs.declared.kind.Outcome.{Outcome}
@@ -36,17 +32,10 @@ use Rattle.ark_held.specs.Polling.{HasPolledOn}
 use Rattle.ark_held.specs.Beyond.{Beyond, around}
 use Rattle.ark_held.specs.declared.app.App.{App}
 use Rattle.ark_held.proofs.Besides.{same_history}
-<<<<<<< 1b65c12582ccc35513aa6387d24bb384b7998224
-use Rattle.ark_held.proofs.Covering.{Spares, found_in, in_total}
-use Rattle.ark_held.proofs.Logged.{IsItsFrame, Reaches}
-use Rattle.ark_logs.specs.declared.finding.OpenAt.{OpenAt}
-use Rattle.ark_logs.proofs.Accepts.{own_apart}
-=======
 use Rattle.ark_held.proofs.Covering.{Spares, most_covered}
 use Rattle.ark_held.proofs.LogFrames.{spared}
 use Rattle.ark_held.proofs.Logged.{IsItsFrame, Reaches}
 use Rattle.ark_logs.specs.declared.finding.OpenAt.{OpenAt}
->>>>>>> refs/tmp/dev-main
 use Rattle.ark_logs.proofs.OfLogs.{FoundOpen}
 use Rattle.ark_logs.proofs.PolledHolds.{goes_on_holds, taken_at}
 
@@ -103,22 +92,6 @@ each_ended x y v (u ∷ us) ((flush, o) ∷ es) all each = absurd all.0
 each_ended x y v [] (e ∷ es) all each = absurd each
 each_ended x y v (u ∷ us) [] all each = absurd each
 
-<<<<<<< 1b65c12582ccc35513aa6387d24bb384b7998224
-apart_turned : (p : Piece) (bs : List Piece) → AllByRecursion (Apart p) bs → AllByRecursion (λ b. Apart b p) bs
-apart_turned p [] all = tt
-apart_turned p (b ∷ bs) all = ((λ j in_b in_p. all.0 j in_p in_b), apart_turned p bs all.1)
-
-bit_below : (b : Bool) → bit b ≤ 1
-bit_below true = omega arith
-bit_below false = omega arith
-
-none_of : (n : ℕ) → n ≤ 1 → (n ≡ 1 → ⊥) → n ≡ 0
-none_of zero le not = refl
-none_of (suc zero) le not = absurd (not refl)
-none_of (suc (suc n)) le not = absurd (omega (arith, le))
-
-=======
->>>>>>> refs/tmp/dev-main
 module _ (r : Beyond) (app : App) (s : List ℕ) (a : OpenAt) (h : Holds (around r app)) (f : FoundOpen (around r app) app.devices.cards s a) where
   abbrev x : Around
   x = around r app
@@ -130,20 +103,8 @@ module _ (r : Beyond) (app : App) (s : List ℕ) (a : OpenAt) (h : Holds (around
   pub own_frames : (j : ℕ) → touched j → IsItsFrame app f.both.log j
   own_frames j one = inr one
 
-<<<<<<< 1b65c12582ccc35513aa6387d24bb384b7998224
-  spared : (p : Piece) → Spares touched p → AllByRecursion (λ b. Apart b p) (pieces_of f.chain)
-  spared p spares = apart_turned p (pieces_of f.chain) (own_apart r app s a h f p (λ j has.
-      none_of (object_covers j (Objects.log f.both.log))
-      (let own = in_total (λ g. object_covers j g.object) r.machine.held f.both.held_log (found_in s r.machine.held f.both.held_log f.both.there_log).0 in
-      let its : object_covers j f.both.held_log.object ≡ object_covers j (Objects.log f.both.log) = ap (object_covers j) f.both.object_log in
-      let was = h.taken j in
-      let most = bit_below (slice_index_or app.store.region.taken j false) in
-      omega (arith, own, its, was, most))
-      (λ one. spares j one has)))
-=======
   apart : (p : Piece) → Spares touched p → AllByRecursion (λ b. Apart b p) (pieces_of f.chain)
   apart p spares = spared r.history f.both.log_fits.slot.blocks app.store.region f.one.vsic.ring f.chain f.lies f.both.log f.opened f.runs (λ j. subst (λ (z : Object). object_covers j z ≤ 1) f.both.object_log (most_covered x h s f.both.held_log f.both.there_log j)) p spares
->>>>>>> refs/tmp/dev-main
 
   -- where its frames stay
   same_covers : (o1 : Opened) (log1 : Log) → log1.opened ≡ Some o1 → o1.header_frame ≡ f.opened.header_frame → o1.waiting ≡ f.opened.waiting → (j : ℕ) → object_covers j (Objects.log log1) ≡ object_covers j (Objects.log f.both.log)
@@ -175,11 +136,7 @@ module _ (r : Beyond) (app : App) (s : List ℕ) (a : OpenAt) (h : Holds (around
       base = refl;
       beside = λ l t is there. same_history r.history t.blocks;
       frames = frames;
-<<<<<<< 1b65c12582ccc35513aa6387d24bb384b7998224
-      bytes = λ p spares. leaves.beside p (spared p spares);
-=======
       bytes = λ p spares. leaves.beside p (apart p spares);
->>>>>>> refs/tmp/dev-main
     }
 
     -- The descriptor of a phase is posted, and nothing else is in the ring.

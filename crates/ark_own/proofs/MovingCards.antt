@@ -90,7 +90,8 @@ module _ (r : Beyond) (app : App) (holds : Holds (around r app)) where
   door_of l c (Objects.buffer z) f kind = absurd (cc (kind, f.its_kind))
   door_of l c (Objects.socket z) f kind = absurd (cc (kind, f.its_kind))
 
-  watching : (key : Option ℕ) (door : Option (List ℕ)) → Both (IsWatched (around r app)) key door → IsWatching key (slot app.devices.doors)
+  -- a door that watches is there
+  pub watching : (key : Option ℕ) (door : Option (List ℕ)) → Both (IsWatched (around r app)) key door → IsWatching key (slot app.devices.doors)
   watching None None both = tt
   watching (Some key) (Some l) both =
       let s = stands_at (around r app) l both.cap holds both.there in
@@ -100,10 +101,10 @@ module _ (r : Beyond) (app : App) (holds : Holds (around r app)) where
 
 -- A card as a table keeps it.
 
-abbrev as_kept : ℕ → Pace → PaceKept
+abbrev pub as_kept : ℕ → Pace → PaceKept
 as_kept rate p = record { rate = rate; pace = p }
 
-pace_back : (rate : ℕ) (p : Option Pace) → option_map (λ k. k.pace) (option_map (as_kept rate) p) ≡ p
+pub pace_back : (rate : ℕ) (p : Option Pace) → option_map (λ k. k.pace) (option_map (as_kept rate) p) ≡ p
 pace_back rate None = refl
 pace_back rate (Some p) = refl
 

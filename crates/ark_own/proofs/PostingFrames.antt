@@ -1,11 +1,13 @@
 -- The row of `post`: a buffer is posted to receive.
-use Rattle.std.proofs.Common.{◌≡◌, ℕ, ◌<◌, ◌≤◌, Bool, true, false, List, [], ◌∷◌, refl, sym, ◌∙◌, ap, subst}
-use Rattle.std.specs.Prelude.{Some, None, Result, Ok, Err, ◌||◌, is_none, is_some, option_map}
+use Rattle.std.proofs.Common.{◌≡◌, ℕ, ◌+◌, ◌<◌, ◌≤◌, Bool, true, false, List, [], ◌∷◌, refl, sym, ◌∙◌, ap, subst}
+use Rattle.std.specs.Prelude.{Some, None, Result, Ok, Err, ◌||◌, is_none, is_some, length, option_map}
 use Rattle.ark_base.specs.declared.refusal.Refusal.{Refusal}
 use Rattle.ark_base.specs.declared.refusal.Refusal.TheVariants as r
 use Rattle.ark_caps.specs.Labels.{value_at}
 use Rattle.ark_media.specs.Calls.{Told}
 use Rattle.ark_objects.specs.Held.{at as slot, Changes}
+use Rattle.ark_region.specs.Frames.{Piece, LiesInRegion, frames_of}
+use Rattle.ark_vnic.specs.Arrivals.{HasBuffer as InMemory}
 use Rattle.ark_script.specs.declared.said.Said.TheVariants as said
 use Rattle.ark_vic.specs.Queue.{members}
 use Rattle.ark_vic.specs.declared.descriptor.Descriptor.{Descriptor}
@@ -41,6 +43,10 @@ use Rattle.ark_own.proofs.OfBuffers.{found_buffer}
 use Rattle.ark_own.proofs.OfNets as nets
 use Rattle.ark_own.proofs.OfNets.{HasNet, found_net, net_looked, not_socketed, full_same}
 use Rattle.ark_own.proofs.Transferring.{buffer_looked}
+
+-- a descriptor whose buffer lies in the memory
+pub has_place : (taken frames : List Bool) (d : Descriptor) (p : Piece) → d.buf ≡ Some p → LiesInRegion frames p → length taken ≡ length frames → InMemory taken d
+has_place taken frames d p buf lies long = rw buf (subst (λ n. p.start + frames_of p.len ≤ n) (sym long) lies)
 
 module _ (v b : List ℕ) (t : Told) (app : App) where
   abbrev its_labels : List (List ℕ)

@@ -1,5 +1,5 @@
 -- The row of `reap`: the oldest completion goes, and what it had comes back.
-use Rattle.std.proofs.Common.{◌≡◌, ℕ, zero, suc, Bool, true, false, cond, List, [], ◌∷◌, drop, refl, sym, ◌∙◌, ap, subst, arith, bytes_eq}
+use Rattle.std.proofs.Common.{◌≡◌, ℕ, Bool, true, false, List, [], ◌∷◌, drop, refl, sym, ◌∙◌, ap, subst, arith}
 use Rattle.std.specs.Prelude.{Option, Some, None, Ok, if◌then◌else◌, is_some, option_map, slice_get}
 use Rattle.std.proofs.lemmas.Bool.{false≢true}
 use Rattle.ark_base.specs.declared.kind.Outcome.{Outcome}
@@ -8,7 +8,6 @@ use Rattle.ark_script.specs.declared.said.Said.{Said}
 use Rattle.ark_script.specs.declared.said.Said.TheVariants as said
 use Rattle.ark_objects.specs.Held.{at as slot, Changes}
 use Rattle.ark_caps.specs.Labels.{value_at}
-use Rattle.ark_caps.specs.declared.capability.Capability.{Capability}
 use Rattle.ark_caps.specs.declared.capability.CapKind.TheVariants as cap_kind
 use Rattle.ark_region.specs.Frames.{Piece}
 use Rattle.ark_vic.specs.declared.descriptor.Completion.{Completion}
@@ -30,7 +29,7 @@ use Rattle.ark_held.specs.Pacing.{rate_kept}
 use Rattle.ark_held.specs.Nets.{net_kept}
 use Rattle.ark_held.specs.Around.{Around, Names, Each}
 use Rattle.ark_held.specs.Cards.{HasBuffer, IsCard, IsEnded}
-use Rattle.ark_held.specs.Held.{AreDistinctLabels, Holds, has_key}
+use Rattle.ark_held.specs.Held.{Holds, has_key}
 use Rattle.ark_held.specs.Beyond.{Beyond, around, tables_of}
 use Rattle.ark_held.specs.Does.{Acts}
 use Rattle.ark_held.specs.declared.allowance.Allowance.{Allowance}
@@ -39,7 +38,7 @@ use Rattle.ark_held.specs.declared.nets.Nets.{Nets}
 use Rattle.ark_held.specs.declared.store.Store.{Store}
 use Rattle.ark_held.specs.declared.buffer.Buffer as kept
 use Rattle.ark_held.specs.declared.card.StorageCard.{StorageCard}
-use Rattle.ark_held.proofs.Lists.{by_test, not_some, some_same, same_name, value_behind, value_first, none_of}
+use Rattle.ark_held.proofs.Lists.{not_some, some_same, none_of}
 use Rattle.ark_held.proofs.ByKind.{buffer_of}
 use Rattle.ark_held.proofs.Devising.{with_devices}
 use Rattle.ark_held.proofs.Doing.{comes, never}
@@ -53,20 +52,7 @@ use Rattle.ark_own.specs.Keys.{IsLabelOf, card_key}
 use Rattle.ark_own.specs.Transfers.{said_of}
 use Rattle.ark_own.proofs.OfCards.{HasCard, its, posted_now, unreaped_now, bound_now, pace_now, door_now, size_now, moved_now, opens_now, entry_same, now, card_keeps, card_opens, kept_now, card_altered, done}
 use Rattle.ark_log.specs.Open.{OpenChain}
-
--- Labels by their places.
-
-value_here : (ps : Labels) (i : ℕ) (p : List ℕ × Capability) → AreDistinctLabels ps → slice_get ps i ≡ Some p → value_at ps p.0 ≡ Some p.1
-value_here [] zero p apart is = absurd (not_some None p refl is)
-value_here [] (suc i) p apart is = absurd (not_some None p refl is)
-value_here (q ∷ qs) zero p apart is = subst (λ (z : List ℕ × Capability). value_at (q ∷ qs) z.0 ≡ Some z.1) (some_same (Some q) q p refl is) (value_first q qs)
-value_here (q ∷ qs) (suc i) p apart is = value_behind q qs p.0 p.1 apart (value_here qs i p apart.1 is)
-
-place_of : (ps : Labels) (l : List ℕ) (c : Capability) → value_at ps l ≡ Some c → (i : ℕ) × (slice_get ps i ≡ Some (l, c))
-place_of [] l c is = absurd (not_some None c refl is)
-place_of (p ∷ ps) l c is = by_test (λ t. bytes_eq l p.0 ≡ t → cond t (Some p.1) (value_at ps l) ≡ Some c → (i : ℕ) × (slice_get (p ∷ ps) i ≡ Some (l, c))) (bytes_eq l p.0)
-    (λ yes q e. (0, ap (λ (k : List ℕ). Some (k, p.1)) (sym (same_name l p.0 q)) ∙ ap (λ (d : Capability). Some (l, d)) (some_same (Some p.1) p.1 c refl e)))
-    (λ no q e. let rest = place_of ps l c e in (suc rest.0, rest.1)) refl is
+use Rattle.ark_own.proofs.Places.{place_of, value_here}
 
 module _ (x : Around) (h : Holds x) (b : List ℕ) (key : ℕ) (n : Names x b cap_kind.Buf key) where
   -- the label of a buffer's key is the one that names it

@@ -1,5 +1,5 @@
 ghost use Rattle.std.specs.Prelude.{◌≡◌, ℕ, IfSome, IfNone, List};
-ghost use Rattle.ark_own.specs.Keys.{IsLabelOf, both_keys, buffer_key, cap_at, card_key, door_given, door_key, net_key, rate_given, rate_key, raw_area};
+ghost use Rattle.ark_own.specs.Keys.{IsLabelOf, IsNetOf, both_keys, buffer_key, cap_at, card_key, door_given, door_key, net_key, rate_given, rate_key, raw_area};
 
 use ark_base::{Kind, Label, Refusal};
 use ark_caps::{CapKind, CapTable, Capability};
@@ -44,6 +44,22 @@ pub fn label_of_buffer(labels: &CapTable, key: u32) -> Option<Label>
         if let Some((label, cap)) = labels.at(i) {
             if cap.kind == CapKind::Buf && cap.key == key {
                 return Some(label);
+            }
+        }
+    }
+    None
+}
+
+/// The label and the key of the network card of a grant; `None` exactly where there is none.
+pub fn net_of(labels: &CapTable, grant: u64) -> Option<(Label, u32)>
+    ensures found { IfSome result (λ card. IsNetOf labels.now grant card.0 card.1) }
+    ensures none { IfNone result
+        ((label : List ℕ) (key : ℕ) → ¬ IsNetOf labels.now grant label key) }
+{
+    for i in 0..labels.len() {
+        if let Some((label, cap)) = labels.at(i) {
+            if cap.kind == CapKind::Vnic && cap.grant == grant {
+                return Some((label, cap.key));
             }
         }
     }

@@ -1,6 +1,5 @@
 ghost use Rattle.std.specs.Prelude.{◌≡◌, ◌≤◌, length};
 ghost use Rattle.ark_filters.specs.Rule.{IsRule};
-ghost use Rattle.ark_vnic.specs.Card.{PacedBy};
 
 use ark_base::Outcome;
 use ark_filters::{Direction, Filter, Peers, Proto, Rules, Services};
@@ -53,7 +52,6 @@ fn first_move(
     len: u32,
     out: &mut [u8],
 ) -> Option<(Sent, Option<Outcome>)>
-    requires later { PacedBy 5 rate }
     requires at_least { 14 ≤ len }
     requires at_most { len ≤ 1514 }
     requires room { 1514 ≤ length out.old }
@@ -123,7 +121,6 @@ fn first_arrival(
     rate: Option<Rate>,
     frame: &[u8],
 ) -> Option<(Arrived, Option<u32>, bool)>
-    requires later { PacedBy 5 rate }
     requires at_most { length frame.now ≤ 1514 }
 {
     let mut region = Region::new(alloc, 3).ok()?;

@@ -1,5 +1,5 @@
 -- A network card, and what paces its rings.
-use Rattle.std.specs.Prelude.{◌≡◌, ℕ, ◌+◌, ◌≤◌, Bool, true, nat_le, List, Option, Some, None, IfSome, option_map, slice_get}
+use Rattle.std.specs.Prelude.{◌≡◌, ℕ, ◌+◌, ◌≤◌, Bool, true, nat_le, List, Option, Some, None, option_map, slice_get}
 use Rattle.ark_base.specs.declared.kind.Outcome.{Outcome}
 use Rattle.ark_vic.specs.Pace.{Pace, Pass, IsPaceOf, fill_at, with_fill}
 use Rattle.ark_vic.specs.Queue.{Queue, finished}
@@ -21,10 +21,6 @@ head_of q = slice_get q.posted 0
 abbrev pub ended : Queue → Option Descriptor → Outcome → ℕ → Queue
 ended q None o len = q
 ended q (Some d) o len = finished q d o len
-
--- no pass of the ring is later than this tick
-abbrev pub PacedBy : ℕ → Option Pace → Type 0
-PacedBy now pace = IfSome pace (λ p. p.tick ≤ now)
 
 -- so many bytes may pass at a tick
 abbrev pub may_pass : Option Pace → ℕ → ℕ → Bool

@@ -1,6 +1,5 @@
 ghost use Rattle.std.specs.Prelude.{◌≡◌, true};
 ghost use Rattle.ark_vnic.specs.Card as spec;
-ghost use Rattle.ark_vnic.specs.Card.{PacedBy};
 ghost use Rattle.ark_vnic.specs.Sending as sending;
 
 use crate::sent::Sent;
@@ -8,7 +7,6 @@ use ark_vic::Rate;
 
 // Whether so many bytes may pass now.
 pub(crate) fn may_pass(pace: &Option<Rate>, len: u32, now: u64) -> bool
-    requires { PacedBy now pace.now }
     ensures { result ≡ spec.may_pass pace.now len now }
 {
     let Some(rate) = pace else {
@@ -19,8 +17,7 @@ pub(crate) fn may_pass(pace: &Option<Rate>, len: u32, now: u64) -> bool
 
 // So many bytes pass now.
 pub(crate) fn pass(pace: &mut Option<Rate>, len: u32, now: u64)
-    requires later { PacedBy now pace.old }
-    requires may { spec.may_pass pace.old len now ≡ true }
+    requires { spec.may_pass pace.old len now ≡ true }
     ensures { pace.new ≡ spec.passed pace.old len now }
 {
     if let Some(rate) = pace {
@@ -30,7 +27,6 @@ pub(crate) fn pass(pace: &mut Option<Rate>, len: u32, now: u64)
 
 // What becomes of a frame of so many bytes, which a filter lets out.
 pub(crate) fn sent_paced(pace: &Option<Rate>, len: u32, now: u64) -> Sent
-    requires { PacedBy now pace.now }
     ensures { result ≡ sending.sent_paced pace.now len now }
 {
     let Some(rate) = pace else {

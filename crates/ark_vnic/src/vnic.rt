@@ -3,7 +3,7 @@ ghost use Rattle.std.specs.Borrow.{sem};
 ghost use Rattle.ark_base.specs.declared.kind.Outcome.TheVariants as outcome;
 ghost use Rattle.ark_vnic.specs.declared.sent.Sent.TheVariants as sent;
 ghost use Rattle.ark_vnic.specs.declared.arrived.Arrived.TheVariants as arrived;
-ghost use Rattle.ark_vnic.specs.Card.{PacedBy, ended, head_of, may_pass, passed};
+ghost use Rattle.ark_vnic.specs.Card.{ended, head_of, may_pass, passed};
 ghost use Rattle.ark_vnic.specs.Arrivals.{HasBuffer, HoldsFrame, after_arrival, arrived_of, room_of};
 ghost use Rattle.ark_vnic.specs.Sending.{HasFrame, after_sending, frame_length, out_after, sent_of};
 
@@ -132,7 +132,6 @@ impl Vnic {
 
     /// What becomes of a frame of `len` bytes that arrives at tick `now`.
     pub fn arrives(&self, len: u32, now: u64) -> Arrived
-        requires later { PacedBy now self.now.rx_pace }
         ensures { result ≡ arrived_of self.now len now }
     {
         let Some(head) = self.rx.head() else {
@@ -154,7 +153,6 @@ impl Vnic {
     pub fn arrive(&mut self, frame: &[u8], region: &mut Region, now: u64) -> Arrived
         requires buffer { IfSome (head_of self.old.rx) (HasBuffer region.old.taken) }
         requires at_most { length frame.now ≤ 1514 }
-        requires later { PacedBy now self.old.rx_pace }
         ensures answer { result ≡ arrived_of self.old (length frame.now) now }
         ensures card { self.new ≡ after_arrival self.old result (length frame.now) now }
         ensures frames { region.new.taken ≡ region.old.taken }
@@ -172,7 +170,6 @@ impl Vnic {
     fn receive(&mut self, frame: &[u8], region: &mut Region, now: u64)
         requires buffer { IfSome (head_of self.old.rx) (HasBuffer region.old.taken) }
         requires at_most { length frame.now ≤ 1514 }
-        requires later { PacedBy now self.old.rx_pace }
         requires into { arrived_of self.old (length frame.now) now ≡ arrived.Into }
         ensures card { self.new ≡ after_arrival self.old arrived.Into (length frame.now) now }
         ensures frames { region.new.taken ≡ region.old.taken }
@@ -194,7 +191,6 @@ impl Vnic {
     /// end.
     pub fn sends(&self, rules: &Rules, own: &Own, region: &Region, now: u64) -> Sent
         requires sound { IfSome (head_of self.now.tx) (HasFrame region.now.taken) }
-        requires later { PacedBy now self.now.tx_pace }
         ensures { result ≡ sent_of self.now rules.now own.now region.now now }
     {
         let Some(head) = self.tx.head() else {
@@ -249,7 +245,6 @@ impl Vnic {
     ) -> Sent
         requires sound { IfSome (head_of self.old.tx) (HasFrame region.now.taken) }
         requires room { 1514 ≤ length out.old }
-        requires later { PacedBy now self.old.tx_pace }
         ensures answer { result ≡ sent_of self.old rules.now own.now region.now now }
         ensures card { self.new ≡ after_sending self.old result now }
         ensures out { out.new ≡ out_after self.old result region.now out.old }

@@ -21,7 +21,7 @@ invariant_of-app-in-Err g c =
     let app = c.args.app.now in
     let long = c.give.ensures.frames ∙ ap (λ (z : List Bool). length z) c.load.ensures.kept ∙ c.take.ensures.frames in (
       (all_in app.store.region.taken c.give.new.self.taken app.store.buffers long app.store.lie, tt),
-      (app.room, (app.memory ∙ sym long, (app.bound, tt))),
+      (app.room, (app.memory ∙ sym long, (app.network ∙ sym long, (app.bound, tt)))),
     )
 
 pub invariant_of-app-in-Ok : goal.invariant_of-app-in-Ok
@@ -37,6 +37,7 @@ invariant_of-app-in-Ok g c =
     record {
       room = omega (arith, labelled, cards, doors, rates, nets);
       memory = c.open.ensures.frames ∙ app.memory ∙ sym (ap (λ (z : List Bool). length z) c.load.ensures.kept ∙ c.take.ensures.frames);
+      network = ap (λ (n : Nets). n.frames) c.open.ensures.nets ∙ app.network ∙ sym (ap (λ (z : List Bool). length z) c.load.ensures.kept ∙ c.take.ensures.frames);
       bound = bound_same app.areas app.devices.cards c.open.new.self.cards c.args.key app.bound one.0 one.1 _ (c.open.ensures.changes one.0 one.1) refl;
     }
 

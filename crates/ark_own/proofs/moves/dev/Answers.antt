@@ -39,9 +39,10 @@ invariant_of-app g c =
     let nets = ap (λ (n : Nets). held n.cards) c.move_card-moved.ensures.nets in
     let there : is_none (at c.args.app.now.devices.cards c.in-Ok.key) ≡ false = search rules in
     let one = some_there (at c.args.app.now.devices.cards c.in-Ok.key) there in
+    let size = sym (ap (λ (z : List Bool). length z) c.move_card-moved.ensures.taken) in
     let bound = bound_same c.args.app.now.areas c.args.app.now.devices.cards c.move_card-moved.new.self.cards c.in-Ok.key c.args.app.now.bound one.0 one.1 _ (c.move_card-moved.ensures.cards one.0 one.1) refl in (
       (same_in c.args.app.now.store.region.taken c.move_card-moved.new.region.taken c.args.app.now.store.buffers c.move_card-moved.ensures.taken c.args.app.now.store.lie, tt),
-      (omega (arith, labelled, cards, doors, rates, nets), (c.move_card-moved.ensures.frames ∙ c.args.app.now.memory ∙ sym (ap (λ (z : List Bool). length z) c.move_card-moved.ensures.taken), (bound, tt))),
+      (omega (arith, labelled, cards, doors, rates, nets), (c.move_card-moved.ensures.frames ∙ c.args.app.now.memory ∙ size, (ap (λ (n : Nets). n.frames) c.move_card-moved.ensures.nets ∙ c.args.app.now.network ∙ size, (bound, tt)))),
     )
 
 pub returns-clause-acts : goal.returns-clause-acts

@@ -19,5 +19,6 @@ invariant_of-self-2 c =
     record {
       room = omega (arith, labelled, cards, doors, rates, nets);
       memory = c.append.ensures.frames ∙ app.memory ∙ sym c.append.ensures.length;
+      network = ap (λ (n : Nets). n.frames) c.append.ensures.nets ∙ app.network ∙ sym c.append.ensures.length;
       bound = appended_bound app.areas app.devices.cards c.append.new.self.cards c.args.key app.bound c.requires.there c.args.payload.now _ _ c.append.result c.append.ensures.accepted c.append.ensures.cards;
     }

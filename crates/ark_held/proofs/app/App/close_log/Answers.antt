@@ -19,5 +19,6 @@ invariant_of-self-2 c =
     record {
       room = omega (arith, labelled, cards, doors, rates, nets);
       memory = c.close.ensures.frames ∙ app.memory ∙ sym c.close.ensures.length;
+      network = ap (λ (n : Nets). n.frames) c.close.ensures.nets ∙ app.network ∙ sym c.close.ensures.length;
       bound = bound_closed app.areas app.devices.cards c.close.new.self.cards c.args.key app.bound c.requires.there _ _ c.close.result c.close.ensures.closed c.close.ensures.cards;
     }

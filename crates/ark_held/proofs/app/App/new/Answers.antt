@@ -16,5 +16,6 @@ invariant_of-result-2 c =
     record {
       room = omega (arith, areas, buffers, cards, doors, rates, nets);
       memory = c.in_ok-new-2.ensures.frames ∙ sym (ap (λ (z : Space). length z.taken) c.in_ok-new.ensures.region ∙ length-replicate c.args.frames false);
+      network = c.in_ok-new-2.ensures.net_frames ∙ sym (ap (λ (z : Space). length z.taken) c.in_ok-new.ensures.region ∙ length-replicate c.args.frames false);
       bound = ∣ none_bound c.in-Ok-new.areas c.in_ok-new-2.field-0.cards c.in_ok-new-2.ensures.vacant ∣₁;
     }

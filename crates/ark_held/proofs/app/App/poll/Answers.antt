@@ -19,5 +19,6 @@ invariant_of-self-2 c =
     record {
       room = omega (arith, labelled, cards, doors, rates, nets);
       memory = c.poll.ensures.frames ∙ app.memory ∙ sym c.poll.ensures.length;
+      network = ap (λ (n : Nets). n.frames) c.poll.ensures.nets ∙ app.network ∙ sym c.poll.ensures.length;
       bound = polled_bound app.areas app.devices.cards c.poll.new.self.cards c.args.key app.bound c.requires.there _ _ _ _ c.poll.result c.poll.ensures.polled;
     }

@@ -19,5 +19,6 @@ invariant_of-self-2 c =
     record {
       room = omega (arith, labelled, cards, doors, rates, nets);
       memory = c.pop.ensures.frames ∙ app.memory ∙ sym c.pop.ensures.length;
+      network = ap (λ (n : Nets). n.frames) c.pop.ensures.nets ∙ app.network ∙ sym c.pop.ensures.length;
       bound = popped_bound app.areas app.devices.cards c.pop.new.self.cards c.args.key app.bound c.requires.there _ _ c.pop.result c.pop.ensures.accepted c.pop.ensures.cards;
     }

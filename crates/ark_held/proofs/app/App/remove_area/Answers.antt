@@ -14,4 +14,4 @@ invariant_of-self c =
     let doors = ap held c.unbind_all.ensures.doors in
     let rates = ap held c.unbind_all.ensures.rates in
     let nets = ap (λ (n : Nets). held n.cards) c.unbind_all.ensures.nets in
-    record { room = omega (arith, stays, cards, doors, rates, nets); memory = c.unbind_all.ensures.frames ∙ app.memory; bound = bound_lost app.areas _ app.devices.cards _ c.args.grant c.remove.ensures.rest c.unbind_all.ensures.cards app.bound }
+    record { room = omega (arith, stays, cards, doors, rates, nets); memory = c.unbind_all.ensures.frames ∙ app.memory; network = ap (λ (n : Nets). n.frames) c.unbind_all.ensures.nets ∙ app.network; bound = bound_lost app.areas _ app.devices.cards _ c.args.grant c.remove.ensures.rest c.unbind_all.ensures.cards app.bound }

@@ -8,5 +8,6 @@ invariant_of-self c =
     record {
       room = search rules;
       memory = search rules;
+      network = search rules;
       bound = bound_gone app.areas app.devices.cards _ c.args.key c.args.grant (record { rest = c.remove_card.new.self.cards; gone = c.remove_card.ensures.gone; cards = c.unbind_all.ensures.cards }) app.bound;
     }

@@ -13,5 +13,6 @@ invariant_of-self c =
     record {
       room = omega (arith, many, same, room);
       memory = app.memory;
+      network = app.network;
       bound = bound_spanned app.areas _ c.args.grant c.args.spans app.devices.cards c.set_spans.ensures.set app.bound;
     }

@@ -15,5 +15,6 @@ invariant_of-self c =
     record {
       room = omega (arith, labelled, cards, doors, rates, nets);
       memory = c.trim.ensures.frames ∙ app.memory;
+      network = ap (λ (n : Nets). n.frames) c.trim.ensures.nets ∙ app.network;
       bound = trimmed_bound app.areas app.devices.cards c.trim.new.self.cards c.args.key app.bound c.requires.there c.args.n c.trim.result c.trim.ensures.accepted c.trim.ensures.cards;
     }
