@@ -1,5 +1,5 @@
 -- The steps of lines that touch one application alone.
-use Rattle.std.proofs.Common.{◌≡◌, ℕ, true, List, refl}
+use Rattle.std.proofs.Common.{◌≡◌, ℕ, true, false, List, refl}
 use Rattle.std.specs.Prelude.{Option}
 use Rattle.std.proofs.lemmas.Bool.{false≢true}
 use Rattle.ark_filters.specs.declared.filter.Direction.{Direction}
@@ -8,7 +8,7 @@ use Rattle.ark_script.specs.declared.step.Hex.{Hex}
 use Rattle.ark_script.specs.declared.step.Side.{Side}
 use Rattle.ark_script.specs.declared.step.Step.{Step}
 use Rattle.ark_script.specs.declared.step.Step.TheVariants as step
-use Rattle.ark_own.specs.Own.{is_own}
+use Rattle.ark_own.specs.Own.{is_own, shows_bytes}
 
 -- a step of another word is none of them
 pub no_other : (x : Step) → is_own (line_of x) ≡ true
@@ -60,3 +60,12 @@ no_other (step.Look a d) own no_peek no_poke no_buf no_show no_fill no_copy no_f
 no_other (step.Rate a r q b) own no_peek no_poke no_buf no_show no_fill no_copy no_free no_vsic no_vnic no_bind no_unbind no_get no_put no_flush no_reap no_post no_take no_dev no_door no_watch no_look no_rate no_pace = no_rate a r q b refl
 no_other (step.Pace a v r q) own no_peek no_poke no_buf no_show no_fill no_copy no_free no_vsic no_vnic no_bind no_unbind no_get no_put no_flush no_reap no_post no_take no_dev no_door no_watch no_look no_rate no_pace = no_pace a v r q refl
 no_other _ own no_peek no_poke no_buf no_show no_fill no_copy no_free no_vsic no_vnic no_bind no_unbind no_get no_put no_flush no_reap no_post no_take no_dev no_door no_watch no_look no_rate no_pace = false≢true own
+
+-- a step of another word than these two shows no bytes
+pub shows_none : (x : Step)
+    → ((a s : List ℕ) (off : ℕ) → x ≡ step.Peek a s off → ⊥)
+    → ((a b : List ℕ) (off len : ℕ) → x ≡ step.Show a b off len → ⊥)
+    → shows_bytes (line_of x) ≡ false
+shows_none (step.Peek a s off) no_peek no_show = absurd (no_peek a s off refl)
+shows_none (step.Show a b off len) no_peek no_show = absurd (no_show a b off len refl)
+shows_none _ no_peek no_show = refl
